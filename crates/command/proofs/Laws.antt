@@ -1,0 +1,124 @@
+-- The laws of `specs/Laws.antt`. Assumes nothing.
+use Prim.Native.Nat.{ℕ, zero, suc, _+_, _/_, _≤_, _<_}
+use mathlib.Core.Path.{_≡_, refl, sym, ap, subst}
+use mathlib.Core.Bool.{Bool, true, false, cond, _&&_, or-comm}
+use mathlib.Core.List.{List, [], _∷_}
+use native.Mathlib.Omega.{arith}
+use borrow.Author.Tests.{leb-true, eqb-true, eqb-false, eq-eqb, ne-eqb}
+use lib.Dec.{eqb, leb}
+use lib.ListN.{length, getD, take, drop, length-map}
+use Rattle.s10.specs.Outcome.{readText}
+use Rattle.s10.specs.Outcome as Identifier
+use Rattle.s10.proofs.Laws.{accepted-is-at-most-largest}
+use Rattle.command.specs.declared.Kind.{Kind}
+use Rattle.command.specs.declared.Kind.the-variants.{Insert, Delete, Read, Update}
+use Rattle.command.specs.declared.Command.{Command}
+use Rattle.command.specs.Read.{Outcome, accepted, refused, isKind, kindOf, chuteFits, chuteOf, withChute, readCommand, parts, partsOf, readings, allAccepted, refusedAt, firstRefusal}
+use Rattle.command.specs.Dependent.{isInsertOrDelete, isUpdate, areDependent}
+use Rattle.command.specs.Laws.{DependenceIsSymmetric, AcceptedChuteFits, AcceptedChuteIsAtMostLast, AcceptedKeyIsAtMostLargest, AllAccepted, NoRefusalIsAllAccepted, RefusedBeginsInside}
+
+-- equality goes both ways
+eqb-comm : (m n : ℕ) → eqb m n ≡ eqb n m
+eqb-comm m n = cases (eqb m n) refl
+  where
+    cases : (b : Bool) → eqb m n ≡ b → b ≡ eqb n m
+    cases true e = sym (eq-eqb n m (sym (eqb-true m n e)))
+    cases false e = sym (ne-eqb n m (λ h. eqb-false m n e (sym h)))
+
+-- each part of the definition is symmetric
+pub dependence-is-symmetric : DependenceIsSymmetric
+unfolding areDependent
+dependence-is-symmetric a b =
+    rw (or-comm (isInsertOrDelete (a .kind)) (isInsertOrDelete (b .kind)), eqb-comm (a .key) (b .key), or-comm (isUpdate (a .kind)) (isUpdate (b .kind)))
+
+-- what an accepted command has passed
+record Accepted (part : List ℕ) (command : Command) : Type 0 where
+  fits : chuteFits (command .kind) (command .chute) ≡ true
+  read : readText (take 13 (drop 1 part)) ≡ Identifier.accepted (command .key)
+
+-- both tests of a pair that holds hold
+second-true : (a b : Bool) → a && b ≡ true → b ≡ true
+second-true true b e = e
+second-true false b e = cc
+
+-- an outcome is accepted only past every test
+accepted-passed : (part : List ℕ) (command : Command) → readCommand part ≡ accepted command → Accepted part command
+unfolding readCommand withChute
+accepted-passed part command e = cases (isKind (getD part 0 0)) (readText (take 13 (drop 1 part))) refl e
+  where
+    kind : Kind
+    kind = kindOf (getD part 0 0)
+
+    bytes : List ℕ
+    bytes = drop 14 part
+
+    chosen : (key : ℕ) (b : Bool) → readText (take 13 (drop 1 part)) ≡ Identifier.accepted key → eqb (length bytes) 2 && chuteFits kind (chuteOf bytes) ≡ b →
+        cond b (accepted (record { kind = kind; key = key; chute = chuteOf bytes })) (refused 10) ≡ accepted command → Accepted part command
+    chosen key true r f e =
+        let read : Command = record { kind = kind; key = key; chute = chuteOf bytes } in
+        let same : read ≡ command = cc in
+        subst (λ (c : Command). Accepted part c) same (record { fits = second-true (eqb (length bytes) 2) _ f; read = r })
+    chosen key false r f e = let z : _≡_ {A = ℕ} 0 1 = cc in absurd (omega arith)
+
+    cases : (k : Bool) (o : Identifier.Outcome) → readText (take 13 (drop 1 part)) ≡ o → cond k (withChute kind o bytes) (refused 7) ≡ accepted command →
+        Accepted part command
+    cases true (Identifier.accepted key) r e = chosen key _ r refl e
+    cases true (Identifier.refused n) r e = let z : _≡_ {A = ℕ} 0 1 = cc in absurd (omega arith)
+    cases false o r e = let z : _≡_ {A = ℕ} 0 1 = cc in absurd (omega arith)
+
+-- the last test passed
+pub accepted-chute-fits : AcceptedChuteFits
+accepted-chute-fits part command e = accepted-passed part command e .fits
+
+-- each kind's rule stays within the bound
+chute-that-fits : (kind : Kind) (chute : ℕ) → chuteFits kind chute ≡ true → chute ≤ 512
+unfolding chuteFits
+chute-that-fits Insert chute e = leb-true chute 512 (second-true (leb 1 chute) (leb chute 512) e)
+chute-that-fits Delete chute e = omega (arith, eqb-true chute 0 e)
+chute-that-fits Read chute e = omega (arith, eqb-true chute 0 e)
+chute-that-fits Update chute e = leb-true chute 512 (second-true (leb 1 chute) (leb chute 512) e)
+
+-- a chute that fits is none or one of the 512
+pub accepted-chute-is-at-most-last : AcceptedChuteIsAtMostLast
+accepted-chute-is-at-most-last part command e = chute-that-fits (command .kind) (command .chute) (accepted-chute-fits part command e)
+
+-- the identifier reader accepted it
+pub accepted-key-is-at-most-largest : AcceptedKeyIsAtMostLargest
+accepted-key-is-at-most-largest part command e = accepted-is-at-most-largest (take 13 (drop 1 part)) (command .key) (accepted-passed part command e .read)
+
+-- the search ends at the first that is not
+pub no-refusal-is-all-accepted : NoRefusalIsAllAccepted
+unfolding firstRefusal
+no-refusal-is-all-accepted = (each, none)
+  where
+    each : (place : ℕ) (rs : List Outcome) → firstRefusal place rs ≡ allAccepted → AllAccepted rs
+    each place [] e = tt
+    each place (accepted command ∷ rest) e = each (place + 1) rest e
+    each place (refused n ∷ rest) e = let z : _≡_ {A = ℕ} 0 1 = cc in omega arith
+
+    none : (place : ℕ) (rs : List Outcome) → AllAccepted rs → firstRefusal place rs ≡ allAccepted
+    none place [] a = refl
+    none place (accepted command ∷ rest) a = none (place + 1) rest a
+    none place (refused n ∷ rest) a = absurd a
+
+-- there are as many readings as parts
+length-parts : (n : ℕ) (bytes : List ℕ) → length (parts n bytes) ≡ n
+unfolding parts
+length-parts zero bytes = refl
+length-parts (suc n) bytes = ap suc (length-parts n (drop 16 bytes))
+
+-- and as many parts as start inside the list
+length-readings : (list : List ℕ) → length (readings list) ≡ (length list + 15) / 16
+unfolding readings partsOf
+length-readings list = rw (length-map, length-parts)
+
+-- a refusal's place is that of some reading
+refused-place : (place : ℕ) (rs : List Outcome) (n at : ℕ) → firstRefusal place rs ≡ refusedAt n at → at < place + length rs
+unfolding firstRefusal
+refused-place place [] n at e = let z : _≡_ {A = ℕ} 0 1 = cc in absurd (omega arith)
+refused-place place (accepted command ∷ rest) n at e = omega (arith, refused-place (place + 1) rest n at e)
+refused-place place (refused m ∷ rest) n at e = let same : place ≡ at = cc in omega arith
+
+-- the last part begins before the list ends
+pub refused-begins-inside : RefusedBeginsInside
+refused-begins-inside list n place e = omega (arith, refused-place 1 (readings list) n place e, length-readings list)

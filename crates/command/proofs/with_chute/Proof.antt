@@ -1,0 +1,61 @@
+-- `command::with_chute` meets its contract: the tests are the definition's. Assumes nothing.
+use mathlib.Core.Path.{_≡_}
+use mathlib.Core.Bool.{cond}
+use borrow.Author.Needs.{needs}
+use borrow.Author.Tests.{eq-eqb, ne-eqb, not-true, not-false}
+use lib.ListN.{length}
+use Rattle.s10.specs.Outcome as Identifier
+use Rattle.command.specs.Read.{accepted, refused, chuteOf, withChute}
+use Rattle.command.proofs.with_chute.Statement.{statement}
+use Rattle.command.proofs.with_chute.Tie as tie
+
+sub-if1 : tie.Need-sub-if1
+sub-if1 c = search needs
+
+-- a chute of another length
+returns : tie.Need-returns
+unfolding withChute
+returns c = rw (ne-eqb (length (c .before .before .args .bytes .now)) 2 (c .if1 .taken))
+
+shared-slice-read-number-of : tie.Need-shared-slice-read-number-of
+shared-slice-read-number-of c = search needs
+
+shared-slice-read-number-of-2 : tie.Need-shared-slice-read-number-of-2
+shared-slice-read-number-of-2 c = search needs
+
+number-of-requires : tie.Need-number-of-requires
+number-of-requires c κs = search needs
+
+takes-requires : tie.Need-takes-requires
+takes-requires c κs = search needs
+
+-- two bytes: what follows is the second test's answer
+tested : (c : tie.After-takes) →
+    let n = c .before in
+    let a = n .before .before .before .before .before .args in
+    withChute (a .kind) (Identifier.accepted (a .key)) (a .bytes .now)
+    ≡ cond (c .takes .result) (accepted (record { kind = a .kind; key = a .key; chute = n .number-of .result })) (refused 10)
+unfolding withChute chuteOf
+tested c =
+    let n = c .before in
+    let e = n .before .before .before in
+    rw (eq-eqb (length (e .before .before .args .bytes .now)) 2 (e .if1 .left), ← n .number-of .ensures, ← c .takes .ensures)
+
+returns-2 : tie.Need-returns-2
+returns-2 c = rw (tested (c .before), not-true (c .before .takes .result) (c .if2 .taken))
+
+returns-3 : tie.Need-returns-3
+returns-3 c = rw (tested (c .before), not-false (c .before .takes .result) (c .if2 .left))
+
+pub with-chute-spec : {M : Type 1} → statement M
+with-chute-spec =
+    tie.close
+    (tie.spec
+    sub-if1
+    returns
+    shared-slice-read-number-of
+    shared-slice-read-number-of-2
+    number-of-requires
+    takes-requires
+    returns-2
+    returns-3)

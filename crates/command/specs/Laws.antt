@@ -1,0 +1,42 @@
+-- What holds of every command and list that is read. Statements only: `proofs/Laws.antt` proves them. Assumes nothing.
+use Prim.Native.Nat.{ℕ, _+_, _*_, _≤_, _<_}
+use mathlib.Core.Path.{_≡_}
+use mathlib.Core.Bool.{true}
+use mathlib.Core.List.{List, [], _∷_}
+use lib.ListN.{length}
+use Rattle.s10.specs.Text.{largestKey}
+use Rattle.command.specs.declared.Command.{Command}
+use Rattle.command.specs.Read.{Outcome, accepted, refused, chuteFits, readCommand, readings, allAccepted, refusedAt, firstRefusal}
+use Rattle.command.specs.Dependent.{areDependent}
+
+-- Of two commands each depends on the other, or neither does.
+abbrev pub DependenceIsSymmetric : Type 0
+DependenceIsSymmetric = (a b : Command) → areDependent a b ≡ areDependent b a
+
+-- An accepted command carries a chute that fits its kind.
+abbrev pub AcceptedChuteFits : Type 0
+AcceptedChuteFits = (part : List ℕ) (command : Command) → readCommand part ≡ accepted command → chuteFits (command .kind) (command .chute) ≡ true
+
+-- An accepted command's chute is at most the last, 0 for none.
+abbrev pub AcceptedChuteIsAtMostLast : Type 0
+AcceptedChuteIsAtMostLast = (part : List ℕ) (command : Command) → readCommand part ≡ accepted command → command .chute ≤ 512
+
+-- An accepted command's key is at most the largest.
+abbrev pub AcceptedKeyIsAtMostLargest : Type 0
+AcceptedKeyIsAtMostLargest = (part : List ℕ) (command : Command) → readCommand part ≡ accepted command → command .key ≤ largestKey
+
+-- every reading is accepted
+abbrev pub AllAccepted : List Outcome → Type 0
+AllAccepted [] = Unit {0}
+AllAccepted (accepted command ∷ rest) = AllAccepted rest
+AllAccepted (refused n ∷ rest) = ⊥
+
+-- A list has no refusal exactly if every reading is accepted.
+abbrev pub NoRefusalIsAllAccepted : Type 0
+NoRefusalIsAllAccepted =
+    ((place : ℕ) (rs : List Outcome) → firstRefusal place rs ≡ allAccepted → AllAccepted rs)
+    × ((place : ℕ) (rs : List Outcome) → AllAccepted rs → firstRefusal place rs ≡ allAccepted)
+
+-- A refused command begins inside the list.
+abbrev pub RefusedBeginsInside : Type 0
+RefusedBeginsInside = (list : List ℕ) (n place : ℕ) → firstRefusal 1 (readings list) ≡ refusedAt n place → place * 16 < length list + 16

@@ -1,0 +1,97 @@
+-- Commands as bytes: document 01, "Command list and store". Each definition quotes its sentence. Assumes nothing.
+use Prim.Native.Nat.{ℕ, zero, suc, _+_, _*_, _/_}
+use mathlib.Core.Bool.{Bool, true, false, cond, _&&_, _||_}
+use mathlib.Core.List.{List, [], _∷_, map}
+use lib.ListN.{length, getD, take, drop}
+use lib.Dec.{eqb, leb}
+use Rattle.s10.specs.Outcome.{readText}
+use Rattle.s10.specs.Outcome as Identifier
+use Rattle.command.specs.declared.Kind.{Kind}
+use Rattle.command.specs.declared.Kind.the-variants.{Insert, Delete, Read, Update}
+use Rattle.command.specs.declared.Command.{Command}
+use Rattle.command.specs.declared.Reading.{Reading}
+use Rattle.command.specs.declared.Reading.the-variants.{Read as Accepted, UnknownKind, Malformed, WrongCheckDigit, WrongChute}
+use Rattle.command.specs.declared.ListReading.{ListReading}
+use Rattle.command.specs.declared.ListReading.the-variants.{AllRead, UnknownKindAt, MalformedAt, WrongCheckDigitAt, WrongChuteAt}
+
+-- A command is accepted, or refused with a number.
+pub data Outcome : Type 0 where
+  accepted : Command → Outcome
+  refused : ℕ → Outcome
+
+-- the document's number and value for each answer of `Command::read`
+abbrev pub outcome : Reading → Outcome
+outcome (Accepted command) = accepted command
+outcome UnknownKind = refused 7
+outcome Malformed = refused 8
+outcome WrongCheckDigit = refused 9
+outcome WrongChute = refused 10
+
+-- "kind (1 insert, 2 delete, 3 read, 4 update)"
+unfoldable pub isKind : ℕ → Bool
+isKind k = leb 1 k && leb k 4
+
+unfoldable pub kindOf : ℕ → Kind
+kindOf k = cond (eqb k 1) Insert (cond (eqb k 2) Delete (cond (eqb k 3) Read Update))
+
+abbrev pub kindNumber : Kind → ℕ
+kindNumber Insert = 1
+kindNumber Delete = 2
+kindNumber Read = 3
+kindNumber Update = 4
+
+-- "Insert and update carry chute 1 to 512; delete and read carry 0"
+unfoldable pub chuteFits : Kind → ℕ → Bool
+chuteFits Insert chute = leb 1 chute && leb chute 512
+chuteFits Delete chute = eqb chute 0
+chuteFits Read chute = eqb chute 0
+chuteFits Update chute = leb 1 chute && leb chute 512
+
+-- "chute (two bytes, high first)"
+unfoldable pub chuteOf : List ℕ → ℕ
+chuteOf bytes = 256 * getD bytes 0 0 + getD bytes 1 0
+
+-- what follows the identifier's outcome: its refusal, or refusal 10, "chute wrong for the kind", or the command
+unfoldable pub withChute : Kind → Identifier.Outcome → List ℕ → Outcome
+unfolding chuteFits chuteOf
+withChute kind (Identifier.accepted key) bytes =
+    cond (eqb (length bytes) 2 && chuteFits kind (chuteOf bytes)) (accepted (record { kind = kind; key = key; chute = chuteOf bytes })) (refused 10)
+withChute kind (Identifier.refused n) bytes = refused n
+
+-- "A command is 16 bytes: kind, identifier, chute"; refusals 7, 8, 9 and 10 in this order. A part that ends early or late lacks what
+-- would stand there: no kind is 7, a short identifier is 8, a chute of other than two bytes is 10.
+unfoldable pub readCommand : List ℕ → Outcome
+unfolding isKind kindOf withChute
+readCommand part = cond (isKind (getD part 0 0)) (withChute (kindOf (getD part 0 0)) (readText (take 13 (drop 1 part))) (drop 14 part)) (refused 7)
+
+-- "Each command is read from its own stretch inside the list": the first n parts of 16 bytes; only the last can be shorter
+unfoldable pub parts : ℕ → List ℕ → List (List ℕ)
+parts zero bytes = []
+parts (suc n) bytes = take 16 bytes ∷ parts n (drop 16 bytes)
+
+unfoldable pub partsOf : List ℕ → List (List ℕ)
+unfolding parts
+partsOf bytes = parts ((length bytes + 15) / 16) bytes
+
+unfoldable pub readings : List ℕ → List Outcome
+unfolding partsOf readCommand
+readings bytes = map readCommand (partsOf bytes)
+
+-- A list of commands is accepted, or refused with a number and the command's place, from 1.
+pub data ListOutcome : Type 0 where
+  allAccepted : ListOutcome
+  refusedAt : ℕ → ℕ → ListOutcome
+
+-- "then each command in order for 7 to 10": the first refusal, the first reading being that of a place
+unfoldable pub firstRefusal : ℕ → List Outcome → ListOutcome
+firstRefusal place [] = allAccepted
+firstRefusal place (accepted command ∷ rest) = firstRefusal (place + 1) rest
+firstRefusal place (refused n ∷ rest) = refusedAt n place
+
+-- the document's number and place for each answer of `read_list`
+abbrev pub listOutcome : ListReading → ListOutcome
+listOutcome AllRead = allAccepted
+listOutcome (UnknownKindAt seq) = refusedAt 7 (seq .0)
+listOutcome (MalformedAt seq) = refusedAt 8 (seq .0)
+listOutcome (WrongCheckDigitAt seq) = refusedAt 9 (seq .0)
+listOutcome (WrongChuteAt seq) = refusedAt 10 (seq .0)

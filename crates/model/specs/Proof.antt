@@ -1,0 +1,11 @@
+pub mod Upd
+pub mod Trace
+pub mod Commute
+pub mod Serial
+pub mod Store
+pub mod Write
+pub mod Service
+pub mod Chain
+pub mod Formed
+pub mod Finish
+pub mod Theorem

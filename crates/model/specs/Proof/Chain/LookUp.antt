@@ -1,0 +1,49 @@
+-- A worker looks up the store: only what it found is new. Assumes nothing.
+use Prim.Native.Nat.{ℕ, _≤_}
+use mathlib.Core.Path.{_≡_, refl, sym, ap, _∙_}
+use mathlib.Core.Bool.{Bool, true, false}
+use mathlib.Core.Option.{Option, none, some}
+use mathlib.Core.Logic.{_⊎_, inl, inr, ⊎-elim}
+use Rattle.node_set.specs.declared.Node.{Node}
+use Rattle.model.specs.declared.Thread.{Thread}
+use Rattle.model.specs.declared.Thread.the-variants.{Holding, LookedUp}
+use Rattle.model.specs.Step.{Setup, State, upd, node, foundFor, commandOf, commandAt, holding, setThread}
+use Rattle.model.specs.Proof.Upd.{upd-cases}
+use Rattle.model.specs.Proof.Chain.Invariant.{Ghost, Inv, Service, at, loads, executes, walks, clears, done, looked, found}
+use Rattle.model.specs.Proof.Chain.Kept.{none-some, kept}
+use Rattle.model.specs.Proof.Chain.Moves.{worker-role, walks-moved}
+
+module _ (o : Setup) (s : State) (g : Ghost) (i : Inv o s g) (t : ℕ) (low : 1 ≤ t) (high : t ≤ o .workers) (x : Node) (here : s .threads t ≡ Holding x) where
+  abbrev f : ℕ
+  f = foundFor (commandAt (o .commands) (s .seq (x .0))) (s .store)
+
+  abbrev v : Thread
+  v = LookedUp (node (x .0)) f
+
+  looked-service : Service o (s .seq) (g .written) (s .answers) (s .store) (λ u. looked (upd (s .threads) t v u)) (λ u. found (upd (s .threads) t v u))
+  looked-service = record {
+    closed = i .service .closed;
+    answered = i .service .answered;
+    stored = i .service .stored;
+    look = λ u z e. ⊎-elim (λ h. mine u z (h .1) e) (λ h. ap found (h .1) ∙ i .service .look u z (ap looked (sym (h .1)) ∙ e)) (upd-cases (s .threads) t v u);
+  }
+    where
+      mine : (u z : ℕ) → upd (s .threads) t v u ≡ v → looked (upd (s .threads) t v u) ≡ some z → found (upd (s .threads) t v u) ≡ foundFor (commandAt (o .commands) (s .seq z)) (s .store)
+      mine u z h e = let p = ap looked h in let q : z ≡ x .0 = cc in ap found h ∙ ap (λ (k : ℕ). foundFor (commandAt (o .commands) (s .seq k)) (s .store)) (sym q)
+
+  pub worker-looked-up : Inv o (holding o t (x .0) s) g
+  unfolding holding commandOf setThread
+  worker-looked-up = record {
+    order = i .order;
+    freeList = i .freeList;
+    standing = rw (kept at (s .threads) t v (sym (ap at here))) (i .standing);
+    executing = rw (kept executes (s .threads) t v (sym (ap executes here))) (i .executing);
+    walking = walks-moved (s .threads) t v (λ z b p. absurd (none-some none refl p)) (i .walking);
+    clearing = rw (kept clears (s .threads) t v (sym (ap clears here)), kept at (s .threads) t v (sym (ap at here))) (i .clearing);
+    loading = rw (kept loads (s .threads) t v (sym (ap loads here))) (i .loading);
+    partition = rw (kept loads (s .threads) t v (sym (ap loads here)), kept clears (s .threads) t v (sym (ap clears here))) (i .partition);
+    sets = rw (kept loads (s .threads) t v (sym (ap loads here)), kept clears (s .threads) t v (sym (ap clears here)), kept at (s .threads) t v (sym (ap at here))) (i .sets);
+    progress = rw (kept done (s .threads) t v (sym (ap done here))) (i .progress);
+    service = looked-service;
+    roles = worker-role t v low high refl (i .roles);
+  }

@@ -1,0 +1,44 @@
+-- A searcher enters at the head, steps on past a node that is not ready, and leaves at the end: the invariant is kept. Assumes nothing.
+use Prim.Native.Nat.{ℕ, suc, _≤_, _<_}
+use native.Mathlib.Omega.{arith}
+use mathlib.Core.Path.{_≡_, refl, sym, ap, _∙_, subst}
+use mathlib.Core.Bool.{Bool, true, false}
+use mathlib.Core.Option.{Option, none, some}
+use mathlib.Core.Logic.{_⊎_, inl, inr, ⊎-elim}
+use Rattle.node_set.specs.declared.Node.{Node}
+use Rattle.model.specs.declared.Thread.{Thread}
+use Rattle.model.specs.declared.Thread.the-variants.{Idle, Loading, Searching, Holding, LookedUp, Written, Walking, Clearing}
+use Rattle.model.specs.Step.{Setup, State, upd, node, stepOn, setThread, setLocked, leave}
+use Rattle.model.specs.Proof.Upd.{upd-same, upd-other, upd-at, upd-cases, upd-map}
+use Rattle.model.specs.Proof.Chain.Invariant.{Ghost, Inv, Standing, Walks, Roles, at, loads, executes, walks, clears, done, looked, found, isLoader, isWorker}
+use Rattle.model.specs.Proof.Chain.Kept.{none-some}
+use Rattle.model.specs.Proof.Chain.StepOn.{stepped}
+use Rattle.model.specs.Proof.Chain.Stand.{entered, left}
+use Rattle.model.specs.Proof.Chain.Moves.{worker-role, quiet-move}
+
+module _ (o : Setup) (s : State) (g : Ghost) (i : Inv o s g) (t : ℕ) (low : 1 ≤ t) (high : t ≤ o .workers) where
+  pub search-entered : s .threads t ≡ Idle → s .locked 0 ≡ false → Inv o (setThread t (Searching (node 0)) (setLocked 0 true s)) g
+  unfolding setThread setLocked
+  search-entered here open-head =
+      quiet-move o s g i t (Searching (node 0)) (upd (s .locked) 0 true) (ap loads here) refl (ap clears here) refl (sym (ap executes here))
+      (sym (ap done here)) (sym (ap looked here)) (sym (ap found here)) (entered (i .standing) t (ap at here) open-head)
+      (λ x b p. absurd (none-some none refl p)) (worker-role t (Searching (node 0)) low high refl (i .roles))
+
+  pub search-stepped : (a : Node) → s .threads t ≡ Searching a → (s .next (a .0) ≡ 0 → ⊥) → s .locked (s .next (a .0)) ≡ false →
+      Inv o (setThread t (Searching (node (s .next (a .0)))) (stepOn (a .0) (s .next (a .0)) s)) g
+  unfolding setThread stepOn setLocked
+  search-stepped a here more unlocked =
+      quiet-move o s g i t (Searching (node (s .next (a .0)))) (upd (upd (s .locked) (s .next (a .0)) true) (a .0) false)
+      (ap loads here) refl (ap clears here) refl (sym (ap executes here)) (sym (ap done here)) (sym (ap looked here)) (sym (ap found here))
+      (stepped (i .order) (i .standing) t (a .0) (ap at here) more unlocked)
+      (λ x b p. absurd (none-some none refl p))
+      (worker-role t (Searching (node (s .next (a .0)))) low high refl (i .roles))
+
+  pub search-left : (a : Node) → s .threads t ≡ Searching a → Inv o (leave t (a .0) s) g
+  unfolding leave setThread setLocked
+  search-left a here =
+      quiet-move o s g i t Idle (upd (s .locked) (a .0) false)
+      (ap loads here) refl (ap clears here) refl (sym (ap executes here)) (sym (ap done here)) (sym (ap looked here)) (sym (ap found here))
+      (left (i .standing) t (a .0) (ap at here))
+      (λ x b p. absurd (none-some none refl p))
+      (worker-role t Idle low high refl (i .roles))

@@ -1,0 +1,55 @@
+-- A written worker enters at the head and steps on towards its own node: the invariant is kept. Assumes nothing.
+use Prim.Native.Nat.{ℕ, suc, _≤_, _<_}
+use native.Mathlib.Omega.{arith}
+use mathlib.Core.Path.{_≡_, refl, sym, ap, _∙_, subst}
+use mathlib.Core.Bool.{Bool, true, false}
+use mathlib.Core.Option.{Option, none, some}
+use mathlib.Core.Logic.{_⊎_, inl, inr, ⊎-elim}
+use Rattle.node_set.specs.declared.Node.{Node}
+use Rattle.model.specs.declared.Thread.{Thread}
+use Rattle.model.specs.declared.Thread.the-variants.{Idle, Loading, Searching, Holding, LookedUp, Written, Walking, Clearing}
+use Rattle.model.specs.Step.{Setup, State, upd, node, stepOn, setThread, setLocked}
+use Rattle.model.specs.Proof.Upd.{upd-same, upd-other, upd-at, upd-cases, upd-map}
+use Rattle.model.specs.Proof.Chain.Invariant.{Ghost, Inv, Standing, Walks, Roles, at, loads, executes, walks, clears, done, looked, found, isLoader, isWorker}
+use Rattle.model.specs.Proof.Chain.Kept.{none-some}
+use Rattle.model.specs.Proof.Chain.StepOn.{stepped}
+use Rattle.model.specs.Proof.Chain.Stand.{entered}
+use Rattle.model.specs.Proof.Chain.Moves.{worker-role, quiet-move}
+
+module _ (o : Setup) (s : State) (g : Ghost) (i : Inv o s g) (t : ℕ) (low : 1 ≤ t) (high : t ≤ o .workers) where
+  -- the worker's own node is in the chain, so it comes after the head
+  pub walk-entered : (x : Node) → s .threads t ≡ Written x → s .locked 0 ≡ false → Inv o (setThread t (Walking (node 0) x) (setLocked 0 true s)) g
+  unfolding setThread setLocked
+  walk-entered x here open-head =
+      quiet-move o s g i t (Walking (node 0) x) (upd (s .locked) 0 true) (ap loads here) refl (ap clears here) refl (sym (ap executes here))
+      (sym (ap done here)) (sym (ap looked here)) (sym (ap found here)) (entered (i .standing) t (ap at here) open-head)
+      before (worker-role t (Walking (node 0) x) low high refl (i .roles))
+    where
+      before : (y a : ℕ) → some (x .0) ≡ some y → some 0 ≡ some a → s .seq a < s .seq y
+      before y a p q =
+          let e : y ≡ x .0 = cc in
+          let f : a ≡ 0 = cc in
+          let u = i .order .linked-used (x .0) (i .executing .own-linked t (x .0) (ap executes here)) in
+          let h = i .order .head-seq in
+          rw (e, f) (omega arith)
+
+  -- the next node is not the worker's own, and no node of the chain lies between, so the own node comes later still
+  pub walk-stepped : (a x : Node) → s .threads t ≡ Walking a x → (s .next (a .0) ≡ 0 → ⊥) → s .locked (s .next (a .0)) ≡ false → (s .next (a .0) ≡ x .0 → ⊥) →
+      Inv o (setThread t (Walking (node (s .next (a .0))) x) (stepOn (a .0) (s .next (a .0)) s)) g
+  unfolding setThread stepOn setLocked
+  walk-stepped a x here more unlocked other =
+      quiet-move o s g i t (Walking (node (s .next (a .0))) x) (upd (upd (s .locked) (s .next (a .0)) true) (a .0) false)
+      (ap loads here) refl (ap clears here) refl (sym (ap executes here)) (sym (ap done here)) (sym (ap looked here)) (sym (ap found here))
+      (stepped (i .order) (i .standing) t (a .0) (ap at here) more unlocked)
+      before (worker-role t (Walking (node (s .next (a .0))) x) low high refl (i .roles))
+    where
+      before : (y b : ℕ) → some (x .0) ≡ some y → some (s .next (a .0)) ≡ some b → s .seq b < s .seq y
+      before y b p q =
+          let e : y ≡ x .0 = cc in
+          let f : b ≡ s .next (a .0) = cc in
+          let on-a = i .standing .on t (a .0) (ap at here) in
+          let lx = i .executing .own-linked t (x .0) (ap executes here) in
+          let le = i .order .next-first (a .0) on-a more (x .0) lx (i .walking .before t (x .0) (a .0) (ap walks here) (ap at here)) in
+          let ux = i .order .linked-used (s .next (a .0)) (i .order .next-linked (a .0) on-a more) in
+          let ne : s .seq (s .next (a .0)) ≡ s .seq (x .0) → ⊥ = λ h. other (i .order .distinct (s .next (a .0)) (x .0) ux h) in
+          rw (e, f) (omega (arith, le, ne))

@@ -1,0 +1,187 @@
+-- Part T and the commuting law put together for the model: the entries that a set of commands gives when it is run alone in delivery order,
+-- and what one more command adds to them. Assumes nothing.
+use Prim.Native.Nat.{ℕ, zero, suc, _+_, _≤_, _<_}
+use native.Mathlib.Omega.{arith}
+use mathlib.Core.Path.{_≡_, refl, sym, _∙_, ap}
+use mathlib.Core.Logic.{_⊎_, inl, inr, ⊎-elim}
+use mathlib.Core.Bool.{Bool, true, false, cond, _&&_, true≢false}
+use mathlib.Core.List.{List, [], _∷_}
+use mathlib.Core.Option.{Option, none, some}
+use lib.ListN.{length, getElem?, getD, take}
+use lib.Dec.{eqb, leb, ltb}
+use borrow.Author.Tests.{ltb-true, ltb-false, leb-true, leb-false, eqb-true, eqb-false, eq-eqb, ne-eqb}
+use Rattle.command.specs.declared.Kind.{Kind}
+use Rattle.command.specs.declared.Kind.the-variants.{Insert, Delete, Read, Update}
+use Rattle.command.specs.declared.Command.{Command}
+use Rattle.command.specs.Read.{chuteFits}
+use Rattle.command.specs.Dependent.{areDependent}
+use Rattle.model.specs.Serial.{Entry, Served, present, chuteAt, putIn, takeOut, setChute, serveKind, serve}
+use Rattle.model.specs.Serial.{entriesAfter, answersFrom, serialAnswers, serialEntries}
+use Rattle.model.specs.Step.{Setup, upd, commandAt}
+use Rattle.model.specs.Statement.{Accepted, EachCommand, serialAnswer}
+use Rattle.model.specs.Proof.Trace.{Placed, Closed, run, runOnly, not-none}
+use Rattle.model.specs.Proof.Trace.{runOnly-agrees, runOnly-all, runOnly-none, runOnly-keeps, next-reply, next-effect}
+use Rattle.model.specs.Proof.Serial.{Ascending, AllPositive, BringsPositive, cond-cases, serve-ascending, serve-fits, serve-positive, chuteAt-present}
+use Rattle.model.specs.Proof.Commute.{effectOf, replyOf, tested, neither, service-commutes}
+
+-- the entries after the commands of W alone, in delivery order
+unfoldable pub entriesOf : Setup → (ℕ → Bool) → List Entry
+entriesOf o W = runOnly (effectOf (o .capacity)) W 1 (o .commands) []
+
+-- a command of W has every earlier command that it depends on in W
+abbrev pub ClosedDown : Setup → (ℕ → Bool) → Type 0
+ClosedDown o W =
+    (j k : ℕ) (a b : Command) → commandAt (o .commands) j ≡ some a → commandAt (o .commands) k ≡ some b
+    → j < k → areDependent a b ≡ true → W k ≡ true → W j ≡ true
+
+-- every command before place k on which c depends is in W
+abbrev pub EarlierIn : Setup → (ℕ → Bool) → ℕ → Command → Type 0
+EarlierIn o W k c = (j : ℕ) (a : Command) → commandAt (o .commands) j ≡ some a → j < k → areDependent a c ≡ true → W j ≡ true
+
+-- ---- the command of a place, in the terms of part T
+
+placed : (cs : List Command) (k : ℕ) (c : Command) → commandAt cs k ≡ some c → Placed 1 cs k c
+unfolding commandAt
+placed cs zero c e = absurd (not-none e)
+placed cs (suc n) c e = record { offset = n; place = omega arith; found = e }
+
+command-placed : (cs : List Command) (k : ℕ) (c : Command) → Placed 1 cs k c → commandAt cs k ≡ some c
+unfolding commandAt
+command-placed cs k c p = let q : k ≡ suc (p .offset) = omega arith in rw q (p .found)
+
+-- ---- the serial run is the full run
+
+-- the answer to a command is its reply in the full run
+answer-at : (capacity : ℕ) (cs : List Command) (n : ℕ) (c : Command) (es : List Entry) → getElem? cs n ≡ some c
+    → getD (answersFrom capacity cs es) n 0 ≡ replyOf capacity c (run (effectOf capacity) (take n cs) es)
+unfolding answersFrom run
+answer-at capacity [] n c es e = absurd (not-none e)
+answer-at capacity (b ∷ cs) zero c es e = let q : b ≡ c = cc in ap (λ (x : Command). replyOf capacity x es) q
+answer-at capacity (b ∷ cs) (suc n) c es e = answer-at capacity cs n c (effectOf capacity b es) e
+
+serial-answer-at : (o : Setup) (k : ℕ) (c : Command) (p : Placed 1 (o .commands) k c)
+    → serialAnswer o k ≡ replyOf (o .capacity) c (run (effectOf (o .capacity)) (take (p .offset) (o .commands)) [])
+unfolding serialAnswer serialAnswers
+serial-answer-at o k c p =
+    let q : k ≡ suc (p .offset) = omega arith in
+    rw q (answer-at (o .capacity) (o .commands) (p .offset) c [] (p .found))
+
+-- and the last entries are the full run's
+entries-after : (capacity : ℕ) (cs : List Command) (es : List Entry) → run (effectOf capacity) cs es ≡ entriesAfter capacity cs es
+unfolding run entriesAfter
+entries-after capacity [] es = refl
+entries-after capacity (c ∷ cs) es = entries-after capacity cs (effectOf capacity c es)
+
+-- ---- the entries of a set
+
+-- they hang only on which commands of the list are in the set
+pub entries-agree : (o : Setup) (W U : ℕ → Bool) → EachCommand o (λ c. W c ≡ U c) → entriesOf o W ≡ entriesOf o U
+unfolding entriesOf
+entries-agree o W U agree = runOnly-agrees (effectOf (o .capacity)) W U 1 (o .commands) [] (λ k l h. agree k l (omega arith))
+
+pub entries-all : (o : Setup) (W : ℕ → Bool) → EachCommand o (λ c. W c ≡ true) → entriesOf o W ≡ serialEntries (o .capacity) (o .commands)
+unfolding entriesOf serialEntries
+entries-all o W all =
+    runOnly-all (effectOf (o .capacity)) W 1 (o .commands) [] (λ k l h. all k l (omega arith)) ∙ entries-after (o .capacity) (o .commands) []
+
+pub entries-none : (o : Setup) → entriesOf o (λ c. false) ≡ []
+unfolding entriesOf
+entries-none o = runOnly-none (effectOf (o .capacity)) (λ c. false) 1 (o .commands) [] (λ k l h. refl)
+
+-- what every command keeps holds of the entries, if it holds of no entries
+pub entries-keep : (P : List Entry → Type 0) (o : Setup) (W : ℕ → Bool)
+    → ((k : ℕ) (c : Command) (es : List Entry) → commandAt (o .commands) k ≡ some c → P es → P (serve (o .capacity) c es .entries))
+    → P [] → P (entriesOf o W)
+unfolding entriesOf
+entries-keep P o W keeps p =
+    runOnly-keeps (effectOf (o .capacity)) P W 1 (o .commands) [] (λ k c es at. keeps k c es (command-placed (o .commands) k c at)) p
+
+-- ---- one more command
+
+upd-same : (W : ℕ → Bool) (k : ℕ) (v : Bool) → upd W k v k ≡ v
+unfolding upd
+upd-same W k v = rw (eq-eqb k k refl)
+
+upd-other : (W : ℕ → Bool) (k : ℕ) (v : Bool) (j : ℕ) → (j ≡ k → ⊥) → upd W k v j ≡ W j
+unfolding upd
+upd-other W k v j h = rw (ne-eqb j k h)
+
+-- what is in W is in W with k
+upd-more : (W : ℕ → Bool) (k j : ℕ) → W j ≡ true → upd W k true j ≡ true
+upd-more W k j w = ⊎-elim (λ p. rw (p .0) (upd-same W k true)) (λ p. upd-other W k true j (p .0) ∙ w) (tested j k)
+
+module _ (o : Setup) (W : ℕ → Bool) (k : ℕ) (c : Command) (closed : ClosedDown o W) (at : commandAt (o .commands) k ≡ some c) where
+  closed-trace : Closed areDependent W 1 (o .commands)
+  closed-trace j m a b p q = closed j m a b (command-placed _ j a p) (command-placed _ m b q)
+
+  -- it is answered as in the serial run, and leaves the entries of W with it
+  pub served-next : W k ≡ false → EarlierIn o W k c
+      → (serve (o .capacity) c (entriesOf o W) .answer ≡ serialAnswer o k)
+      × (serve (o .capacity) c (entriesOf o W) .entries ≡ entriesOf o (upd W k true))
+  unfolding entriesOf
+  served-next out earlier =
+      let law = service-commutes (o .capacity) in
+      let p = placed (o .commands) k c at in
+      let answered = next-reply _ _ areDependent law W 1 _ k c [] p closed-trace out (λ j a q. earlier j a (command-placed _ j a q)) in
+      let left = next-effect _ _ areDependent law W 1 _ k c [] p closed-trace out (upd W k true) (upd-same W k true) (upd-other W k true) in
+      (answered ∙ sym (serial-answer-at o k c p), left)
+
+  -- a set that is closed downwards stays so
+  pub closed-next : EarlierIn o W k c → ClosedDown o (upd W k true)
+  closed-next earlier i j a b p q l d w =
+      upd-more W k i
+      (⊎-elim (λ r. let n = r .0 in let e : b ≡ c = cc in earlier i a p (omega arith) (rw e at d))
+      (λ r. closed i j a b p q l d (sym (upd-other W k true j (r .0)) ∙ w)) (tested j k))
+
+-- ---- every answer is from 1 up
+
+first : (s t : Bool) → (s && t) ≡ true → s ≡ true
+first true t e = refl
+first false t e = e
+
+-- the chute of an accepted insert or update is from 1 up
+fitting-positive : (k : Kind) (chute : ℕ) → chuteFits k chute ≡ true → BringsPositive k chute
+unfolding chuteFits
+fitting-positive Insert chute e = leb-true 1 chute (first (leb 1 chute) (leb chute 512) e)
+fitting-positive Delete chute e = tt
+fitting-positive Read chute e = tt
+fitting-positive Update chute e = leb-true 1 chute (first (leb 1 chute) (leb chute 512) e)
+
+-- an answer is a chute found, or 1000 and more
+answer-positive : (k : Kind) (capacity key chute : ℕ) (es : List Entry) → AllPositive es → 1 ≤ serveKind k capacity key chute es .answer
+unfolding serveKind
+answer-positive Insert capacity key chute es h =
+    cond-cases (λ (s : Served). 1 ≤ s .answer) (present key es) (λ _. omega arith)
+    (λ _. cond-cases (λ (s : Served). 1 ≤ s .answer) (leb capacity (length es)) (λ _. omega arith) (λ _. omega arith))
+answer-positive Delete capacity key chute es h = cond-cases (λ (s : Served). 1 ≤ s .answer) (present key es) (λ _. omega arith) (λ _. omega arith)
+answer-positive Read capacity key chute es h = cond-cases (λ (s : Served). 1 ≤ s .answer) (present key es) (chuteAt-present key es h) (λ _. omega arith)
+answer-positive Update capacity key chute es h = cond-cases (λ (s : Served). 1 ≤ s .answer) (present key es) (λ _. omega arith) (λ _. omega arith)
+
+answers-positive : (capacity : ℕ) (cs : List Command) (es : List Entry) (n : ℕ) → AllPositive es
+    → ((j : ℕ) (c : Command) → getElem? cs j ≡ some c → BringsPositive (c .kind) (c .chute)) → n < length cs → 1 ≤ getD (answersFrom capacity cs es) n 0
+unfolding answersFrom serve
+answers-positive capacity [] es n h fit l = absurd (omega arith)
+answers-positive capacity (c ∷ cs) es zero h fit l = answer-positive (c .kind) capacity (c .key) (c .chute) es h
+answers-positive capacity (c ∷ cs) es (suc n) h fit l =
+    answers-positive capacity cs (serve capacity c es .entries) n (serve-positive capacity c es (fit 0 c refl) h) (λ j. fit (suc j)) (omega arith)
+
+-- ---- the entries of every set of commands, and the serial run's answers
+
+pub entries-ascending : (o : Setup) (W : ℕ → Bool) → Ascending (entriesOf o W)
+entries-ascending o W = entries-keep Ascending o W (λ k c es at. serve-ascending (o .capacity) c es) tt
+
+pub entries-fit : (o : Setup) (W : ℕ → Bool) → length (entriesOf o W) ≤ o .capacity
+entries-fit o W = entries-keep (λ (es : List Entry). length es ≤ o .capacity) o W (λ k c es at. serve-fits (o .capacity) c es) (omega arith)
+
+module _ (o : Setup) (accepted : Accepted o) where
+  accepted-positive : (k : ℕ) (c : Command) → commandAt (o .commands) k ≡ some c → BringsPositive (c .kind) (c .chute)
+  accepted-positive k c at = fitting-positive (c .kind) (c .chute) (accepted .chutes k c at)
+
+  -- every serial answer is from 1 up
+  pub serial-positive : EachCommand o (λ c. 1 ≤ serialAnswer o c)
+  unfolding serialAnswer serialAnswers commandAt
+  serial-positive zero l h = absurd (omega arith)
+  serial-positive (suc n) l h = answers-positive (o .capacity) (o .commands) [] n tt (λ j. accepted-positive (suc j)) (omega arith)
+
+  pub entries-positive : (W : ℕ → Bool) → AllPositive (entriesOf o W)
+  entries-positive W = entries-keep AllPositive o W (λ k c es at. serve-positive (o .capacity) c es (accepted-positive k c at)) tt

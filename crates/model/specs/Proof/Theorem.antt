@@ -1,0 +1,64 @@
+-- Demand 3 for the model, proved: the opening state meets the invariant, every step keeps it, and from it the three parts follow.
+-- Assumes nothing.
+use Prim.Native.Nat.{ℕ, _+_, _*_, _≤_}
+use native.Mathlib.Omega.{arith}
+use mathlib.Core.Path.{_≡_, refl, sym, ap, _∙_}
+use mathlib.Core.Bool.{Bool, true, false, cond, _||_, or-false}
+use mathlib.Core.List.{List}
+use lib.ListN.{length}
+use Rattle.model.specs.Store.{layOut}
+use Rattle.model.specs.Step.{Setup, State, opened, steps}
+use Rattle.model.specs.Statement.{Accepted, allWithin, wrote, removed, EachCommand, serialAnswer, Holds, Demand3}
+use Rattle.model.specs.Proof.Service.{entriesOf, entries-all, serial-positive}
+use Rattle.model.specs.Proof.Chain.Invariant.{Ghost, Inv}
+use Rattle.model.specs.Proof.Chain.Ghost.{ghostSteps}
+use Rattle.model.specs.Proof.Chain.Keep.{steps-keep}
+use Rattle.model.specs.Proof.Chain.Opening.{openedGhost, opened-meets}
+use Rattle.model.specs.Proof.Finish.{Φ, strategy, unremoved, steps-tell, schedule-finishes, finishes-soon}
+
+module _ (o : Setup) (acc : Accepted o) (ts : List ℕ) (within : allWithin (o .workers) ts ≡ true) where
+  abbrev s : State
+  s = steps o ts (opened o)
+
+  abbrev g : Ghost
+  g = ghostSteps o ts (opened o) (openedGhost o)
+
+  -- the invariant holds after every schedule
+  pub reached : Inv o s g
+  reached = steps-keep o acc ts within (opened o) (openedGhost o) (opened-meets o acc)
+
+  -- what the invariant calls written and removed is what the steps wrote and returned
+  written-is : (c : ℕ) → 1 ≤ c → g .written c ≡ wrote o c ts (opened o)
+  written-is c low = steps-tell o acc c low ts within (opened o) (openedGhost o) (opened-meets o acc) .0 ∙ or-false (wrote o c ts (opened o))
+
+  removed-is : (c : ℕ) → 1 ≤ c → g .removed c ≡ removed o c ts (opened o)
+  removed-is c low = steps-tell o acc c low ts within (opened o) (openedGhost o) (opened-meets o acc) .1 ∙ or-false (removed o c ts (opened o))
+
+  -- "the table at any moment": the store is what the answered commands give when run alone in delivery order, after every step
+  pub table-at-any-moment : s .store ≡ layOut (o .capacity) (entriesOf o (g .written))
+  table-at-any-moment = reached .service .stored
+
+  answers-serial : EachCommand o (λ c. s .answers c ≡ cond (wrote o c ts (opened o)) (serialAnswer o c) 0)
+  answers-serial c low high = reached .service .answered c low high ∙ ap (λ (b : Bool). cond b (serialAnswer o c) 0) (written-is c low)
+
+  -- a removed command is answered
+  all-written : EachCommand o (λ c. removed o c ts (opened o) ≡ true) → EachCommand o (λ c. g .written c ≡ true)
+  all-written all c low high = reached .progress .removed-written c (removed-is c low ∙ all c low high)
+
+  all-answered : EachCommand o (λ c. removed o c ts (opened o) ≡ true) → EachCommand o (λ c. 1 ≤ s .answers c)
+  all-answered all c low high =
+      let e = reached .service .answered c low high ∙ ap (λ (b : Bool). cond b (serialAnswer o c) 0) (all-written all c low high) in
+      let p = serial-positive o acc c low high in
+      omega arith
+
+pub demand-3 : Demand3
+demand-3 o acc ts within = record {
+  answer = answers-serial o acc ts within;
+  table = λ all. (all-answered o acc ts within all, table-at-any-moment o acc ts within ∙ ap (layOut (o .capacity)) (entries-all o (g o acc ts within .written) (all-written o acc ts within all)));
+  finish = schedule-finishes o acc (opened o) (openedGhost o) (opened-meets o acc) (λ c. refl) ts within;
+}
+
+-- from every state reached the strategy finishes within a bound on its steps
+pub finish-bound : (o : Setup) (acc : Accepted o) (ts : List ℕ) (within : allWithin (o .workers) ts ≡ true) →
+    length (strategy o (Φ o (s o acc ts within) (g o acc ts within)) (s o acc ts within)) ≤ (unremoved o (g o acc ts within) + o .workers) * (3 * o .size + 6)
+finish-bound o acc ts within = finishes-soon o acc (s o acc ts within) (g o acc ts within) (reached o acc ts within)

@@ -1,0 +1,85 @@
+-- The serial run of document 01, "The serial run and demand 3": what every answer and the last table are measured by. It is fed the
+-- capacity ("room") and the commands, and nothing of a schedule or a state. Assumes nothing.
+use Prim.Native.Nat.{ℕ, _-_}
+use mathlib.Core.Bool.{Bool, true, false, cond, _||_}
+use mathlib.Core.List.{List, [], _∷_, _++_, map}
+use lib.ListN.{length, replicate}
+use lib.Dec.{eqb, leb, ltb}
+use Rattle.command.specs.declared.Kind.{Kind}
+use Rattle.command.specs.declared.Kind.the-variants.{Insert, Delete, Read, Update}
+use Rattle.command.specs.declared.Command.{Command}
+
+-- "Its state is a list of entries, key and chute, keys ascending, empty at first."
+pub record Entry : Type 0 where
+  pub key : ℕ
+  pub chute : ℕ
+
+unfoldable pub present : ℕ → List Entry → Bool
+present key [] = false
+present key (e ∷ es) = eqb (e .key) key || present key es
+
+-- the chute of a key, 0 where it is absent
+unfoldable pub chuteAt : ℕ → List Entry → ℕ
+chuteAt key [] = 0
+chuteAt key (e ∷ es) = cond (eqb (e .key) key) (e .chute) (chuteAt key es)
+
+-- "the entry is put in where its key belongs"
+unfoldable pub putIn : Entry → List Entry → List Entry
+putIn new [] = new ∷ []
+putIn new (e ∷ es) = cond (ltb (new .key) (e .key)) (new ∷ e ∷ es) (e ∷ putIn new es)
+
+-- "its entry is taken out"
+unfoldable pub takeOut : ℕ → List Entry → List Entry
+takeOut key [] = []
+takeOut key (e ∷ es) = cond (eqb (e .key) key) es (e ∷ takeOut key es)
+
+-- "its entry gets the command's chute"
+unfoldable pub setChute : ℕ → ℕ → List Entry → List Entry
+setChute key chute [] = []
+setChute key chute (e ∷ es) = cond (eqb (e .key) key) (record { key = key; chute = chute } ∷ es) (e ∷ setChute key chute es)
+
+-- an answer, and the entries after it
+pub record Served : Type 0 where
+  pub answer : ℕ
+  pub entries : List Entry
+
+abbrev pub served : ℕ → List Entry → Served
+served answer entries = record { answer = answer; entries = entries }
+
+-- one command of the kind, with its key and chute
+unfoldable pub serveKind : Kind → ℕ → ℕ → ℕ → List Entry → Served
+unfolding present chuteAt putIn takeOut setChute
+-- "Insert: key present, 1001; else as many entries as the room, 1003; else the entry is put in where its key belongs, 1000."
+serveKind Insert capacity key chute es =
+    cond (present key es) (served 1001 es) (cond (leb capacity (length es)) (served 1003 es) (served 1000 (putIn (record { key = key; chute = chute }) es)))
+-- "Delete: key absent, 1002; else its entry is taken out, 1000."
+serveKind Delete capacity key chute es = cond (present key es) (served 1000 (takeOut key es)) (served 1002 es)
+-- "Read: absent, 1002; else its chute."
+serveKind Read capacity key chute es = cond (present key es) (served (chuteAt key es) es) (served 1002 es)
+-- "Update: absent, 1002; else its entry gets the command's chute, 1000."
+serveKind Update capacity key chute es = cond (present key es) (served 1000 (setChute key chute es)) (served 1002 es)
+
+unfoldable pub serve : ℕ → Command → List Entry → Served
+unfolding serveKind
+serve capacity c es = serveKind (c .kind) capacity (c .key) (c .chute) es
+
+-- the entries after the commands, from some entries
+unfoldable pub entriesAfter : ℕ → List Command → List Entry → List Entry
+unfolding serve
+entriesAfter capacity [] es = es
+entriesAfter capacity (c ∷ cs) es = entriesAfter capacity cs (serve capacity c es .entries)
+
+-- "There is one answer a command."
+unfoldable pub answersFrom : ℕ → List Command → List Entry → List ℕ
+unfolding serve
+answersFrom capacity [] es = []
+answersFrom capacity (c ∷ cs) es = serve capacity c es .answer ∷ answersFrom capacity cs (serve capacity c es .entries)
+
+-- the serial run's answers, and its entries "after the last command"
+unfoldable pub serialAnswers : ℕ → List Command → List ℕ
+unfolding answersFrom
+serialAnswers capacity cs = answersFrom capacity cs []
+
+unfoldable pub serialEntries : ℕ → List Command → List Entry
+unfolding entriesAfter
+serialEntries capacity cs = entriesAfter capacity cs []

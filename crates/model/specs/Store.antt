@@ -1,0 +1,89 @@
+-- The store of document 01, "Command list and store": two lists, both as long as the capacity ("room"), of which the first places are in
+-- use. The operations are defined for any contents; on ascending keys they are the serial run's (Proof/Store). Assumes nothing.
+use Prim.Native.Nat.{ℕ, zero, suc, _+_, _-_, _/_, min}
+use mathlib.Core.Bool.{Bool, cond, _&&_, _||_}
+use mathlib.Core.List.{List, [], _∷_, _++_, map}
+use lib.ListN.{length, getD, take, drop, set, replicate}
+use lib.Dec.{eqb, leb, ltb}
+use Rattle.model.specs.Serial.{Entry}
+
+-- "a lent list of keys and a lent list of chutes", and how many places are in use
+pub record Store : Type 0 where
+  pub keys : List ℕ
+  pub chutes : List ℕ
+  pub used : ℕ
+
+-- "laid out as the store is, 0 past them up to the room"
+unfoldable pub layOut : ℕ → List Entry → Store
+layOut capacity es = record {
+  keys = map (λ (e : Entry). e .key) es ++ replicate (capacity - length es) 0;
+  chutes = map (λ (e : Entry). e .chute) es ++ replicate (capacity - length es) 0;
+  used = length es;
+}
+
+-- how many places both lists have
+unfoldable pub room : Store → ℕ
+room st = min (length (st .keys)) (length (st .chutes))
+
+-- the places in use: as many as `used` says, and no more than there are
+unfoldable pub inUse : Store → ℕ
+unfolding room
+inUse st = min (st .used) (room st)
+
+-- Where a key stands or belongs, between the places low and high, by n halvings: to the right of the middle where the middle's key
+-- is smaller, else at the middle or to its left. Where low and high meet, nothing changes.
+unfoldable pub halve : ℕ → List ℕ → ℕ → ℕ → ℕ → ℕ
+halve zero keys key low high = low
+halve (suc n) keys key low high =
+    let middle : ℕ = (low + high) / 2 in
+    let right : Bool = ltb low high && ltb (getD keys middle 0) key in
+    halve n keys key (cond right (middle + 1) low) (cond right high middle)
+
+-- where a key stands, or belongs where it is absent
+unfoldable pub placeOf : ℕ → Store → ℕ
+unfolding halve inUse
+placeOf key st = halve (inUse st) (st .keys) key 0 (inUse st)
+
+unfoldable pub holds : ℕ → Store → Bool
+unfolding placeOf
+holds key st = ltb (placeOf key st) (inUse st) && eqb (getD (st .keys) (placeOf key st) 0) key
+
+-- the chute of a key, 0 where the store does not hold it
+unfoldable pub lookUp : ℕ → Store → ℕ
+unfolding holds
+lookUp key st = cond (holds key st) (getD (st .chutes) (placeOf key st) 0) 0
+
+-- "Insert shifts later entries up": v at place p of the first n of a list, which must have a place more
+unfoldable pub shiftUp : ℕ → ℕ → ℕ → List ℕ → List ℕ
+shiftUp p n v l = take p l ++ (v ∷ take (n - p) (drop p l)) ++ drop (n + 1) l
+
+-- "delete shifts them down, so freed places serve again": place p of the first n of a list is gone, and place n - 1 holds 0
+unfoldable pub shiftDown : ℕ → ℕ → List ℕ → List ℕ
+shiftDown p n l = take p l ++ take (n - (p + 1)) (drop (p + 1) l) ++ (0 ∷ drop n l)
+
+-- a new key and its chute; nothing changes where the key is held or no place is left
+unfoldable pub insert : ℕ → ℕ → Store → Store
+unfolding holds shiftUp
+insert key chute st = cond (holds key st || leb (room st) (inUse st)) st (record {
+  keys = shiftUp (placeOf key st) (inUse st) key (st .keys);
+  chutes = shiftUp (placeOf key st) (inUse st) chute (st .chutes);
+  used = inUse st + 1;
+})
+
+-- a key and its chute are gone; nothing changes where the key is not held
+unfoldable pub remove : ℕ → Store → Store
+unfolding holds shiftDown
+remove key st = cond (holds key st) (record {
+  keys = shiftDown (placeOf key st) (inUse st) (st .keys);
+  chutes = shiftDown (placeOf key st) (inUse st) (st .chutes);
+  used = inUse st - 1;
+}) st
+
+-- another chute for a key; nothing changes where the key is not held
+unfoldable pub replace : ℕ → ℕ → Store → Store
+unfolding holds
+replace key chute st = cond (holds key st) (record {
+  keys = st .keys;
+  chutes = set (st .chutes) (placeOf key st) chute;
+  used = st .used;
+}) st

@@ -1,0 +1,19 @@
+// What the controller does, as definitions: the serial run, the steps, and the statement of demand 3. This crate has types
+// and no function: specs/ holds the definitions, specs/Proof/ the theorems.
+use node_set::Node;
+
+// Where one thread stands ("party" of document 01): thread 0 is the loader, the others are workers. `own` is the node that
+// the thread loads or removes, `at` the node that it stands on and keeps locked, `found` the chute that its lookup found, 0
+// for none.
+pub enum Thread {
+    Idle,
+    // The loader's "walking".
+    Loading { at: Node, own: Node },
+    Searching { at: Node },
+    Holding { own: Node },
+    LookedUp { own: Node, found: u16 },
+    Written { own: Node },
+    // "Walking to its own record".
+    Walking { at: Node, own: Node },
+    Clearing { at: Node, own: Node },
+}

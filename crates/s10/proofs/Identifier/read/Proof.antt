@@ -1,0 +1,91 @@
+-- `Identifier::read` meets its contract: the tests come in the definition's order, and each answer is the definition's there. Assumes nothing.
+use Prim.Native.Nat.{_-_}
+use mathlib.Core.Path.{_≡_}
+use mathlib.Core.Bool.{true}
+use native.Mathlib.Omega.{arith}
+use borrow.Author.Tests.{eq-eqb, ne-eqb}
+use borrow.Author.Needs.{needs}
+use lib.ListN.{length, getD}
+use Rattle.s10.specs.Text.{isWellFormed, serialDigits, checkDigit}
+use Rattle.s10.specs.Parts.{firstFault, WellFormed}
+use Rattle.s10.specs.Outcome.{readText}
+use Rattle.s10.proofs.Fault.{fault-well-formed}
+use Rattle.s10.proofs.WellFormed.{well-formed}
+use Rattle.s10.proofs.Identifier.read.Statement.{statement}
+use Rattle.s10.proofs.Identifier.read.Tie as tie
+
+-- a text of another length is not well-formed
+returns : tie.Need-returns
+unfolding readText isWellFormed
+returns c = rw (ne-eqb (length (c .before .before .args .text .now)) 13 (omega arith))
+
+first-fault-requires : tie.Need-first-fault-requires
+first-fault-requires c κs = search needs
+
+-- nor is one with a fault
+returns-2 : tie.Need-returns-2
+unfolding readText
+returns-2 c =
+    let s = c .before .before .before .before in
+    rw (fault-well-formed (s .args .text .now) (omega arith), ne-eqb (firstFault 0 (s .args .text .now)) 13 (omega arith))
+
+-- past both tests it is
+passed : (c : tie.Else2) → isWellFormed (c .before .before .before .before .args .text .now) ≡ true
+passed c =
+    let s = c .before .before .before .before in
+    rw (fault-well-formed (s .args .text .now) (omega arith)) (eq-eqb (firstFault 0 (s .args .text .now)) 13 (omega arith))
+
+parts : (c : tie.Else2) → WellFormed (c .before .before .before .before .args .text .now)
+parts c = well-formed _ (passed c)
+
+sub-check-digit : tie.Need-sub-check-digit
+sub-check-digit c = search needs
+
+part-check-digit-start : tie.Need-part-check-digit-start
+part-check-digit-start c = search needs
+
+part-check-digit-end : tie.Need-part-check-digit-end
+part-check-digit-end c = search needs
+
+check-digit-requires : tie.Need-check-digit-requires
+check-digit-requires c κs = parts (c .before) .serial
+
+shared-slice-read-if3 : tie.Need-shared-slice-read-if3
+shared-slice-read-if3 c = search needs
+
+sub-if3 : tie.Need-sub-if3
+sub-if3 c = parts (c .before .before .before) .check .0
+
+returns-3 : tie.Need-returns-3
+unfolding readText serialDigits
+returns-3 c =
+    let e = c .before .before .before .before in
+    let text = e .before .before .before .before .args .text .now in
+    rw (passed e, ne-eqb (getD text 10 0 - 48) (checkDigit (serialDigits text)) (omega arith))
+
+key-of-requires : tie.Need-key-of-requires
+key-of-requires c κs = parts (c .before .before .before .before)
+
+returns-4 : tie.Need-returns-4
+unfolding readText serialDigits
+returns-4 c =
+    let e = c .before .before .before .before .before in
+    let text = e .before .before .before .before .args .text .now in
+    rw (passed e, eq-eqb (getD text 10 0 - 48) (checkDigit (serialDigits text)) (omega arith), c .key-of .ensures)
+
+pub read-spec : {M : Type 1} → statement M
+read-spec =
+    tie.close
+    (tie.spec
+    returns
+    first-fault-requires
+    returns-2
+    sub-check-digit
+    part-check-digit-start
+    part-check-digit-end
+    check-digit-requires
+    shared-slice-read-if3
+    sub-if3
+    returns-3
+    key-of-requires
+    returns-4)

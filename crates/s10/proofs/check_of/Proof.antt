@@ -1,0 +1,26 @@
+-- `s10::check_of` meets its contract: the two exceptions are the definition's. Assumes nothing.
+use borrow.Author.Needs.{needs}
+use borrow.Author.Tests.{ne-eqb}
+use Rattle.s10.specs.Text.{excepted}
+use Rattle.s10.proofs.check_of.Statement.{statement}
+use Rattle.s10.proofs.check_of.Tie as tie
+use Rattle.s10.proofs.check_of.Reads as reads
+use Rattle.s10.proofs.check_of.Lts as lts
+
+sub-match : tie.Need-sub-match
+sub-match c = search needs
+
+returns : tie.Need-returns
+unfolding excepted
+returns c = simp (c .match .keys1)
+
+returns-2 : tie.Need-returns-2
+unfolding excepted
+returns-2 c = simp (c .match .keys2)
+
+returns-3 : tie.Need-returns-3
+unfolding excepted
+returns-3 c = simp (ne-eqb _ _ (c .match .rest .0 .1), ne-eqb _ _ (c .match .rest .1))
+
+pub check-of-spec : {M : Type 1} → statement M
+check-of-spec = tie.close (tie.spec sub-match returns returns-2 returns-3)

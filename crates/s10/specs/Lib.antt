@@ -1,0 +1,4 @@
+pub mod Text
+pub mod Parts
+pub mod Outcome
+pub mod Laws

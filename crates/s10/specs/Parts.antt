@@ -1,0 +1,41 @@
+-- The parts of a text that the contracts of the helper functions speak of. Assumes nothing.
+use Prim.Native.Nat.{ℕ, _+_, _-_, _≤_, _<_}
+use mathlib.Core.Path.{_≡_}
+use mathlib.Core.Bool.{cond}
+use mathlib.Core.List.{List, [], _∷_, _++_, map}
+use lib.ListN.{length, getD, take, drop}
+use Rattle.s10.specs.Text.{isAllowed, digits, checkDigit}
+
+-- the position of the first character that is not allowed, from position i on, or the position after the last
+unfoldable pub firstFault : ℕ → List ℕ → ℕ
+unfolding isAllowed
+firstFault i [] = i
+firstFault i (c ∷ text) = cond (isAllowed i c) (firstFault (i + 1) text) i
+
+-- c lies from low to high
+abbrev pub Within : ℕ → ℕ → ℕ → Type 0
+Within low high c = (low ≤ c) × (c ≤ high)
+
+-- the eight serial digits, as characters
+pub record Serial (text : List ℕ) : Type 0 where
+  pub long : length text ≡ 8
+  pub digit : (k : ℕ) → k < length text → Within 48 57 (getD text k 0)
+
+-- what `isWellFormed` says, part by part
+pub record WellFormed (text : List ℕ) : Type 0 where
+  pub long : length text ≡ 13
+  pub first : Within 65 90 (getD text 0 0) × Within 65 90 (getD text 1 0)
+  pub serial : Serial (take 8 (drop 2 text))
+  pub check : Within 48 57 (getD text 10 0)
+  pub last : Within 65 90 (getD text 11 0) × Within 65 90 (getD text 12 0)
+
+-- the numbers that digits stand for, and the digits that stand for numbers
+abbrev pub values : List ℕ → List ℕ
+values text = map (λ (c : ℕ). c - 48) text
+
+abbrev pub characters : List ℕ → List ℕ
+characters ds = map (λ (d : ℕ). 48 + d) ds
+
+-- the last eight digits of a number and their check digit, as characters
+unfoldable pub serialText : ℕ → List ℕ
+serialText n = characters (digits 8 n) ++ ((48 + checkDigit (digits 8 n)) ∷ [])

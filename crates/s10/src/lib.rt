@@ -1,0 +1,231 @@
+// The postal item identifier (UPU S10): from text to key and back.
+ghost use mathlib.Core.Path.{_≡_};
+ghost use Prim.Native.Nat.{_+_, _-_, _*_, _%_, _≤_, _<_};
+ghost use mathlib.Core.Bool.{_&&_};
+ghost use lib.Dec.{leb};
+ghost use lib.ListN.{length};
+ghost use Rattle.s10.specs.Text.{isAllowed, weighted, weights, excepted, checkDigit, pair, decimal, keyOf, letters, digits, largestKey, textOf};
+ghost use Rattle.s10.specs.Parts.{firstFault, Within, Serial, WellFormed, values, characters, serialText};
+ghost use Rattle.s10.specs.Outcome.{outcome, readText, number, writeNumber, writeText};
+
+// An identifier, by its key.
+pub struct Identifier(pub u64);
+
+// What reading a text finds.
+pub enum Reading {
+    Key(u64),
+    // The length, a letter or a digit is wrong.
+    Malformed,
+    WrongCheckDigit,
+}
+
+// What writing a key does.
+pub enum Writing {
+    Written,
+    WrongLength,
+    KeyTooLarge,
+}
+
+impl Identifier {
+    pub const LENGTH: usize = 13;
+
+    pub const WEIGHTS: [u64; 8] = [8, 6, 4, 2, 3, 5, 9, 7];
+
+    pub const LARGEST_KEY: u64 = 45_697_599_999_999;
+
+    // Where the serial digits, the check digit and the last pair stand.
+    const SERIAL: usize = 2;
+
+    const CHECK: usize = 10;
+
+    const LAST: usize = 11;
+
+    // How many letters there are, pairs of letters, and serial numbers.
+    const LETTERS: u64 = 26;
+
+    const PAIRS: u64 = 676;
+
+    const SERIALS: u64 = 100_000_000;
+
+    // The key of a text.
+    pub fn read(text: &[u8]) -> Reading
+        ensures { λ r. ⌜ outcome r ≡ readText (now (text .entry)) ⌝ }
+    {
+        if text.len() != Identifier::LENGTH {
+            return Reading::Malformed;
+        }
+        if first_fault(text) != Identifier::LENGTH {
+            return Reading::Malformed;
+        }
+        let check = check_digit(&text[Identifier::SERIAL..Identifier::CHECK]);
+        if text[Identifier::CHECK] - b'0' != check {
+            return Reading::WrongCheckDigit;
+        }
+        Reading::Key(key_of(text))
+    }
+
+    // Writes the text of a key. A refusal leaves the list as it was.
+    pub fn write(key: u64, text: &mut [u8]) -> Writing
+        ensures { λ r. ⌜ (number r ≡ writeNumber key (now (text .entry))) × (now (text .exit) ≡ writeText key (now (text .entry))) ⌝ }
+    {
+        let length = text.len();
+        if length != Identifier::LENGTH {
+            return Writing::WrongLength;
+        }
+        if key > Identifier::LARGEST_KEY {
+            return Writing::KeyTooLarge;
+        }
+        write_key(key, text);
+        Writing::Written
+    }
+}
+
+// Whether a character lies from `low` to `high`.
+fn is_between(low: u8, c: u8, high: u8) -> bool
+    ensures { λ r. ⌜ r ≡ (leb low c && leb c high) ⌝ }
+{
+    low <= c && c <= high
+}
+
+// Whether a character may stand at a position.
+fn is_allowed(i: usize, c: u8) -> bool
+    ensures { λ r. ⌜ r ≡ isAllowed i c ⌝ }
+{
+    if Identifier::SERIAL <= i && i <= Identifier::CHECK {
+        is_between(b'0', c, b'9')
+    } else {
+        is_between(b'A', c, b'Z')
+    }
+}
+
+// The position of the first character that is not allowed, or the length.
+fn first_fault(text: &[u8]) -> usize
+    ensures { λ r. ⌜ r ≡ firstFault 0 (now (text .entry)) ⌝ }
+{
+    let mut i = 0;
+    while i < text.len() {
+        if !is_allowed(i, text[i]) {
+            return i;
+        }
+        i += 1;
+    }
+    i
+}
+
+// The eight digits, each times its weight, added.
+fn weighted_sum(digits: &[u8]) -> u64
+    requires { ⌜ Serial (now digits) ⌝ }
+    ensures { λ r. ⌜ r ≡ weighted weights (values (now (digits .entry))) ⌝ }
+    ensures { λ r. ⌜ r ≤ 396 ⌝ }
+{
+    let mut sum = 0;
+    let mut k = 0;
+    while k < Identifier::WEIGHTS.len() {
+        sum += Identifier::WEIGHTS[k] * (digits[k] - b'0') as u64;
+        k += 1;
+    }
+    sum
+}
+
+// The check digit of a weighted sum: 11 less the remainder by 11, with 10 and 11 replaced.
+fn check_of(sum: u64) -> u64
+    ensures { λ r. ⌜ r ≡ excepted (11 - sum % 11) ⌝ }
+{
+    match 11 - sum % 11 {
+        10 => 0,
+        11 => 5,
+        c => c,
+    }
+}
+
+// The check digit of eight digits.
+fn check_digit(digits: &[u8]) -> u8
+    requires { ⌜ Serial (now digits) ⌝ }
+    ensures { λ r. ⌜ (r ≡ checkDigit (values (now (digits .entry)))) × (r < 10) ⌝ }
+{
+    check_of(weighted_sum(digits)) as u8
+}
+
+// The number of a pair of letters.
+fn pair_number(first: u8, second: u8) -> u64
+    requires { ⌜ Within 65 90 first × Within 65 90 second ⌝ }
+    ensures { λ r. ⌜ (r ≡ pair first second) × (r < 676) ⌝ }
+{
+    Identifier::LETTERS * (first - b'A') as u64 + (second - b'A') as u64
+}
+
+// The number that decimal digits write.
+fn decimal_number(digits: &[u8]) -> u64
+    requires { ⌜ Serial (now digits) ⌝ }
+    ensures { λ r. ⌜ (r ≡ decimal 0 (values (now (digits .entry)))) × (r < 100_000_000) ⌝ }
+{
+    let mut n = 0;
+    let mut k = 0;
+    while k < digits.len() {
+        n = n * 10 + (digits[k] - b'0') as u64;
+        k += 1;
+    }
+    n
+}
+
+// The key of a well-formed text.
+fn key_of(text: &[u8]) -> u64
+    requires { ⌜ WellFormed (now text) ⌝ }
+    ensures { λ r. ⌜ r ≡ keyOf (now (text .entry)) ⌝ }
+{
+    let first = pair_number(text[0], text[1]);
+    let serial = decimal_number(&text[Identifier::SERIAL..Identifier::CHECK]);
+    let last = pair_number(text[Identifier::LAST], text[Identifier::LAST + 1]);
+    (first * Identifier::SERIALS + serial) * Identifier::PAIRS + last
+}
+
+// Writes the two letters of a pair.
+fn write_pair(number: u64, text: &mut [u8])
+    requires { ⌜ (number < 676) × (length (now text) ≡ 2) ⌝ }
+    ensures { λ _. ⌜ now (text .exit) ≡ letters number ⌝ }
+{
+    text[0] = b'A' + (number / Identifier::LETTERS) as u8;
+    text[1] = b'A' + (number % Identifier::LETTERS) as u8;
+}
+
+// Writes the last decimal digits of a number, as many as there is room for.
+fn write_digits(number: u64, text: &mut [u8])
+    ensures { λ _. ⌜ now (text .exit) ≡ characters (digits (length (now (text .entry))) number) ⌝ }
+{
+    let mut rest = number;
+    let mut i = text.len();
+    while i > 0 {
+        i -= 1;
+        text[i] = b'0' + (rest % 10) as u8;
+        rest = rest / 10;
+    }
+}
+
+// Writes the last eight digits of a number and their check digit.
+fn write_serial(number: u64, text: &mut [u8])
+    requires { ⌜ length (now text) ≡ 9 ⌝ }
+    ensures { λ _. ⌜ now (text .exit) ≡ serialText number ⌝ }
+{
+    let end = Identifier::CHECK - Identifier::SERIAL;
+    write_digits(number, &mut text[0..end]);
+    text[end] = b'0' + check_digit(&text[0..end]);
+}
+
+// Writes the text of a key.
+fn write_key(key: u64, text: &mut [u8])
+    requires { ⌜ (key ≤ largestKey) × (length (now text) ≡ 13) ⌝ }
+    ensures { λ _. ⌜ now (text .exit) ≡ textOf key ⌝ }
+{
+    write_pair(
+        key / (Identifier::SERIALS * Identifier::PAIRS),
+        &mut text[0..Identifier::SERIAL],
+    );
+    write_serial(
+        key / Identifier::PAIRS,
+        &mut text[Identifier::SERIAL..Identifier::LAST],
+    );
+    write_pair(
+        key % Identifier::PAIRS,
+        &mut text[Identifier::LAST..Identifier::LENGTH],
+    );
+}

@@ -1,0 +1,3 @@
+pub mod Halve
+pub mod Shift
+pub mod Operations

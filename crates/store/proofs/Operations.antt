@@ -1,0 +1,86 @@
+-- What each operation of the store does, from what the search for the key found. Assumes nothing.
+use Prim.Native.Nat.{ℕ, _+_, _-_, _≤_, _<_, min}
+use native.Mathlib.Omega.{arith}
+use mathlib.Core.Bool.{Bool, true, false, cond, _&&_, _||_}
+use mathlib.Core.Path.{_≡_, sym, ap, _∙_}
+use mathlib.Core.List.{List}
+use borrow.Author.Tests.{ltb-true, leb-false}
+use lib.ListN.{length, getD, set}
+use lib.Dec.{ltb, leb, eqb}
+use Rattle.model.specs.Store.{Store, inUse, halve, placeOf, holds, lookUp, insert, remove, replace, shiftUp, shiftDown}
+use Rattle.store.specs.declared.Found.{Found}
+use Rattle.store.specs.Lists.{storeOf}
+use Rattle.store.specs.Find.{Finds}
+use Rattle.store.proofs.Halve.{first-true}
+
+-- Steps that go as the definitions do find what the definitions say: each result is put for the one before.
+pub finds : (key : ℕ) (st : Store) (both : ℕ) (found : Found) → both ≡ min (length (st .keys)) (length (st .chutes))
+    → found .in_use ≡ min (st .used) both → found .at ≡ halve (found .in_use) (st .keys) key 0 (found .in_use)
+    → found .at ≤ found .in_use → found .held ≡ (ltb (found .at) (found .in_use) && eqb (getD (st .keys) (found .at) 0) key)
+    → Finds key st found
+unfolding inUse placeOf holds
+finds key st both found b u p within h =
+    let in-use : found .in_use ≡ inUse st = cc in
+    let place : found .at ≡ placeOf key st = rw in-use at p in
+    record { in-use = in-use; place = place; held = rw (in-use, place) at h; within = within }
+
+-- A test picks what its value picks.
+picked : {A : Type 0} (x y : A) {b c : Bool} → b ≡ c → cond c x y ≡ cond b x y
+picked x y e = ap (λ b. cond b x y) (sym e)
+
+-- A key that is held stands at a place in use: that is the first test.
+held-in-use : (key : ℕ) (st : Store) → holds key st ≡ true → placeOf key st < inUse st
+unfolding holds
+held-in-use key st held =
+    ltb-true (placeOf key st) (inUse st) (first-true (ltb (placeOf key st) (inUse st)) (eqb (getD (st .keys) (placeOf key st) 0) key) held)
+
+module _ {key : ℕ} {st : Store} {found : Found} (f : Finds key st found) where
+  -- A key that is held stands at a place in use, and both lists have the places in use.
+  pub held-within : found .held ≡ true
+      → (found .at < found .in_use) × (found .in_use ≤ length (st .keys)) × (found .in_use ≤ length (st .chutes))
+  unfolding inUse
+  held-within held = rw (f .in-use, f .place) (held-in-use key st (sym (f .held) ∙ held), omega arith, omega arith)
+
+  -- Each operation picks by whether the key is held, and the search found that and the place.
+  pub looked-up : found .held ≡ true → getD (st .chutes) (found .at) 0 ≡ lookUp key st
+  unfolding lookUp
+  looked-up held = rw (f .place) (picked _ _ (sym (f .held) ∙ held))
+
+  pub looked-up-none : found .held ≡ false → 0 ≡ lookUp key st
+  unfolding lookUp
+  looked-up-none absent = picked _ _ (sym (f .held) ∙ absent)
+
+  module _ {both : ℕ} (b : both ≡ min (length (st .keys)) (length (st .chutes))) where
+    -- Where a place is left, both lists have one more place than are in use.
+    pub room-within : leb both (found .in_use) ≡ false
+        → (found .at ≤ found .in_use) × (found .in_use < length (st .keys)) × (found .in_use < length (st .chutes))
+    room-within left = omega (arith, f .within, leb-false both (found .in_use) left)
+
+    pub inserted : (chute : ℕ) {keys chutes : List ℕ} → (found .held || leb both (found .in_use)) ≡ false
+        → keys ≡ shiftUp (found .at) (found .in_use) key (st .keys) → chutes ≡ shiftUp (found .at) (found .in_use) chute (st .chutes)
+        → storeOf keys chutes (found .in_use + 1) ≡ insert key chute st
+    unfolding insert
+    inserted chute e k c = rw (k, c, f .place, f .in-use) (picked _ _ (rw (b, f .held, f .in-use) at e))
+
+    pub not-inserted : (chute : ℕ) → (found .held || leb both (found .in_use)) ≡ true → st ≡ insert key chute st
+    unfolding insert
+    not-inserted chute e = picked _ _ (rw (b, f .held, f .in-use) at e)
+
+  pub removed : {keys chutes : List ℕ} → found .held ≡ true
+      → keys ≡ shiftDown (found .at) (found .in_use) (st .keys) → chutes ≡ shiftDown (found .at) (found .in_use) (st .chutes)
+      → storeOf keys chutes (found .in_use - 1) ≡ remove key st
+  unfolding remove
+  removed held k c = rw (k, c, f .place, f .in-use) (picked _ _ (sym (f .held) ∙ held))
+
+  pub not-removed : found .held ≡ false → st ≡ remove key st
+  unfolding remove
+  not-removed absent = picked _ _ (sym (f .held) ∙ absent)
+
+  pub replaced : (chute : ℕ) → found .held ≡ true
+      → storeOf (st .keys) (set (st .chutes) (found .at) chute) (st .used) ≡ replace key chute st
+  unfolding replace
+  replaced chute held = rw (f .place) (picked _ _ (sym (f .held) ∙ held))
+
+  pub not-replaced : (chute : ℕ) → found .held ≡ false → st ≡ replace key chute st
+  unfolding replace
+  not-replaced chute absent = picked _ _ (sym (f .held) ∙ absent)

@@ -1,0 +1,31 @@
+-- `store::find` meets its contract: its callees find what the definitions say. Assumes nothing.
+use Rattle.store.specs.Lists.{storeOf}
+use Rattle.store.proofs.Operations.{finds}
+use borrow.Author.Needs.{needs}
+use Rattle.store.proofs.find.Statement.{statement}
+use Rattle.store.proofs.find.Tie as tie
+
+smaller-requires : tie.Need-smaller-requires
+smaller-requires c κs = search needs
+
+smaller-requires-2 : tie.Need-smaller-requires-2
+smaller-requires-2 c κs = search needs
+
+place-requires : tie.Need-place-requires
+place-requires c κs = search needs
+
+is-at-requires : tie.Need-is-at-requires
+is-at-requires c κs = search needs
+
+returns : tie.Need-returns
+returns c =
+    let start = c .before .before .before .before .before .before in
+    let both = c .before .before .before .smaller in
+    let n = c .before .before .smaller2 in
+    let place = c .before .place in
+    finds (start .args .key) (storeOf (start .args .keys .now) (start .args .chutes .now) (start .args .used)) (both .result) (record { in_use = n .result; at = place .result; held = c .is-at .result })
+    (both .ensures) (n .ensures) (place .ensures .0) (place .ensures .1) (c .is-at .ensures)
+
+pub find-spec : {M : Type 1} → statement M
+find-spec =
+    tie.close (tie.spec smaller-requires smaller-requires-2 place-requires is-at-requires returns)

@@ -1,0 +1,70 @@
+-- `store::insert` meets its contract: both lists are shifted up from the place found, where the key is not held and both have a place
+-- left. Assumes nothing.
+use native.Mathlib.Omega.{arith}
+use borrow.Author.Needs.{needs}
+use mathlib.Core.Logic.{⊎-elim}
+use Rattle.store.proofs.Operations.{room-within, inserted, not-inserted}
+use Rattle.store.proofs.insert.Statement.{statement}
+use Rattle.store.proofs.insert.Tie as tie
+
+smaller-requires : tie.Need-smaller-requires
+smaller-requires c κs = search needs
+
+find-requires : tie.Need-find-requires
+find-requires c κs = search needs
+
+same-length : tie.Need-same-length
+same-length c = search needs
+
+same-length-2 : tie.Need-same-length-2
+same-length-2 c = search needs
+
+returns : tie.Need-returns
+returns c =
+    not-inserted (c .before .find .ensures) (c .before .before .before .before .smaller .ensures) (c .before .before .before .before .before .before .before .args .chute)
+    (⊎-elim (λ w. rw (w .taken)) (λ w. rw (w .0 .left) (w .1 .taken)) (c .if1 .came))
+
+shift-up-keys-requires : tie.Need-shift-up-keys-requires
+shift-up-keys-requires c κs =
+    let free = c .before in
+    omega (arith, room-within (free .before .before .find .ensures) (free .before .before .before .before .before .smaller .ensures) (free .if2 .left))
+
+shift-up-chutes-requires : tie.Need-shift-up-chutes-requires
+shift-up-chutes-requires c κs =
+    let free = c .before .before .before .before .before in
+    omega (arith, room-within (free .before .before .find .ensures) (free .before .before .before .before .before .smaller .ensures) (free .if2 .left))
+
+add-result : tie.Need-add-result
+add-result c =
+    let free = c .before .before .before .before .before .before .before .before in
+    let start = free .before .before .before .before .before .before .before .before in
+    omega (arith, room-within (free .before .before .find .ensures) (free .before .before .before .before .before .smaller .ensures) (free .if2 .left), start .good)
+
+same-length-3 : tie.Need-same-length-3
+same-length-3 c = search needs
+
+same-length-4 : tie.Need-same-length-4
+same-length-4 c = search needs
+
+returns-2 : tie.Need-returns-2
+returns-2 c =
+    let free = c .before .before .before .before .before .before .before .before in
+    let start = free .before .before .before .before .before .before .before .before in
+    inserted (free .before .before .find .ensures) (free .before .before .before .before .before .smaller .ensures) (start .args .chute)
+    (rw (free .before .if1 .left) (free .if2 .left)) (c .before .before .before .before .before .before .shift-up-keys .ensures) (c .before .before .shift-up-chutes .ensures)
+
+pub insert-spec : {M : Type 1} → statement M
+insert-spec =
+    tie.close
+    (tie.spec
+    smaller-requires
+    find-requires
+    same-length
+    same-length-2
+    returns
+    shift-up-keys-requires
+    shift-up-chutes-requires
+    add-result
+    same-length-3
+    same-length-4
+    returns-2)

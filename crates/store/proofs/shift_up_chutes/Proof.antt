@@ -1,0 +1,69 @@
+-- `store::shift_up_chutes` meets its contract, by what `Shift` says of its loop. The measure is the free place. Assumes nothing.
+use native.Mathlib.Omega.{arith}
+use lib.ListN.{length-set}
+use Rattle.store.proofs.Shift.{ShiftingUp, shifting-up-begins, shifting-up-goes-on, shifting-up-ends}
+use Rattle.store.proofs.shift_up_chutes.Statement.{statement}
+use Rattle.store.proofs.shift_up_chutes.Tie as tie
+
+abbrev Inv-loop : tie.InvT-loop
+Inv-loop chutes₀ p n chute i₀ chutes i = ShiftingUp chutes₀ p n chute chutes i
+
+abbrev μ-loop : tie.MeasureT-loop
+μ-loop chutes₀ p n chute i₀ chutes i = i
+
+loop-holds : tie.Need-loop-holds Inv-loop μ-loop
+loop-holds c = shifting-up-begins (c .args .chutes .now) (c .args .p) (c .args .n) (c .args .chute) (c .pre .0) (c .pre .1)
+
+sub-before : tie.Need-sub-before Inv-loop μ-loop
+sub-before c = omega arith
+
+mul-chutes : tie.Need-mul-chutes Inv-loop μ-loop
+mul-chutes c = omega arith
+
+slice-read-chutes : tie.Need-slice-read-chutes Inv-loop μ-loop
+slice-read-chutes c = omega arith
+
+mul-chutes-2 : tie.Need-mul-chutes-2 Inv-loop μ-loop
+mul-chutes-2 c = omega arith
+
+slice-write-chutes : tie.Need-slice-write-chutes Inv-loop μ-loop
+slice-write-chutes c = omega arith
+
+loop-less : tie.Need-loop-less Inv-loop μ-loop
+loop-less c = omega arith
+
+loop-again : tie.Need-loop-again Inv-loop μ-loop
+loop-again c =
+    let loop = c .before .before .loop in
+    shifting-up-goes-on (loop .inv) (c .before .before .before .pre .1) (c .before .loop-test .taken)
+
+mul-chutes-3 : tie.Need-mul-chutes-3 Inv-loop μ-loop
+mul-chutes-3 c = omega arith
+
+slice-write-chutes-2 : tie.Need-slice-write-chutes-2 Inv-loop μ-loop
+slice-write-chutes-2 c = omega arith
+
+same-length : tie.Need-same-length Inv-loop μ-loop
+same-length c = simp length-set (c .before .loop .inv .same-length)
+
+returns : tie.Need-returns Inv-loop μ-loop
+returns c = shifting-up-ends (c .before .loop .inv) (c .loop-test .left)
+
+pub shift-up-chutes-spec : {M : Type 1} → statement M
+shift-up-chutes-spec =
+    tie.close
+    (tie.spec
+    Inv-loop
+    μ-loop
+    loop-holds
+    sub-before
+    mul-chutes
+    slice-read-chutes
+    mul-chutes-2
+    slice-write-chutes
+    loop-less
+    loop-again
+    mul-chutes-3
+    slice-write-chutes-2
+    same-length
+    returns)

@@ -1,0 +1,69 @@
+-- `store::shift_up_keys` meets its contract, by what `Shift` says of its loop. The measure is the free place. Assumes nothing.
+use native.Mathlib.Omega.{arith}
+use lib.ListN.{length-set}
+use Rattle.store.proofs.Shift.{ShiftingUp, shifting-up-begins, shifting-up-goes-on, shifting-up-ends}
+use Rattle.store.proofs.shift_up_keys.Statement.{statement}
+use Rattle.store.proofs.shift_up_keys.Tie as tie
+
+abbrev Inv-loop : tie.InvT-loop
+Inv-loop keys₀ p n key i₀ keys i = ShiftingUp keys₀ p n key keys i
+
+abbrev μ-loop : tie.MeasureT-loop
+μ-loop keys₀ p n key i₀ keys i = i
+
+loop-holds : tie.Need-loop-holds Inv-loop μ-loop
+loop-holds c = shifting-up-begins (c .args .keys .now) (c .args .p) (c .args .n) (c .args .key) (c .pre .0) (c .pre .1)
+
+sub-before : tie.Need-sub-before Inv-loop μ-loop
+sub-before c = omega arith
+
+mul-keys : tie.Need-mul-keys Inv-loop μ-loop
+mul-keys c = omega arith
+
+slice-read-keys : tie.Need-slice-read-keys Inv-loop μ-loop
+slice-read-keys c = omega arith
+
+mul-keys-2 : tie.Need-mul-keys-2 Inv-loop μ-loop
+mul-keys-2 c = omega arith
+
+slice-write-keys : tie.Need-slice-write-keys Inv-loop μ-loop
+slice-write-keys c = omega arith
+
+loop-less : tie.Need-loop-less Inv-loop μ-loop
+loop-less c = omega arith
+
+loop-again : tie.Need-loop-again Inv-loop μ-loop
+loop-again c =
+    let loop = c .before .before .loop in
+    shifting-up-goes-on (loop .inv) (c .before .before .before .pre .1) (c .before .loop-test .taken)
+
+mul-keys-3 : tie.Need-mul-keys-3 Inv-loop μ-loop
+mul-keys-3 c = omega arith
+
+slice-write-keys-2 : tie.Need-slice-write-keys-2 Inv-loop μ-loop
+slice-write-keys-2 c = omega arith
+
+same-length : tie.Need-same-length Inv-loop μ-loop
+same-length c = simp length-set (c .before .loop .inv .same-length)
+
+returns : tie.Need-returns Inv-loop μ-loop
+returns c = shifting-up-ends (c .before .loop .inv) (c .loop-test .left)
+
+pub shift-up-keys-spec : {M : Type 1} → statement M
+shift-up-keys-spec =
+    tie.close
+    (tie.spec
+    Inv-loop
+    μ-loop
+    loop-holds
+    sub-before
+    mul-keys
+    slice-read-keys
+    mul-keys-2
+    slice-write-keys
+    loop-less
+    loop-again
+    mul-keys-3
+    slice-write-keys-2
+    same-length
+    returns)

@@ -1,0 +1,217 @@
+//! Commands and command lists as bytes, and the dependence of two commands.
+
+use crate::identifier;
+use crate::refusal::Refusal;
+
+/// Bytes in a command: the kind, the identifier, and the chute, high byte first.
+pub const LENGTH: usize = 16;
+/// The largest chute; the smallest is 1, and 0 stands for none.
+pub const LARGEST_CHUTE: u16 = 512;
+
+/// What a command does; the value of each is its number in document 01.
+#[derive(Clone, Copy, Debug, PartialEq, Eq)]
+pub enum Kind {
+    Insert = 1,
+    Delete = 2,
+    Read = 3,
+    Update = 4,
+}
+
+impl Kind {
+    pub const ALL: [Kind; 4] = [Kind::Insert, Kind::Delete, Kind::Read, Kind::Update];
+
+    pub fn from_number(number: u8) -> Option<Kind> {
+        Kind::ALL.into_iter().find(|kind| kind.number() == number)
+    }
+
+    pub fn number(self) -> u8 {
+        self as u8
+    }
+
+    /// Whether commands of this kind carry a chute.
+    pub fn carries_chute(self) -> bool {
+        matches!(self, Kind::Insert | Kind::Update)
+    }
+}
+
+#[derive(Clone, Copy, Debug, PartialEq, Eq)]
+pub struct Command {
+    pub kind: Kind,
+    pub key: u64,
+    /// 0 where the kind carries none.
+    pub chute: u16,
+}
+
+/// The first refused command of a list: its sequence number, from 1, and why.
+#[derive(Clone, Copy, Debug, PartialEq, Eq)]
+pub struct ListRefusal {
+    pub seq: usize,
+    pub refusal: Refusal,
+}
+
+/// Reads one command, or refuses it with 7, 8, 9 or 10, tested in that order.
+///
+/// A part that is not 16 bytes long is refused for the first thing it lacks or has too much of.
+pub fn read(part: &[u8]) -> Result<Command, Refusal> {
+    let (kind, rest) = part.split_first().ok_or(Refusal::Kind)?;
+    let kind = Kind::from_number(*kind).ok_or(Refusal::Kind)?;
+    let (text, chute) = rest
+        .split_at_checked(identifier::LENGTH)
+        .ok_or(Refusal::Identifier)?;
+    let key = identifier::read(text)?;
+    let chute = read_chute(kind, chute).ok_or(Refusal::Chute)?;
+    Ok(Command { kind, key, chute })
+}
+
+/// Reads a list of commands, or refuses it at its first refused command.
+///
+/// Each part has 16 bytes; the last may be shorter and is read as the others are.
+pub fn read_list(list: &[u8]) -> Result<Vec<Command>, ListRefusal> {
+    list.chunks(LENGTH)
+        .enumerate()
+        .map(|(index, part)| {
+            read(part).map_err(|refusal| ListRefusal {
+                seq: index + 1,
+                refusal,
+            })
+        })
+        .collect()
+}
+
+/// Whether two commands must keep their order.
+pub fn dependent(first: &Command, second: &Command) -> bool {
+    let same_key = first.key == second.key;
+    match (first.kind, second.kind) {
+        (Kind::Insert | Kind::Delete, _) | (_, Kind::Insert | Kind::Delete) => true,
+        (Kind::Read, Kind::Read) => false,
+        (Kind::Update, Kind::Update | Kind::Read) | (Kind::Read, Kind::Update) => same_key,
+    }
+}
+
+fn read_chute(kind: Kind, bytes: &[u8]) -> Option<u16> {
+    let chute = u16::from_be_bytes(bytes.try_into().ok()?);
+    let right = if kind.carries_chute() {
+        (1..=LARGEST_CHUTE).contains(&chute)
+    } else {
+        chute == 0
+    };
+    right.then_some(chute)
+}
+
+#[cfg(test)]
+mod tests {
+    use super::*;
+
+    const FIRST: &[u8] = b"AA000000005AA";
+
+    fn bytes(kind: u8, text: &[u8], chute: &[u8]) -> Vec<u8> {
+        [&[kind], text, chute].concat()
+    }
+
+    fn command(kind: Kind, key: u64) -> Command {
+        let chute = if kind.carries_chute() { 7 } else { 0 };
+        Command { kind, key, chute }
+    }
+
+    /// Document 01, the two commands of the program's example.
+    #[test]
+    fn the_commands_of_the_example_are_read() {
+        let list = [bytes(1, FIRST, &[0, 7]), bytes(3, FIRST, &[0, 0])].concat();
+        let commands = vec![command(Kind::Insert, 0), command(Kind::Read, 0)];
+        assert_eq!(read_list(&list), Ok(commands));
+    }
+
+    /// Document 01, the examples of refusals 7 to 10.
+    #[test]
+    fn the_examples_of_refusal_are_refused() {
+        let cases = [
+            (bytes(0, FIRST, &[0, 0]), Refusal::Kind),
+            (bytes(3, b"Aa000000005AA", &[0, 0]), Refusal::Identifier),
+            (bytes(3, b"AA000000004AA", &[0, 0]), Refusal::CheckDigit),
+            (bytes(1, FIRST, &[2, 1]), Refusal::Chute),
+            (bytes(3, FIRST, &[0, 1]), Refusal::Chute),
+        ];
+        for (part, refusal) in cases {
+            assert_eq!(read(&part), Err(refusal), "{part:?}");
+        }
+    }
+
+    /// Document 01, section "Command list and store": the ends of the chutes for each kind.
+    #[test]
+    fn each_kind_takes_its_own_chutes() {
+        for kind in Kind::ALL {
+            let accepted = [0, 1, 512, 513, 65_535]
+                .map(|chute: u16| read(&bytes(kind.number(), FIRST, &chute.to_be_bytes())).is_ok());
+            let expected = match kind {
+                Kind::Insert | Kind::Update => [false, true, true, false, false],
+                Kind::Delete | Kind::Read => [true, false, false, false, false],
+            };
+            assert_eq!(accepted, expected, "{kind:?}");
+        }
+    }
+
+    /// A part of another length is refused for the first thing that is wrong with it.
+    #[test]
+    fn parts_of_other_lengths_are_refused() {
+        let whole = bytes(3, FIRST, &[0, 0, 0]);
+        assert_eq!(read(&[]), Err(Refusal::Kind));
+        assert_eq!(read(&whole[..1]), Err(Refusal::Identifier));
+        assert_eq!(read(&whole[..13]), Err(Refusal::Identifier));
+        assert_eq!(read(&whole[..14]), Err(Refusal::Chute));
+        assert_eq!(read(&whole[..15]), Err(Refusal::Chute));
+        assert_eq!(read(&whole[..16]), Ok(command(Kind::Read, 0)));
+        assert_eq!(read(&whole[..17]), Err(Refusal::Chute));
+    }
+
+    /// Document 01, section "Numbers of refusal": the first refused command, by its place from 1.
+    #[test]
+    fn a_list_is_refused_at_its_first_refused_command() {
+        let good = bytes(3, FIRST, &[0, 0]);
+        let list = [&good[..], &bytes(3, FIRST, &[0, 1]), &[0]].concat();
+        let refused = |seq, refusal| Err(ListRefusal { seq, refusal });
+        assert_eq!(read_list(&list), refused(2, Refusal::Chute));
+        let list = [&good[..], &good[..5]].concat();
+        assert_eq!(read_list(&list), refused(2, Refusal::Identifier));
+        assert_eq!(read_list(&[]), Ok(vec![]));
+    }
+
+    /// Whether a command of kind `first` on key 5 and one on `key` are dependent.
+    fn pair(first: Kind, second: Kind, key: u64) -> bool {
+        dependent(&command(first, 5), &command(second, key))
+    }
+
+    /// Document 01, marked case (f).
+    #[test]
+    fn two_reads_of_one_key_are_independent() {
+        assert!(!pair(Kind::Read, Kind::Read, 5));
+    }
+
+    /// Document 01, marked case (g).
+    #[test]
+    fn an_update_and_a_read_of_one_key_are_dependent() {
+        assert!(pair(Kind::Update, Kind::Read, 5));
+        assert!(pair(Kind::Read, Kind::Update, 5));
+    }
+
+    /// Document 01, marked case (h).
+    #[test]
+    fn an_insert_and_a_read_of_another_key_are_dependent() {
+        assert!(pair(Kind::Insert, Kind::Read, 6));
+        assert!(pair(Kind::Read, Kind::Insert, 6));
+    }
+
+    /// Document 01, section "Command list and store": all pairs of kinds, in the order insert,
+    /// delete, read, update, for one key and for two.
+    #[test]
+    fn dependence_is_as_the_document_lists_it() {
+        let row = |first, key| Kind::ALL.map(|second| pair(first, second, key));
+        for key in [5, 6] {
+            assert_eq!(row(Kind::Insert, key), [true; 4]);
+            assert_eq!(row(Kind::Delete, key), [true; 4]);
+        }
+        assert_eq!(row(Kind::Read, 5), [true, true, false, true]);
+        assert_eq!(row(Kind::Read, 6), [true, true, false, false]);
+        assert_eq!(row(Kind::Update, 5), [true; 4]);
+        assert_eq!(row(Kind::Update, 6), [true, true, false, false]);
+    }
+}

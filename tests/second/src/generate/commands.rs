@@ -1,0 +1,142 @@
+//! Cases for reading one command, and commands for lists and pairs.
+
+use super::{every_byte_everywhere, every_length, random_key, repeat, text, with_byte};
+use crate::case::Case;
+use crate::command::{Kind, LARGEST_CHUTE, LENGTH};
+use crate::identifier::{self, CHECK_DIGIT, LETTERS};
+use crate::random::Random;
+
+/// Chutes at their bounds, and with the bound in one byte only.
+const CHUTES: [u16; 14] = [
+    0, 1, 2, 255, 256, 257, 511, 512, 513, 514, 768, 1024, 32_768, 65_535,
+];
+
+/// Where the identifier stands in a command.
+const TEXT: usize = 1;
+/// Where the chute stands in a command.
+const CHUTE: usize = 14;
+
+/// Sets of faults are 0 to 15, one bit for each fault; 0 is no fault.
+const FAULT_SETS: u8 = 16;
+const WRONG_KIND: u8 = 1;
+const WRONG_CHARACTER: u8 = 2;
+const WRONG_CHECK_DIGIT: u8 = 4;
+const WRONG_CHUTE: u8 = 8;
+
+pub fn cases(random: &mut Random) -> Vec<Case> {
+    let bases = Kind::ALL.map(|kind| command(random, kind));
+    let parts = [
+        repeat(6_000, random, random_command),
+        bases
+            .iter()
+            .flat_map(|base| every_byte_everywhere(base))
+            .collect(),
+        bases.iter().flat_map(|base| every_length(base)).collect(),
+        bases
+            .iter()
+            .flat_map(|base| every_small_chute(base))
+            .collect(),
+        repeat(10, random, every_kind_and_chute).concat(),
+        repeat(500, random, every_fault_set).concat(),
+        repeat(200, random, |random| every_length(&random_command(random))).concat(),
+        repeat(1_000, random, |random| random.bytes(LENGTH)),
+    ];
+    parts.concat().into_iter().map(Case::ReadCommand).collect()
+}
+
+/// A right command of some kind.
+pub fn random_command(random: &mut Random) -> Vec<u8> {
+    let kind = random.pick(&Kind::ALL);
+    command(random, kind)
+}
+
+/// A right command of this kind.
+fn command(random: &mut Random, kind: Kind) -> Vec<u8> {
+    let key = random_key(random);
+    with_key(random, kind, key)
+}
+
+/// A right command of this kind and key.
+pub fn with_key(random: &mut Random, kind: Kind, key: u64) -> Vec<u8> {
+    let chute = if kind.carries_chute() {
+        1 + random.below(LARGEST_CHUTE.into()) as u16
+    } else {
+        0
+    };
+    encode(kind.number(), &text(key), chute)
+}
+
+/// A command that is right, or has any set of faults.
+pub fn perhaps_wrong(random: &mut Random) -> Vec<u8> {
+    let faults = random.below(2) * random.below(FAULT_SETS.into());
+    with_faults(random, faults as u8)
+}
+
+/// A command with these faults.
+pub fn with_faults(random: &mut Random, faults: u8) -> Vec<u8> {
+    let mut bytes = random_command(random);
+    if faults & WRONG_CHUTE != 0 {
+        let chute = random.pick(wrong_chutes(bytes[0]));
+        bytes[CHUTE..].copy_from_slice(&chute.to_be_bytes());
+    }
+    if faults & WRONG_CHECK_DIGIT != 0 {
+        let digit = &mut bytes[TEXT + CHECK_DIGIT];
+        *digit = b'0' + (*digit - b'0' + 1 + random.below(9) as u8) % 10;
+    }
+    if faults & WRONG_CHARACTER != 0 {
+        let (position, character) = wrong_character(random);
+        bytes[TEXT + position] = character;
+    }
+    if faults & WRONG_KIND != 0 {
+        bytes[0] = random.pick(&[0, 5, 6, 255]);
+    }
+    bytes
+}
+
+fn encode(kind: u8, text: &[u8], chute: u16) -> Vec<u8> {
+    [&[kind], text, &chute.to_be_bytes()].concat()
+}
+
+fn wrong_chutes(kind: u8) -> &'static [u16] {
+    if kind == Kind::Insert.number() || kind == Kind::Update.number() {
+        &[0, 513, 514, 768, 65_535]
+    } else {
+        &[1, 2, 256, 512, 513, 65_535]
+    }
+}
+
+/// A position in an identifier, and a character that is wrong there.
+fn wrong_character(random: &mut Random) -> (usize, u8) {
+    let position = random.below(identifier::LENGTH as u64) as usize;
+    let wrong = if LETTERS.contains(&position) {
+        b"@[az09"
+    } else {
+        b"/:AZaz"
+    };
+    (position, random.pick(wrong))
+}
+
+/// `base` with each chute from 0 to 1,024.
+fn every_small_chute(base: &[u8]) -> Vec<Vec<u8>> {
+    (0..=1024u16)
+        .map(|chute| [&base[..CHUTE], &chute.to_be_bytes()].concat())
+        .collect()
+}
+
+/// One identifier with each of the 256 kinds and each of the listed chutes.
+fn every_kind_and_chute(random: &mut Random) -> Vec<Vec<u8>> {
+    let text = text(random_key(random));
+    CHUTES
+        .iter()
+        .flat_map(|chute| {
+            let with_chute = encode(0, &text, *chute);
+            (0..=u8::MAX).map(move |kind| with_byte(&with_chute, 0, kind))
+        })
+        .collect()
+}
+
+fn every_fault_set(random: &mut Random) -> Vec<Vec<u8>> {
+    (0..FAULT_SETS)
+        .map(|faults| with_faults(random, faults))
+        .collect()
+}

@@ -1,0 +1,146 @@
+//! The serial run: commands one after another in delivered order, on one store.
+
+use std::collections::BTreeMap;
+
+use crate::command::{Command, Kind};
+
+/// The answer of a command that did what it says; a read's answer is the chute instead.
+pub const DONE: u16 = 1000;
+/// Insert: the item is already present.
+pub const ALREADY_PRESENT: u16 = 1001;
+/// Delete, read or update: there is no such item.
+pub const NO_SUCH_ITEM: u16 = 1002;
+/// Insert: the store is full.
+pub const STORE_FULL: u16 = 1003;
+
+/// What a serial run leaves: one answer a command, and the chute of each key still there.
+#[derive(Clone, Debug, Default, PartialEq, Eq)]
+pub struct Outcome {
+    pub answers: Vec<u16>,
+    pub entries: BTreeMap<u64, u16>,
+}
+
+/// Entries laid out as the store is: ascending keys and their chutes, then 0 up to the capacity.
+#[derive(Clone, Debug, PartialEq, Eq)]
+pub struct Table {
+    pub keys: Vec<u64>,
+    pub chutes: Vec<u16>,
+    pub used: usize,
+}
+
+/// Runs the commands in order on an empty store with room for `capacity` entries.
+pub fn run(capacity: usize, commands: &[Command]) -> Outcome {
+    let mut outcome = Outcome::default();
+    for command in commands {
+        let answer = apply(capacity, &mut outcome.entries, command);
+        outcome.answers.push(answer);
+    }
+    outcome
+}
+
+/// Lays entries out in a table of `capacity` places; there are no more entries than that.
+pub fn table(capacity: usize, entries: &BTreeMap<u64, u16>) -> Table {
+    let mut keys: Vec<u64> = entries.keys().copied().collect();
+    let mut chutes: Vec<u16> = entries.values().copied().collect();
+    keys.resize(capacity, 0);
+    chutes.resize(capacity, 0);
+    Table {
+        keys,
+        chutes,
+        used: entries.len(),
+    }
+}
+
+fn apply(capacity: usize, entries: &mut BTreeMap<u64, u16>, command: &Command) -> u16 {
+    match (command.kind, entries.get(&command.key).copied()) {
+        (Kind::Insert, Some(_)) => return ALREADY_PRESENT,
+        (Kind::Insert, None) if entries.len() >= capacity => return STORE_FULL,
+        (Kind::Delete | Kind::Read | Kind::Update, None) => return NO_SUCH_ITEM,
+        (Kind::Read, Some(chute)) => return chute,
+        (Kind::Delete, Some(_)) => entries.remove(&command.key),
+        (Kind::Insert, None) | (Kind::Update, Some(_)) => {
+            entries.insert(command.key, command.chute)
+        }
+    };
+    DONE
+}
+
+#[cfg(test)]
+mod tests {
+    use super::*;
+
+    fn insert(key: u64, chute: u16) -> Command {
+        command(Kind::Insert, key, chute)
+    }
+
+    fn command(kind: Kind, key: u64, chute: u16) -> Command {
+        Command { kind, key, chute }
+    }
+
+    /// Document 01, marked case (i).
+    #[test]
+    fn an_insert_of_a_present_item_into_a_full_store_answers_1001() {
+        let outcome = run(1, &[insert(5, 7), insert(5, 8)]);
+        assert_eq!(outcome.answers, [1000, 1001]);
+        assert_eq!(outcome.entries, BTreeMap::from([(5, 7)]));
+    }
+
+    /// Document 01, marked case (j).
+    #[test]
+    fn an_insert_of_an_absent_item_into_a_full_store_answers_1003() {
+        let outcome = run(1, &[insert(5, 7), insert(6, 8)]);
+        assert_eq!(outcome.answers, [1000, 1003]);
+        assert_eq!(outcome.entries, BTreeMap::from([(5, 7)]));
+    }
+
+    /// Document 01, the program's example; key 0 is a real item.
+    #[test]
+    fn the_commands_of_the_example_answer_1000_and_7() {
+        let outcome = run(4, &[insert(0, 7), command(Kind::Read, 0, 0)]);
+        assert_eq!(outcome.answers, [1000, 7]);
+        let expected = Table {
+            keys: vec![0; 4],
+            chutes: vec![7, 0, 0, 0],
+            used: 1,
+        };
+        assert_eq!(table(4, &outcome.entries), expected);
+    }
+
+    /// Document 01, section "The serial run and demand 3": each kind with its key absent.
+    #[test]
+    fn commands_on_an_absent_item_answer_1002() {
+        let outcome = run(
+            1,
+            &[
+                command(Kind::Delete, 5, 0),
+                command(Kind::Read, 5, 0),
+                command(Kind::Update, 5, 9),
+            ],
+        );
+        assert_eq!(outcome.answers, [1002; 3]);
+        assert!(outcome.entries.is_empty());
+    }
+
+    /// Document 01, section "Command list and store": keys ascend, and freed places serve again.
+    #[test]
+    fn entries_ascend_and_freed_places_serve_again() {
+        let outcome = run(
+            2,
+            &[
+                insert(9, 1),
+                insert(3, 2),
+                command(Kind::Delete, 9, 0),
+                insert(1, 512),
+                command(Kind::Update, 3, 4),
+                command(Kind::Read, 3, 0),
+            ],
+        );
+        assert_eq!(outcome.answers, [1000, 1000, 1000, 1000, 1000, 4]);
+        let expected = Table {
+            keys: vec![1, 3],
+            chutes: vec![512, 4],
+            used: 2,
+        };
+        assert_eq!(table(2, &outcome.entries), expected);
+    }
+}
