@@ -2,22 +2,13 @@
 use Prim.Native.Nat.{ℕ, _+_, _*_, _^_}
 use mathlib.Core.Bool.{cond}
 use Rattle.s10.specs.Outcome as Identifier
-use Rattle.command.specs.declared.Kind.{Kind}
-use Rattle.command.specs.declared.Kind.the-variants.{Insert, Delete, Read, Update}
-use Rattle.command.specs.Read.{Outcome, accepted, refused, ListOutcome, allAccepted, refusedAt}
+use Rattle.command.specs.Read.{kindNumber, Outcome, accepted, refused, ListOutcome, allAccepted, refusedAt}
 use Rattle.command.specs.Dependent.{areDependent}
 
 -- refusal number × 2^56 + key; the key is 0 on refusal
 abbrev pub packIdentifier : Identifier.Outcome → ℕ
 packIdentifier (Identifier.accepted key) = key
 packIdentifier (Identifier.refused n) = n * 2 ^ 56
-
--- "1 insert, 2 delete, 3 read, 4 update"
-unfoldable pub kindNumber : Kind → ℕ
-kindNumber Insert = 1
-kindNumber Delete = 2
-kindNumber Read = 3
-kindNumber Update = 4
 
 -- refusal number × 2^60 + kind × 2^57 + chute × 2^47 + key; the rest is 0 on refusal
 abbrev pub packCommand : Outcome → ℕ

@@ -1,6 +1,5 @@
 -- `leaves_c::kind_number` meets its contract: each arm answers the definition's number. Assumes nothing.
 use borrow.Author.Needs.{needs}
-use Rattle.leaves_c.specs.Pack.{kindNumber}
 use Rattle.leaves_c.proofs.kind_number.Statement.{statement}
 use Rattle.leaves_c.proofs.kind_number.Tie as tie
 
@@ -17,19 +16,15 @@ enum-told-4 : tie.Need-enum-told-4
 enum-told-4 c = search needs
 
 returns : tie.Need-returns
-unfolding kindNumber
 returns c = search needs
 
 returns-2 : tie.Need-returns-2
-unfolding kindNumber
 returns-2 c = search needs
 
 returns-3 : tie.Need-returns-3
-unfolding kindNumber
 returns-3 c = search needs
 
 returns-4 : tie.Need-returns-4
-unfolding kindNumber
 returns-4 c = search needs
 
 pub kind-number-spec : {M : Type 1} → statement M
