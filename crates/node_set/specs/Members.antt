@@ -1,10 +1,10 @@
 -- The waits-for set of document 01, "Records and turns": "The set is three 64-bit words". Node n is a member if bit n % 64
 -- of word n / 64 is set, so the nodes from 0 to 191 can be members. Assumes nothing.
 use Prim.Native.Nat.{ℕ, zero, suc, _+_, _/_, _%_, _^_}
-use mathlib.Core.Bool.{Bool, true, false, not, cond, _&&_}
+use mathlib.Core.Bool.{Bool, true, false, not, cond, _&&_, _||_}
 use mathlib.Core.List.{List}
 use lib.ListN.{getD}
-use lib.Dec.{eqb}
+use lib.Dec.{eqb, leb}
 
 -- bit b of a word
 unfoldable pub bit : ℕ → ℕ → Bool
@@ -28,3 +28,8 @@ countBelow (suc k) test = cond (test k) 1 0 + countBelow k test
 unfoldable pub wordOf : ℕ → (ℕ → Bool) → ℕ
 wordOf zero test = 0
 wordOf (suc k) test = cond (test k) (2 ^ k) 0 + wordOf k test
+
+-- whether none of the first k numbers that pass a test is above a limit
+unfoldable pub noneAbove : ℕ → ℕ → (ℕ → Bool) → Bool
+noneAbove zero limit test = true
+noneAbove (suc k) limit test = (not (test k) || leb k limit) && noneAbove k limit test

@@ -2,9 +2,9 @@
 // a larger number is never a member.
 ghost use mathlib.Core.Path.{_≡_};
 ghost use mathlib.Core.Bool.{Bool, false, not, _&&_, _||_};
-ghost use Prim.Native.Nat.{ℕ};
+ghost use Prim.Native.Nat.{ℕ, _-_, _^_};
 ghost use lib.Dec.{eqb, ltb};
-ghost use Rattle.node_set.specs.Members.{member, noneBelow, countBelow};
+ghost use Rattle.node_set.specs.Members.{member, noneBelow, countBelow, noneAbove};
 
 // A node of the graph, by its number ("record number" of document 01). Node 0 is the head.
 pub struct Node(pub u8);
@@ -56,4 +56,35 @@ pub fn count(set: [u64; 3]) -> u32
     ensures { λ r. ⌜ r ≡ countBelow 192 (member set) ⌝ }
 {
     u64::count_ones(set[0]) + u64::count_ones(set[1]) + u64::count_ones(set[2])
+}
+
+// Whether a word has no bit set from place `places` on.
+fn has_places(word: u64, places: u16) -> bool
+    ensures { λ r. ⌜ r ≡ ltb word (2 ^ places) ⌝ }
+{
+    if places >= 64 {
+        return true;
+    }
+    word >> places == 0
+}
+
+// How many of `places` are left after the first `passed`.
+fn left_after(places: u16, passed: u16) -> u16
+    ensures { λ r. ⌜ r ≡ places - passed ⌝ }
+{
+    if passed <= places { places - passed } else { 0 }
+}
+
+// Whether no member of the set is above a limit.
+pub fn is_within(set: [u64; 3], limit: u8) -> bool
+    ensures { λ r. ⌜ r ≡ noneAbove 192 limit (member set) ⌝ }
+{
+    let places = limit as u16 + 1;
+    if !has_places(set[0], places) {
+        return false;
+    }
+    if !has_places(set[1], left_after(places, 64)) {
+        return false;
+    }
+    has_places(set[2], left_after(places, 128))
 }

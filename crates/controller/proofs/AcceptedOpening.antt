@@ -1,0 +1,133 @@
+-- What an accepted opening has been tested for, and the lists that it leaves. Assumes nothing.
+use Prim.Native.Nat.{ℕ, zero, suc, _+_, _*_, _/_, _%_, _≤_}
+use native.Mathlib.Omega.{arith}
+use mathlib.Core.Path.{_≡_, refl, ap, _∙_, subst}
+use mathlib.Core.Bool.{Bool, true, false, cond, _&&_, and-eq-true-iff}
+use mathlib.Core.List.{List, [], _∷_, map}
+use mathlib.Core.Option.{some}
+use lib.ListN.{length, getD, take, drop, getElem?, length-map}
+use lib.Dec.{eqb, leb}
+use borrow.Author.Tests.{leb-true, eqb-true}
+use Rattle.s10.specs.Outcome.{readText}
+use Rattle.s10.specs.Outcome as Identifier
+use Rattle.command.specs.declared.Kind.{Kind}
+use Rattle.command.specs.declared.Command.{Command}
+use Rattle.command.specs.Read.{Outcome, accepted, refused, isKind, kindOf, chuteFits, chuteOf, withChute, readCommand, parts, partsOf, readings}
+use Rattle.command.specs.Read.{ListOutcome, allAccepted, refusedAt, firstRefusal}
+use Rattle.model.specs.Step.{Setup, opened, commandAt}
+use Rattle.model.specs.Statement.{Accepted}
+use Rattle.graph.specs.Items.{commandFrom, commandsIn}
+use Rattle.controller.specs.Layout.{Lists, listsOf}
+use Rattle.controller.specs.Calls as Calls
+use Rattle.controller.specs.Calls.{openedWith, openOn, lengthsFit}
+
+-- ---- commands
+
+-- there are as many commands as parts, and as many parts as 16 bytes go into the list
+parts-length : (n : ℕ) (bytes : List ℕ) → length (parts n bytes) ≡ n
+unfolding parts
+parts-length zero bytes = refl
+parts-length (suc n) bytes = ap suc (parts-length n (drop 16 bytes))
+
+pub commands-length : (bytes : List ℕ) → length bytes % 16 ≡ 0 → length (commandsIn bytes) ≡ length bytes / 16
+unfolding commandsIn readings partsOf
+commands-length bytes whole = rw (length-map, length-map, parts-length) (omega arith)
+
+-- a reading is accepted only where the chute fits
+chute-chosen : (kind : Kind) (found : Identifier.Outcome) (bytes : List ℕ) (command : Command) → withChute kind found bytes ≡ accepted command
+    → chuteFits (command .kind) (command .chute) ≡ true
+unfolding withChute
+chute-chosen kind (Identifier.accepted key) bytes command e = go (eqb (length bytes) 2 && chuteFits kind (chuteOf bytes)) refl e
+  where
+    go : (t : Bool) → (eqb (length bytes) 2 && chuteFits kind (chuteOf bytes)) ≡ t
+        → cond t (accepted (record { kind = kind; key = key; chute = chuteOf bytes })) (refused 10) ≡ accepted command → chuteFits (command .kind) (command .chute) ≡ true
+    go true t e =
+        let same : _≡_ {A = Command} (record { kind = kind; key = key; chute = chuteOf bytes }) command = cc in
+        subst (λ (c : Command). chuteFits (c .kind) (c .chute) ≡ true) same (and-eq-true-iff (eqb (length bytes) 2) (chuteFits kind (chuteOf bytes)) .0 t .1)
+    go false t e = let z : _≡_ {A = ℕ} 0 1 = cc in absurd (omega arith)
+chute-chosen kind (Identifier.refused n) bytes command e = let z : _≡_ {A = ℕ} 0 1 = cc in absurd (omega arith)
+
+-- so an accepted command's chute fits its kind
+accepted-chute-fits : (part : List ℕ) (command : Command) → readCommand part ≡ accepted command → chuteFits (command .kind) (command .chute) ≡ true
+unfolding readCommand
+accepted-chute-fits part command e = go (isKind (getD part 0 0)) e
+  where
+    go : (t : Bool) → cond t (withChute (kindOf (getD part 0 0)) (readText (take 13 (drop 1 part))) (drop 14 part)) (refused 7) ≡ accepted command
+        → chuteFits (command .kind) (command .chute) ≡ true
+    go true e = chute-chosen (kindOf (getD part 0 0)) (readText (take 13 (drop 1 part))) (drop 14 part) command e
+    go false e = let z : _≡_ {A = ℕ} 0 1 = cc in absurd (omega arith)
+
+-- where no reading is refused, each command was read so
+abbrev ChutesFit : List (List ℕ) → ℕ → Command → Type 0
+ChutesFit ps place command =
+    (i : ℕ) → firstRefusal place (map readCommand ps) ≡ allAccepted → getElem? (map commandFrom (map readCommand ps)) i ≡ some command
+    → chuteFits (command .kind) (command .chute) ≡ true
+
+chutes-fit : (ps : List (List ℕ)) (place : ℕ) (command : Command) → ChutesFit ps place command
+unfolding firstRefusal commandFrom
+chutes-fit [] place command i e at = let z : _≡_ {A = ℕ} 0 1 = cc in absurd (omega arith)
+chutes-fit (part ∷ ps) place command i e at = go (readCommand part) refl (chutes-fit ps (place + 1) command) i e at
+  where
+    go : (r : Outcome) → readCommand part ≡ r → ChutesFit ps (place + 1) command → (i : ℕ) → firstRefusal place (r ∷ map readCommand ps) ≡ allAccepted
+        → getElem? (commandFrom r ∷ map commandFrom (map readCommand ps)) i ≡ some command → chuteFits (command .kind) (command .chute) ≡ true
+    go (accepted c) r rest zero e at = let same : c ≡ command = cc in accepted-chute-fits part command (r ∙ ap accepted same)
+    go (accepted c) r rest (suc i) e at = rest i e at
+    go (refused n) r rest i e at = let z : _≡_ {A = ℕ} 0 1 = cc in absurd (omega arith)
+
+-- place by place
+commands-fit : (bytes : List ℕ) → firstRefusal 1 (readings bytes) ≡ allAccepted → (c : ℕ) (command : Command) → commandAt (commandsIn bytes) c ≡ some command
+    → chuteFits (command .kind) (command .chute) ≡ true
+unfolding commandsIn readings commandAt
+commands-fit bytes e zero command at = let z : _≡_ {A = ℕ} 0 1 = cc in absurd (omega arith)
+commands-fit bytes e (suc i) command at = chutes-fit (partsOf bytes) 1 command i e at
+
+-- ---- the opening
+
+-- a chain of tests is accepted where each passes
+pub passed : (t : Bool) (n : ℕ) {x : Calls.Outcome} {l : Lists} → cond t x (Calls.refused n 0) ≡ Calls.accepted l → (t ≡ true) × (x ≡ Calls.accepted l)
+passed true n e = (refl, e)
+passed false n e = let z : _≡_ {A = ℕ} 0 1 = cc in absurd (omega arith)
+
+-- the lists left are those of the opening state
+opened-lists : (r : ListOutcome) (o : Setup) (l : Lists) → openedWith r o ≡ Calls.accepted l → (r ≡ allAccepted) × (l ≡ listsOf o (opened o))
+unfolding openedWith
+opened-lists allAccepted o l e = (refl, cc)
+opened-lists (refusedAt n place) o l e = let z : _≡_ {A = ℕ} 0 1 = cc in absurd (omega arith)
+
+-- two tests bound a number
+range : (n high : ℕ) → (leb 1 n && leb n high) ≡ true → (1 ≤ n) × (n ≤ high)
+range n high e =
+    let each = and-eq-true-iff (leb 1 n) (leb n high) .0 e in
+    (leb-true 1 n (each .0), leb-true n high (each .1))
+
+-- an accepted opening's setup, its commands' length and the lists left
+pub record IsOpened (o : Setup) (commands : List ℕ) (l : Lists) : Type 0 where
+  pub setup : Accepted o
+  pub long : length commands ≡ 16 * length (o .commands)
+  pub lists : l ≡ listsOf o (opened o)
+
+-- test by test
+pub accepted-opening : (size workers capacity : ℕ) (commands : List ℕ) (lent l : Lists) → openOn size workers capacity commands lent ≡ Calls.accepted l
+    → IsOpened (record { size = size; workers = workers; capacity = capacity; commands = commandsIn commands }) commands l
+unfolding openOn
+accepted-opening size workers capacity commands lent l e =
+    let e1 = passed (leb 1 size && leb size 150) 1 e in
+    let e2 = passed (leb 1 workers && leb workers 64) 2 (e1 .1) in
+    let e3 = passed (leb 1 capacity && leb capacity 4096) 3 (e2 .1) in
+    let e4 = passed (eqb (length commands % 16) 0) 4 (e3 .1) in
+    let e5 = passed (leb (length commands / 16) 4096) 5 (e4 .1) in
+    let e6 = passed (lengthsFit capacity (length commands / 16) lent) 6 (e5 .1) in
+    let left = opened-lists (firstRefusal 1 (readings commands)) _ l (e6 .1) in
+    let whole = eqb-true (length commands % 16) 0 (e4 .0) in
+    let count = commands-length commands whole in
+    record {
+      setup = record {
+        size = range size 150 (e1 .0);
+        workers = range workers 64 (e2 .0);
+        capacity = range capacity 4096 (e3 .0);
+        count = omega (arith, leb-true (length commands / 16) 4096 (e5 .0));
+        chutes = commands-fit commands (left .0);
+      };
+      long = omega arith;
+      lists = left .1;
+    }

@@ -1,0 +1,159 @@
+-- Demand 3 over calls, proved: the lists kept are always those of the state that the performed schedules reach, so that the three parts of
+-- the model's theorem are read off them. Assumes nothing.
+use Prim.Native.Nat.{ℕ, zero, suc, _+_, _*_, _≤_, _<_}
+use native.Mathlib.Numerals.{add-one}
+use native.Mathlib.Omega.{arith}
+use mathlib.Core.Path.{_≡_, refl, sym, ap, _∙_}
+use mathlib.Core.Bool.{true, cond, _||_, or-true}
+use mathlib.Core.List.{List, [], _∷_, _++_, map, append-assoc, append-nil}
+use lib.ListN.{length, getD}
+use lib.Dec.{leb, ltb}
+use borrow.Author.Tests.{lt-ltb, le-leb}
+use Rattle.model.specs.Serial.{Entry}
+use Rattle.model.specs.Store.{layOut}
+use Rattle.model.specs.Step.{Setup, State, opened, steps}
+use Rattle.model.specs.Statement.{Accepted, allWithin, Holds}
+use Rattle.model.specs.Proof.Serial.{Ascending}
+use Rattle.model.specs.Proof.Service.{entries-ascending}
+use Rattle.model.specs.Proof.Finish.Schedule.{steps-append, within-append}
+use Rattle.model.specs.Proof.Theorem.{table-at-any-moment, demand-3}
+use Rattle.model.specs.Proof.Formed.{SetupFormed, Formed}
+use Rattle.model.specs.Proof.Formed.Keep.{steps-formed}
+use Rattle.model.specs.Proof.Formed.Opening.{opened-formed, accepted-formed}
+use Rattle.graph.specs.Items.{commandsIn}
+use Rattle.controller.specs.Layout.{Lists, listsOf, setupIn, stateIn, ascends, stateFits}
+use Rattle.controller.specs.Calls.{Outcome, accepted, refused, kept, advanceOn, handedBackFit}
+use Rattle.controller.specs.Demand3.{Call, callOn, after, ProperCall, Proper, accepts, schedules, HoldsAfter, Demand3}
+use Rattle.controller.proofs.Bytes.{below-or-past, each-all-below}
+use Rattle.controller.proofs.RoundTrip.{lists-state, state-read-back, setup-read-back, lists-fit, state-fits}
+use Rattle.controller.proofs.AcceptedOpening.{passed, IsOpened, accepted-opening}
+
+-- ---- the store's keys ascend
+
+-- each key of ascending entries is smaller than the next
+next-larger : (es : List Entry) (z : List ℕ) → Ascending es → (i : ℕ) → suc i < length es
+    → getD (map (λ (e : Entry). e .key) es ++ z) i 0 < getD (map (λ (e : Entry). e .key) es ++ z) (suc i) 0
+next-larger [] z h i l = absurd (omega arith)
+next-larger (e ∷ []) z h i l = absurd (omega arith)
+next-larger (e ∷ f ∷ es) z h zero l = h .0 .0
+next-larger (e ∷ f ∷ es) z h (suc i) l = next-larger (f ∷ es) z (h .1) i (omega arith)
+
+-- so the first used keys ascend: the last of them has none to be smaller than
+ascends-where : (used : ℕ) (keys : List ℕ) → ((i : ℕ) → suc i < used → getD keys i 0 < getD keys (suc i) 0) → ascends used keys ≡ true
+unfolding ascends
+ascends-where used keys larger =
+    each-all-below used (λ i. leb used (i + 1) || ltb (getD keys i 0) (getD keys (i + 1) 0)) (λ i below.
+    below-or-past (suc i) used
+    (λ l. rw (add-one i, lt-ltb (getD keys i 0) (getD keys (suc i) 0) (larger i l)) (or-true (leb used (suc i))))
+    (λ l. rw (le-leb used (i + 1) (omega arith))))
+
+-- and those of a store laid out from ascending entries do
+laid-ascends : (capacity : ℕ) (es : List Entry) → Ascending es → ascends (layOut capacity es .used) (layOut capacity es .keys) ≡ true
+unfolding layOut
+laid-ascends capacity es h = ascends-where (length es) _ (next-larger es _ h)
+
+-- ---- the calls
+
+-- the definition of the answers read, unfolded once
+answer-in : (l : Lists) (c : ℕ) → stateIn l .answers c ≡ getD (0 ∷ l .answers) c 0
+unfolding stateIn
+answer-in l c = refl
+
+-- a call on lists that fit performs its schedule on what is read of them, or refuses an unknown thread
+advance-is : (l : Lists) (commands schedule : List ℕ) (o : Setup) (s : State) → handedBackFit l commands ≡ true → stateFits l ≡ true
+    → setupIn (l .state) commands ≡ o → stateIn l ≡ s
+    → advanceOn l commands schedule ≡ cond (allWithin (o .workers) schedule) (accepted (listsOf o (steps o schedule s))) (refused 11 0)
+unfolding advanceOn
+advance-is l commands schedule o s fit whole setup state = rw (fit, whole, setup, state)
+
+-- the lists are those that a schedule reaches from the opening
+abbrev Reach : Setup → Lists → List ℕ → Type 0
+Reach o l ts = (allWithin (o .workers) ts ≡ true) × (l ≡ listsOf o (steps o ts (opened o)))
+
+-- the opening reaches its lists by no step
+opening-reaches : (o : Setup) (l : Lists) → l ≡ listsOf o (opened o) → Reach o l []
+unfolding allWithin steps
+opening-reaches o l e = (refl, e)
+
+module _ (o : Setup) (acc : Accepted o) (ts : List ℕ) (within : allWithin (o .workers) ts ≡ true) where
+  -- a reached state is formed, its keys ascend, and its lists are read as it
+  formed : Formed o (steps o ts (opened o))
+  formed = steps-formed o (accepted-formed o acc) ts within (opened o) (opened-formed o (acc .size .0) (accepted-formed o acc))
+
+  ascending : ascends (steps o ts (opened o) .store .used) (steps o ts (opened o) .store .keys) ≡ true
+  ascending = rw (table-at-any-moment o acc ts within) (laid-ascends (o .capacity) _ (entries-ascending o _))
+
+  read-back : stateIn (listsOf o (steps o ts (opened o))) ≡ steps o ts (opened o)
+  read-back = state-read-back o (steps o ts (opened o)) (accepted-formed o acc) formed
+
+  -- a call on the lists of a reached state performs its schedule, or refuses an unknown thread
+  call-performs : (commands : List ℕ) → o .commands ≡ commandsIn commands → length commands ≡ 16 * length (o .commands) → (schedule : List ℕ)
+      → advanceOn (listsOf o (steps o ts (opened o))) commands schedule
+      ≡ cond (allWithin (o .workers) schedule) (accepted (listsOf o (steps o (ts ++ schedule) (opened o)))) (refused 11 0)
+  call-performs commands same long schedule =
+      let s : State = steps o ts (opened o) in
+      let fo = accepted-formed o acc in
+      rw (steps-append o ts schedule (opened o))
+      (advance-is (listsOf o s) commands schedule o s (lists-fit o s fo formed commands long)
+      (state-fits o s fo formed (acc .size .0) (acc .workers .0) (acc .capacity .0) ascending)
+      (rw (lists-state o s) (setup-read-back o s fo formed commands same)) read-back)
+
+-- ---- the lists after calls
+
+module _ (o : Setup) (acc : Accepted o) (commands : List ℕ) (same : o .commands ≡ commandsIn commands) (long : length commands ≡ 16 * length (o .commands)) where
+  -- an accepted call adds its schedule
+  accepted-reaches : (l m : Lists) (ts schedule : List ℕ) → Reach o l ts → advanceOn l commands schedule ≡ accepted m → Reach o m (ts ++ schedule)
+  accepted-reaches l m ts schedule r e =
+      let performed = sym (call-performs o acc ts (r .0) commands same long schedule) ∙ rw (r .1) at e in
+      let pass = passed (allWithin (o .workers) schedule) 11 performed in
+      (within-append (o .workers) ts schedule (r .0) (pass .0), (let q = pass .1 in cc))
+
+  -- a refused call leaves the lists, and an accepted one leaves those that its schedule reaches
+  call-reaches : (call : Call) (l : Lists) (ts : List ℕ) (outcome : Outcome) → callOn call ≡ outcome → ProperCall commands l call outcome → Reach o l ts
+      → Reach o (kept outcome l) (ts ++ accepts outcome (call .schedule))
+  unfolding callOn kept
+  call-reaches call l ts (accepted m) e handed r = accepted-reaches l m ts (call .schedule) r (rw (handed .0, handed .1) at e)
+  call-reaches call l ts (refused n place) e handed r = rw (append-nil ts) r
+
+  -- call by call
+  calls-reach : (calls : List Call) (l : Lists) (ts : List ℕ) → Reach o l ts → Proper commands l calls → Reach o (after calls l) (ts ++ schedules calls)
+  unfolding after schedules
+  calls-reach [] l ts r proper = rw append-nil r
+  calls-reach (call ∷ calls) l ts r proper =
+      rw (← append-assoc ts (accepts (callOn call) (call .schedule)) (schedules calls))
+      (calls-reach calls (kept (callOn call) l) (ts ++ accepts (callOn call) (call .schedule)) (call-reaches call l ts (callOn call) refl (proper .0) r) (proper .1))
+
+  -- ---- the three parts
+
+  module _ (l : Lists) (ts : List ℕ) (r : Reach o l ts) where
+    -- what is read of the lists is the reached state
+    state-is : stateIn l ≡ steps o ts (opened o)
+    state-is = rw (r .1) (read-back o acc ts (r .0))
+
+    answer-is : (c : ℕ) → getD (0 ∷ l .answers) c 0 ≡ steps o ts (opened o) .answers c
+    answer-is c = sym (answer-in l c) ∙ ap (λ (s : State). s .answers c) state-is
+
+    -- a schedule that names known threads is accepted
+    more-accepted : (more : List ℕ) → allWithin (o .workers) more ≡ true → advanceOn l commands more ≡ accepted (listsOf o (steps o (ts ++ more) (opened o)))
+    more-accepted more within = rw (r .1) (call-performs o acc ts (r .0) commands same long more ∙ rw within)
+
+    -- each part is the model's
+    holds : HoldsAfter o commands l ts
+    holds =
+        let model : Holds o ts = demand-3 o acc ts (r .0) in
+        let f = model .finish in
+        let last : State = steps o (ts ++ f .0) (opened o) in
+        let read-last : stateIn (listsOf o last) ≡ last = read-back o acc (ts ++ f .0) (within-append (o .workers) ts (f .0) (r .0) (f .1)) in
+        record {
+          answer = λ c low high. answer-is c ∙ model .answer c low high;
+          table = λ all. (λ c low high. rw (answer-is c) (model .table all .0 c low high), ap (λ (s : State). s .store) state-is ∙ model .table all .1);
+          finish = (f .0, listsOf o last, more-accepted (f .0) (f .1), f .2, λ t h. ap (λ (s : State). s .threads t) read-last ∙ f .3 t h);
+        }
+
+-- the opening's lists are those of the empty schedule, and every proper list of calls goes on from there
+pub demand-3-over-calls : Demand3
+demand-3-over-calls size workers capacity commands lent l e calls proper =
+    let o : Setup = record { size = size; workers = workers; capacity = capacity; commands = commandsIn commands } in
+    let is : IsOpened o commands l = accepted-opening size workers capacity commands lent l e in
+    let reached = calls-reach o (is .setup) commands refl (is .long) calls l [] (opening-reaches o l (is .lists)) proper in
+    holds o (is .setup) commands refl (is .long) (after calls l) (schedules calls) reached

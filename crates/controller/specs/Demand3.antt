@@ -1,0 +1,64 @@
+-- Demand 3 over calls: "a single claim about the whole list of dealing calls, and not one for each call". Assumes nothing.
+use Prim.Native.Nat.{ℕ, suc, _≤_}
+use mathlib.Core.Path.{_≡_}
+use mathlib.Core.Bool.{Bool, true, false, cond}
+use mathlib.Core.List.{List, [], _∷_, _++_}
+use lib.ListN.{length, getD}
+use Rattle.model.specs.declared.Thread.the-variants.{Idle}
+use Rattle.model.specs.Serial.{serialEntries}
+use Rattle.model.specs.Store.{layOut}
+use Rattle.model.specs.Step.{Setup, State, opened, steps}
+use Rattle.model.specs.Statement.{wrote, removed, EachCommand, serialAnswer}
+use Rattle.graph.specs.Items.{commandsIn}
+use Rattle.controller.specs.Layout.{Lists, stateIn}
+use Rattle.controller.specs.Calls.{Outcome, accepted, refused, kept, openOn, advanceOn}
+
+-- what is handed over: the caller's lists, commands and a schedule
+pub record Call : Type 0 where
+  pub lists : Lists
+  pub commands : List ℕ
+  pub schedule : List ℕ
+
+unfoldable pub callOn : Call → Outcome
+callOn call = advanceOn (call .lists) (call .commands) (call .schedule)
+
+-- "A refused call, even one handed something else in their place, leaves run and lists as they were."
+unfoldable pub after : List Call → Lists → Lists
+after [] l = l
+after (call ∷ calls) l = after calls (kept (callOn call) l)
+
+-- "Each accepted call gets the run and lists as those before it left them": lists l, and the opening's commands
+abbrev pub ProperCall : List ℕ → Lists → Call → Outcome → Type 0
+ProperCall commands l call (accepted m) = (call .lists ≡ l) × (call .commands ≡ commands)
+ProperCall commands l call (refused n place) = Unit {0}
+
+abbrev pub Proper : List ℕ → Lists → List Call → Type 0
+Proper commands l [] = Unit {0}
+Proper commands l (call ∷ calls) = ProperCall commands l call (callOn call) × Proper commands (kept (callOn call) l) calls
+
+-- the schedules of the accepted calls, one after the other
+abbrev pub accepts : Outcome → List ℕ → List ℕ
+accepts (accepted m) schedule = schedule
+accepts (refused n place) schedule = []
+
+unfoldable pub schedules : List Call → List ℕ
+schedules [] = []
+schedules (call ∷ calls) = accepts (callOn call) (call .schedule) ++ schedules calls
+
+-- the three parts, of the lists that the calls leave and the schedules that were performed
+pub record HoldsAfter (o : Setup) (commands : List ℕ) (l : Lists) (ts : List ℕ) : Type 0 where
+  -- "Each answer is 0 before its command's writing turn, and from that turn on the one that running the whole list of commands [..] gives."
+  pub answer : EachCommand o (λ c. getD (0 ∷ l .answers) c 0 ≡ cond (wrote o c ts (opened o)) (serialAnswer o c) 0)
+  -- "When all commands are removed, every answer is given and the chute table is that run's, entry for entry."
+  pub table : EachCommand o (λ c. removed o c ts (opened o) ≡ true) →
+      EachCommand o (λ c. 1 ≤ getD (0 ∷ l .answers) c 0) × (stateIn l .store ≡ layOut (o .capacity) (serialEntries (o .capacity) (o .commands)))
+  -- "And some further dealing is accepted and leaves every command removed and every party idle"
+  pub finish : (more : List ℕ) × (m : Lists) × (advanceOn l commands more ≡ accepted m) × EachCommand o (λ c. removed o c (ts ++ more) (opened o) ≡ true)
+      × ((t : ℕ) → t ≤ o .workers → stateIn m .threads t ≡ Idle)
+
+-- every accepted opening, and every proper list of calls from what it left
+abbrev pub Demand3 : Type 0
+Demand3 =
+    (size workers capacity : ℕ) (commands : List ℕ) (lent l : Lists) → openOn size workers capacity commands lent ≡ accepted l →
+    (calls : List Call) → Proper commands l calls →
+    HoldsAfter (record { size = size; workers = workers; capacity = capacity; commands = commandsIn commands }) commands (after calls l) (schedules calls)

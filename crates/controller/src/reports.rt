@@ -1,0 +1,6 @@
+// What a report answers.
+pub enum Report {
+    Reported,
+    WrongLength,
+    WrongState,
+}

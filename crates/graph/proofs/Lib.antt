@@ -1,0 +1,9 @@
+pub mod Bridge
+pub mod Commands
+pub mod Kept
+pub mod LoaderSteps
+pub mod Loading
+pub mod Readiness
+pub mod Steps
+pub mod WorkerSteps
+pub mod Writing

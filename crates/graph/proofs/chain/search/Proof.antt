@@ -1,0 +1,100 @@
+-- `graph::chain::search` meets its contract: each return is one of the cases of searching. The next index is one of a node, so that it is
+-- within every array. Assumes nothing.
+use native.Mathlib.Omega.{arith}
+use mathlib.Core.Path.{refl, sym, _∙_}
+use mathlib.Core.Logic.{⊎-elim}
+use lib.ListN.{getD}
+use borrow.Author.Needs.{needs}
+use Rattle.graph.proofs.Steps.{search-ends, search-waits, search-takes, search-steps}
+use Rattle.graph.proofs.chain.search.Statement.{statement}
+use Rattle.graph.proofs.chain.search.Tie as tie
+
+cast-a : tie.Need-cast-a
+cast-a c = search needs
+
+element-copy-out-y : tie.Need-element-copy-out-y
+element-copy-out-y c = search needs
+
+cast-n : tie.Need-cast-n
+cast-n c = omega (arith, c .before .before .pre .0 (c .before .before .args .at .0))
+
+set-flag-requires : tie.Need-set-flag-requires
+set-flag-requires c κs = search needs
+
+returns : tie.Need-returns
+returns c =
+    let a = c .before .before .before .before .before .args in
+    (tt, search-ends (a .at) (a .next .now) (a .executing .now) (a .locked .now) (a .waits .now) _ refl (c .set-flag .last .0) (c .before .before .if1 .taken) (c .set-flag .ensures))
+
+element-copy-out-if2 : tie.Need-element-copy-out-if2
+element-copy-out-if2 c = omega (arith, c .before .before .before .pre .0 (c .before .before .before .args .at .0))
+
+returns-2 : tie.Need-returns-2
+returns-2 c =
+    let start = c .before .before .before .before .before in
+    let a = start .args in
+    (start .pre .1, search-waits (a .at) (a .next .now) (a .executing .now) (a .locked .now) (a .waits .now) _ refl (c .before .before .if1 .left) (c .if2 .taken))
+
+step-on-requires : tie.Need-step-on-requires
+step-on-requires c κs = omega (arith, c .before .before .before .before .before .before .pre .0 (c .before .before .before .before .before .before .args .at .0))
+
+mul-set : tie.Need-mul-set
+mul-set c = omega (arith, c .before .before .before .before .before .before .before .pre .0 (c .before .before .before .before .before .before .before .args .at .0))
+
+element-copy-out-set : tie.Need-element-copy-out-set
+element-copy-out-set c = omega (arith, c .before .before .before .before .before .before .before .pre .0 (c .before .before .before .before .before .before .before .args .at .0))
+
+element-copy-out-if3 : tie.Need-element-copy-out-if3
+element-copy-out-if3 c = omega (arith, c .before .before .before .before .before .before .before .before .pre .0 (c .before .before .before .before .before .before .before .before .args .at .0))
+
+is-empty-requires : tie.Need-is-empty-requires
+is-empty-requires c κs = search needs
+
+set-flag-requires-2 : tie.Need-set-flag-requires-2
+set-flag-requires-2 c κs = omega (arith, c .before .before .before .before .before .before .before .before .before .before .before .before .before .pre .0 (c .before .before .before .before .before .before .before .before .before .before .before .before .before .args .at .0))
+
+set-flag-requires-3 : tie.Need-set-flag-requires-3
+set-flag-requires-3 c κs = omega (arith, c .before .before .before .before .before .before .before .before .before .before .before .before .before .before .before .pre .0 (c .before .before .before .before .before .before .before .before .before .before .before .before .before .before .before .args .at .0))
+
+returns-3 : tie.Need-returns-3
+returns-3 c =
+    let second = c .before .before in
+    let emptied = second .before .before .before in
+    let stepped = emptied .before .before .before .before in
+    let start = stepped .before .before .before .before .before .before .before in
+    let a = start .args in (
+      start .pre .0 (a .at .0),
+      search-takes (a .at) (a .next .now) (a .executing .now) (a .locked .now) (a .waits .now) _ refl (stepped .before .before .before .before .if1 .left) (second .set-flag2 .last .0) (c .set-flag3 .last .0) (stepped .before .before .if2 .left)
+          (rw (emptied .before .if3 .taken) (sym (emptied .is-empty .ensures) ∙ second .before .before .if4 .taken)) (second .set-flag2 .ensures) (rw (c .set-flag3 .ensures, stepped .step-on .ensures)),
+    )
+
+returns-4 : tie.Need-returns-4
+returns-4 c =
+    let stepped = c .before .before .before in
+    let start = stepped .before .before .before .before .before .before .before in
+    let a = start .args in (
+      start .pre .0 (a .at .0),
+      search-steps (a .at) (a .next .now) (a .executing .now) (a .locked .now) (a .waits .now) _ refl (stepped .before .before .before .before .if1 .left) (stepped .step-on .last .0) (stepped .before .before .if2 .left)
+          (⊎-elim (λ w. rw (w .0 .taken) (sym (w .1 .ensures) ∙ w .2 .left)) (λ w. rw (w .left)) (c .if3 .came)) (stepped .step-on .ensures),
+    )
+
+pub search-spec : {M : Type 1} → statement M
+search-spec =
+    tie.close
+    (tie.spec
+    cast-a
+    element-copy-out-y
+    cast-n
+    set-flag-requires
+    returns
+    element-copy-out-if2
+    returns-2
+    step-on-requires
+    mul-set
+    element-copy-out-set
+    element-copy-out-if3
+    is-empty-requires
+    set-flag-requires-2
+    set-flag-requires-3
+    returns-3
+    returns-4)

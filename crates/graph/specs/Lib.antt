@@ -1,0 +1,4 @@
+pub mod Arrays
+pub mod Items
+pub mod Memory
+pub mod Worker

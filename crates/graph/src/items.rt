@@ -1,0 +1,102 @@
+// The commands of the nodes in use: three arrays beside the graph's, so that a step along the chain reads no text.
+ghost use mathlib.Core.Path.{_≡_};
+ghost use mathlib.Core.Bool.{Bool, cond};
+ghost use mathlib.Core.Option.{none, some};
+ghost use mathlib.Core.List.{List};
+ghost use Prim.Native.Nat.{ℕ, _+_, _*_, _≤_};
+ghost use lib.ListN.{length, take, drop};
+ghost use lib.Dec.{eqb};
+ghost use Rattle.command.specs.Read.{readCommand};
+ghost use Rattle.model.specs.Step.{bothDependent};
+ghost use Rattle.graph.specs.Items.{itemOf, keptAt, commandFrom};
+use command::Command;
+use command::Kind;
+use command::Reading;
+use node_set::Node;
+
+// The command of a node, if it has one.
+pub enum Item {
+    Nothing,
+    Of(Command),
+}
+
+// The command kept for a node.
+pub fn item_of(kinds: &[u8; 151], keys: &[u64; 151], chutes: &[u16; 151], node: Node) -> Item
+    requires { ⌜ node .0 ≤ 150 ⌝ }
+    ensures { λ r. ⌜ itemOf r ≡ keptAt (now (kinds .entry)) (now (keys .entry)) (now (chutes .entry)) (node .0) ⌝ }
+{
+    let n = node.0 as usize;
+    let kind = kinds[n];
+    if kind == 0 {
+        return Item::Nothing;
+    }
+    Item::Of(Command {
+        kind: Kind::of(kind),
+        key: keys[n],
+        chute: chutes[n],
+    })
+}
+
+// Keeps a command for a node. Each array is lent as a slice, as in `arrays`.
+pub fn keep(
+    kinds: &mut [u8; 151],
+    keys: &mut [u64; 151],
+    chutes: &mut [u16; 151],
+    node: Node,
+    command: Command,
+)
+    requires { ⌜ node .0 ≤ 150 ⌝ }
+    ensures { λ _. ⌜ ((n : ℕ) → keptAt (now (kinds .exit)) (now (keys .exit)) (now (chutes .exit)) n ≡ cond (eqb n (node .0)) (some command) (keptAt (now (kinds .entry)) (now (keys .entry)) (now (chutes .entry)) n)) ⌝ }
+{
+    let n = node.0 as usize;
+    let kind = command.kind;
+    let all_kinds: &mut [u8] = kinds;
+    all_kinds[n] = kind.number();
+    let all_keys: &mut [u64] = keys;
+    all_keys[n] = command.key;
+    let all_chutes: &mut [u16] = chutes;
+    all_chutes[n] = command.chute;
+}
+
+// A node has no command any more.
+pub fn forget(kinds: &mut [u8; 151], node: Node)
+    requires { ⌜ node .0 ≤ 150 ⌝ }
+    ensures { λ _. ⌜ ((keys chutes : List ℕ) (n : ℕ) → keptAt (now (kinds .exit)) keys chutes n ≡ cond (eqb n (node .0)) none (keptAt (now (kinds .entry)) keys chutes n)) ⌝ }
+{
+    let n = node.0 as usize;
+    let all: &mut [u8] = kinds;
+    all[n] = 0;
+}
+
+// Whether the commands of two nodes are dependent; no command depends on none.
+pub fn dependent(a: Item, b: Item) -> bool
+    ensures { λ r. ⌜ r ≡ bothDependent (itemOf a) (itemOf b) ⌝ }
+{
+    match a {
+        Item::Nothing => false,
+        Item::Of(first) => match b {
+            Item::Nothing => false,
+            Item::Of(second) => first.depends_on(second),
+        },
+    }
+}
+
+// The command at index i of the list, from 0. One that is refused reads as a read of key 0.
+pub fn command_at(list: &[u8], i: usize) -> Command
+    requires { ⌜ 16 * i + 16 ≤ length (now list) ⌝ }
+    ensures { λ r. ⌜ r ≡ commandFrom (readCommand (take 16 (drop (16 * i) (now (list .entry))))) ⌝ }
+{
+    let at = i * Command::LENGTH;
+    let end = at + Command::LENGTH;
+    match Command::read(&list[at..end]) {
+        Reading::Read(command) => command,
+        Reading::UnknownKind
+        | Reading::Malformed
+        | Reading::WrongCheckDigit
+        | Reading::WrongChute => Command {
+            kind: Kind::Read,
+            key: 0,
+            chute: 0,
+        },
+    }
+}

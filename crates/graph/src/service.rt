@@ -1,0 +1,115 @@
+// A worker's lookup and its writing of store and answer. Functions here take sequence numbers and no nodes.
+ghost use mathlib.Core.Path.{_≡_};
+ghost use mathlib.Core.Option.{some};
+ghost use Prim.Native.Nat.{_≤_};
+ghost use lib.ListN.{length};
+ghost use Rattle.command.specs.declared.Command.{Command as Cmd};
+ghost use Rattle.command.specs.declared.Kind.the-variants.{Insert};
+ghost use Rattle.model.specs.Step.{foundFor, writeKind, write as writing};
+ghost use Rattle.store.specs.Lists.{storeOf};
+ghost use Rattle.graph.specs.Items.{itemOf};
+ghost use Rattle.graph.specs.Memory.{Writes};
+use crate::items::Item;
+use command::Command;
+use command::Kind;
+use command::Seq;
+
+// What a lookup finds for a command: the chute of its key, 0 where there is none.
+pub fn look_up(item: Item, keys: &[u64], chutes: &[u16], used: usize) -> u16
+    ensures { λ r. ⌜ r ≡ foundFor (itemOf item) (storeOf (now (keys .entry)) (now (chutes .entry)) used) ⌝ }
+{
+    match item {
+        Item::Nothing => 0,
+        Item::Of(command) => store::look_up(keys, chutes, used, command.key),
+    }
+}
+
+// What a write answers, and the count in use after it.
+pub struct Written {
+    pub answer: u16,
+    pub used: usize,
+}
+
+// The answer of an insert after its lookup, with the store changed where there is room.
+fn serve_insert(
+    key: u64,
+    chute: u16,
+    found: u16,
+    keys: &mut [u64],
+    chutes: &mut [u16],
+    used: usize,
+) -> Written
+    ensures { λ r. ⌜ writeKind Insert (length (now (keys .entry))) key chute found (storeOf (now (keys .entry)) (now (chutes .entry)) used) ≡ writing (r .answer) (storeOf (now (keys .exit)) (now (chutes .exit)) (r .used)) ⌝ }
+{
+    if found != 0 {
+        return Written { answer: 1001, used };
+    }
+    if keys.len() <= used {
+        return Written { answer: 1003, used };
+    }
+    let more = store::insert(keys, chutes, used, key, chute);
+    Written {
+        answer: 1000,
+        used: more,
+    }
+}
+
+// The answer of a command after its lookup, with the store changed as the command asks.
+fn serve(command: Command, found: u16, keys: &mut [u64], chutes: &mut [u16], used: usize) -> Written
+    ensures { λ r. ⌜ writeKind (command .kind) (length (now (keys .entry))) (command .key) (command .chute) found (storeOf (now (keys .entry)) (now (chutes .entry)) used) ≡ writing (r .answer) (storeOf (now (keys .exit)) (now (chutes .exit)) (r .used)) ⌝ }
+{
+    let kind = command.kind;
+    match kind {
+        Kind::Insert => serve_insert(command.key, command.chute, found, keys, chutes, used),
+        Kind::Delete => {
+            if found == 0 {
+                return Written { answer: 1002, used };
+            }
+            let less = store::remove(keys, chutes, used, command.key);
+            Written {
+                answer: 1000,
+                used: less,
+            }
+        }
+        Kind::Read => {
+            if found == 0 {
+                return Written { answer: 1002, used };
+            }
+            Written {
+                answer: found,
+                used,
+            }
+        }
+        Kind::Update => {
+            if found == 0 {
+                return Written { answer: 1002, used };
+            }
+            store::replace(keys, chutes, used, command.key, command.chute);
+            Written { answer: 1000, used }
+        }
+    }
+}
+
+// Writes a command's answer, and the store where the command changes it; returns the count in use.
+pub fn write(
+    item: Item,
+    place: Seq,
+    found: u16,
+    keys: &mut [u64],
+    chutes: &mut [u16],
+    answers: &mut [u16],
+    used: usize,
+) -> usize
+    requires { ⌜ ((c : Cmd) → itemOf item ≡ some c → (1 ≤ place .0) × (place .0 ≤ length (now answers))) ⌝ }
+    ensures { λ r. ⌜ Writes (itemOf item) (place .0) found (now (keys .entry)) (now (chutes .entry)) (now (answers .entry)) used (now (keys .exit)) (now (chutes .exit)) (now (answers .exit)) r ⌝ }
+{
+    match item {
+        Item::Nothing => used,
+        Item::Of(command) => {
+            let written = serve(command, found, keys, chutes, used);
+            let i = place.0 - 1;
+            answers[i] = written.answer;
+            written.used
+        }
+    }
+}
