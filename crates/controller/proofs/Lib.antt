@@ -8,3 +8,5 @@ pub mod Fill
 pub mod Paste
 pub mod Below
 pub mod Tested
+pub mod OpeningAnswer
+pub mod OpeningState

@@ -3,5 +3,6 @@ pub mod Layout
 pub mod Pasted
 pub mod Written
 pub mod Calls
+pub mod Opened
 pub mod Reports
 pub mod Demand3

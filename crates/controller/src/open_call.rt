@@ -1,4 +1,23 @@
+// Opening: the tests in order, then the opening state and lists of zeros.
+ghost use mathlib.Core.Path.{_≡_};
+ghost use mathlib.Core.Bool.{_&&_};
+ghost use Prim.Native.Nat.{ℕ, _≤_};
+ghost use lib.ListN.{length, getD, replicate};
+ghost use lib.Dec.{leb};
+ghost use Rattle.command.specs.Read.{listOutcome};
+ghost use Rattle.model.specs.Step.{Setup, firstNext};
+ghost use Rattle.controller.specs.Layout.{lists, stateLength};
+ghost use Rattle.controller.specs.Calls.{numberOf, placeOf, kept, openingNumber, openingPlace, lengthsFit, openedWith, openOn};
+ghost use Rattle.controller.specs.Opened.{setupOf, outcomeOf, LaysOpened};
+use crate::layout::STATE_LENGTH;
+use crate::write::Settings;
+use crate::write::write_state;
+use command::Command;
+use command::ListReading;
 use command::Seq;
+use graph::Counters;
+use model::Thread;
+use node_set::Node;
 
 // What opening answers.
 pub enum Opening {
@@ -13,4 +32,190 @@ pub enum Opening {
     MalformedAt(Seq),
     WrongCheckDigitAt(Seq),
     WrongChuteAt(Seq),
+}
+
+// What the settings and the list may be at most; each setting is at least 1.
+const LARGEST_SIZE: u64 = 150;
+
+const MOST_WORKERS: u64 = 64;
+
+const LARGEST_CAPACITY: u64 = 4096;
+
+const MOST_COMMANDS: usize = 4096;
+
+// Opens a list of commands. A refusal leaves every list as it was.
+pub fn open(
+    state: &mut [u8],
+    keys: &mut [u64],
+    chutes: &mut [u16],
+    answers: &mut [u16],
+    commands: &[u8],
+    size: u64,
+    workers: u64,
+    capacity: u64,
+) -> Opening
+    ensures number { λ r. ⌜ openingNumber r ≡ numberOf (openOn size workers capacity (now (commands .entry)) (lists (now (state .entry)) (now (keys .entry)) (now (chutes .entry)) (now (answers .entry)))) ⌝ }
+    ensures place { λ r. ⌜ openingPlace r ≡ placeOf (openOn size workers capacity (now (commands .entry)) (lists (now (state .entry)) (now (keys .entry)) (now (chutes .entry)) (now (answers .entry)))) ⌝ }
+    ensures left { λ r. ⌜ lists (now (state .exit)) (now (keys .exit)) (now (chutes .exit)) (now (answers .exit)) ≡ kept (openOn size workers capacity (now (commands .entry)) (lists (now (state .entry)) (now (keys .entry)) (now (chutes .entry)) (now (answers .entry)))) (lists (now (state .entry)) (now (keys .entry)) (now (chutes .entry)) (now (answers .entry))) ⌝ }
+{
+    let answer = answer_for(
+        state,
+        keys,
+        chutes,
+        answers,
+        commands,
+        size,
+        workers,
+        capacity,
+    );
+    if let Opening::Opened = answer {
+        let settings = Settings {
+            size: size as u8,
+            workers: workers as u8,
+            capacity: capacity as u16,
+            count: answers.len() as u16,
+        };
+        write_opened(state, settings);
+        clear_keys(keys);
+        clear_numbers(chutes);
+        clear_numbers(answers);
+    }
+    answer
+}
+
+// Tests 1 to 6 in the order of document 01, then each command for 7 to 10: the first refusal, or `Opened`.
+fn answer_for(
+    state: &[u8],
+    keys: &[u64],
+    chutes: &[u16],
+    answers: &[u16],
+    commands: &[u8],
+    size: u64,
+    workers: u64,
+    capacity: u64,
+) -> Opening
+    ensures { λ r. ⌜ openOn size workers capacity (now (commands .entry)) (lists (now (state .entry)) (now (keys .entry)) (now (chutes .entry)) (now (answers .entry))) ≡ outcomeOf r (setupOf size workers capacity (now (commands .entry))) ⌝ }
+{
+    let count = commands.len() / Command::LENGTH;
+    if !is_within(size, LARGEST_SIZE) {
+        return Opening::WrongGraphSize;
+    }
+    if !is_within(workers, MOST_WORKERS) {
+        return Opening::WrongWorkers;
+    }
+    if !is_within(capacity, LARGEST_CAPACITY) {
+        return Opening::WrongCapacity;
+    }
+    if commands.len() % Command::LENGTH != 0 {
+        return Opening::WrongListLength;
+    }
+    if count > MOST_COMMANDS {
+        return Opening::TooManyCommands;
+    }
+    if !lengths_fit(state, keys, chutes, answers, capacity, count) {
+        return Opening::WrongLength;
+    }
+    let reading = command::read_list(commands);
+    answer_of(reading)
+}
+
+// Whether a number is from 1 to the largest.
+fn is_within(number: u64, largest: u64) -> bool
+    ensures { λ r. ⌜ r ≡ (leb 1 number && leb number largest) ⌝ }
+{
+    1 <= number && number <= largest
+}
+
+// Whether the lent lists are as long as the layout, the commands and the capacity ask.
+fn lengths_fit(
+    state: &[u8],
+    keys: &[u64],
+    chutes: &[u16],
+    answers: &[u16],
+    capacity: u64,
+    count: usize,
+) -> bool
+    ensures { λ r. ⌜ r ≡ lengthsFit capacity count (lists (now (state .entry)) (now (keys .entry)) (now (chutes .entry)) (now (answers .entry))) ⌝ }
+{
+    state.len() == STATE_LENGTH
+        && (answers.len() == count
+            && (keys.len() as u64 == capacity && chutes.len() as u64 == capacity))
+}
+
+// The answer after reading the list.
+fn answer_of(reading: ListReading) -> Opening
+    ensures { λ r. ⌜ ((o : Setup) → openedWith (listOutcome reading) o ≡ outcomeOf r o) ⌝ }
+{
+    match reading {
+        ListReading::AllRead => Opening::Opened,
+        ListReading::UnknownKindAt(seq) => Opening::UnknownKindAt(seq),
+        ListReading::MalformedAt(seq) => Opening::MalformedAt(seq),
+        ListReading::WrongCheckDigitAt(seq) => Opening::WrongCheckDigitAt(seq),
+        ListReading::WrongChuteAt(seq) => Opening::WrongChuteAt(seq),
+    }
+}
+
+// Sets every key to 0.
+fn clear_keys(keys: &mut [u64])
+    ensures { λ _. ⌜ now (keys .exit) ≡ replicate (length (now (keys .entry))) 0 ⌝ }
+{
+    let mut i = 0;
+    while i < keys.len() {
+        keys[i] = 0;
+        i += 1;
+    }
+}
+
+// Sets every chute or answer to 0.
+fn clear_numbers(numbers: &mut [u16])
+    ensures { λ _. ⌜ now (numbers .exit) ≡ replicate (length (now (numbers .entry))) 0 ⌝ }
+{
+    let mut i = 0;
+    while i < numbers.len() {
+        numbers[i] = 0;
+        i += 1;
+    }
+}
+
+// The next indexes at opening: the free list is 1, 2 and so on up to the graph size, and the chain is empty.
+fn first_next(size: u8) -> [u8; 151]
+    requires { ⌜ (1 ≤ size) × (size ≤ 150) ⌝ }
+    ensures { λ r. ⌜ ((n : ℕ) → getD r n 0 ≡ firstNext size n) ⌝ }
+{
+    let mut next = [0u8; 151];
+    let mut n = 1u8;
+    while n < size {
+        next[n as usize] = n + 1;
+        n += 1;
+    }
+    next
+}
+
+// Writes the opening state.
+fn write_opened(state: &mut [u8], settings: Settings)
+    requires { ⌜ (length (now state) ≡ stateLength) × (1 ≤ settings .size) × (settings .size ≤ 150) ⌝ }
+    ensures { λ _. ⌜ LaysOpened settings (now (state .exit)) ⌝ }
+{
+    let next = first_next(settings.size);
+    let seq = [0u16; 151];
+    let executing = [false; 151];
+    let locked = [false; 151];
+    let waits = [[0u64; 3]; 151];
+    let threads = [Thread::Idle; 65];
+    let counters = Counters {
+        free: Node(1),
+        loaded: 0,
+        used: 0,
+    };
+    write_state(
+        state,
+        settings,
+        counters,
+        &next,
+        &seq,
+        &executing,
+        &locked,
+        &waits,
+        threads,
+    );
 }

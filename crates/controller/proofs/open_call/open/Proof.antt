@@ -1,0 +1,133 @@
+-- `controller::open_call::open` meets its contract: a refusal writes nothing, and an opening writes the lists of the opening state. Assumes nothing.
+use native.Mathlib.Omega.{arith}
+use mathlib.Core.Path.{refl, sym, _∙_}
+use borrow.Author.Needs.{needs}
+use Rattle.controller.specs.Layout.{lists, stateLength}
+use Rattle.controller.specs.Opened.{setupOf}
+use Rattle.controller.proofs.OpeningState.{as-many-zeros, opened-lists-are}
+use Rattle.controller.proofs.OpeningAnswer.{answer-told, refusal-keeps, opening-leaves, Admitted, admitted}
+use Rattle.controller.proofs.open_call.open.Statement.{statement}
+use Rattle.controller.proofs.open_call.open.Tie as tie
+
+answer-for-requires : tie.Need-answer-for-requires
+answer-for-requires c κs = search needs
+
+enum-told : tie.Need-enum-told
+enum-told c = search needs
+
+-- where the answer is `Opened`, every test passed
+tests-passed : (c : tie.After-enum-told) →
+    let a = c .before .before .before .before .before .before .before .before .before .before .before .before .args in
+    Admitted (setupOf (a .size) (a .workers) (a .capacity) (a .commands .now)) (lists (a .state .now) (a .keys .now) (a .chutes .now) (a .answers .now))
+tests-passed c =
+    let a = c .before .before .before .before .before .before .before .before .before .before .before .before .args in
+    admitted (a .size) (a .workers) (a .capacity) (a .commands .now) (lists (a .state .now) (a .keys .now) (a .chutes .now) (a .answers .now))
+    (c .before .before .answer-for .ensures)
+    (c .enum-told .given .1)
+
+cast-t19 : tie.Need-cast-t19
+cast-t19 c = omega (arith, tests-passed c .setup .size)
+
+cast-t20 : tie.Need-cast-t20
+cast-t20 c = omega (arith, tests-passed c .setup .workers)
+
+cast-t21 : tie.Need-cast-t21
+cast-t21 c = omega (arith, tests-passed c .setup .capacity)
+
+cast-t23 : tie.Need-cast-t23
+cast-t23 c = omega (arith, tests-passed c .setup .count, tests-passed c .answers-long)
+
+write-opened-requires : tie.Need-write-opened-requires
+unfolding stateLength
+write-opened-requires c κs =
+    let p = tests-passed (c .before) in
+    (p .state-long, p .setup .size .0, p .setup .size .1)
+
+clear-keys-requires : tie.Need-clear-keys-requires
+clear-keys-requires c κs = search needs
+
+clear-numbers-requires : tie.Need-clear-numbers-requires
+clear-numbers-requires c κs = search needs
+
+clear-numbers-requires-2 : tie.Need-clear-numbers-requires-2
+clear-numbers-requires-2 c κs = search needs
+
+same-length : tie.Need-same-length
+same-length c = search needs
+
+same-length-2 : tie.Need-same-length-2
+same-length-2 c = search needs
+
+same-length-3 : tie.Need-same-length-3
+same-length-3 c = search needs
+
+same-length-4 : tie.Need-same-length-4
+same-length-4 c = search needs
+
+-- the lists left are those of the opening state
+returns : tie.Need-returns
+returns c =
+    let answers = c .before .before in
+    let chutes = answers .before .before .before .before in
+    let keys = chutes .before .before .before .before in
+    let state = keys .before .before .before .before in
+    let told = state .before .before in
+    let answer = told .before .before .answer-for in
+    let a = told .before .before .before .before .before .before .before .before .before .before .before .before .args in
+    let o = setupOf (a .size) (a .workers) (a .capacity) (a .commands .now) in
+    let p = tests-passed told in
+    let count = sym (p .answers-long) in
+    let numbers = answer-told (answer .result) o in
+    let left =
+    opened-lists-are o
+    (state .write-opened .ensures o (record { size = refl; workers = refl; capacity = refl; count = count }))
+    (keys .clear-keys .ensures ∙ as-many-zeros (p .keys-long))
+    (chutes .clear-numbers .ensures ∙ as-many-zeros (p .chutes-long))
+    (answers .clear-numbers2 .ensures ∙ as-many-zeros (p .answers-long)) in
+    rw (answer .ensures) (numbers .0, (numbers .1, opening-leaves o _ _ (told .enum-told .given .1) left))
+
+same-length-5 : tie.Need-same-length-5
+same-length-5 c = search needs
+
+same-length-6 : tie.Need-same-length-6
+same-length-6 c = search needs
+
+same-length-7 : tie.Need-same-length-7
+same-length-7 c = search needs
+
+same-length-8 : tie.Need-same-length-8
+same-length-8 c = search needs
+
+-- a refusal: no list was written
+returns-2 : tie.Need-returns-2
+returns-2 c =
+    let a = c .before .before .before .before .before .before .before .before .before .before .before .args in
+    let o = setupOf (a .size) (a .workers) (a .capacity) (a .commands .now) in
+    let answer = c .before .answer-for in
+    let numbers = answer-told (answer .result) o in
+    rw (answer .ensures) (numbers .0, (numbers .1, sym (refusal-keeps (answer .result) o _ (c .match .keys2))))
+
+pub open-spec : {M : Type 1} → statement M
+open-spec =
+    tie.close
+    (tie.spec
+    answer-for-requires
+    enum-told
+    cast-t19
+    cast-t20
+    cast-t21
+    cast-t23
+    write-opened-requires
+    clear-keys-requires
+    clear-numbers-requires
+    clear-numbers-requires-2
+    same-length
+    same-length-2
+    same-length-3
+    same-length-4
+    returns
+    same-length-5
+    same-length-6
+    same-length-7
+    same-length-8
+    returns-2)

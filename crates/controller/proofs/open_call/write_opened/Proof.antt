@@ -1,0 +1,28 @@
+-- `controller::open_call::write_opened` meets its contract: the arrays written are those of the opening state. Assumes nothing.
+use mathlib.Core.Path.{sym, ap, _∙_}
+use Prim.Native.Nat.{ℕ}
+use borrow.Author.Needs.{needs}
+use Rattle.model.specs.Step.{firstNext, opened}
+use Rattle.controller.proofs.OpeningState.{opened-shown}
+use Rattle.controller.proofs.open_call.write_opened.Statement.{statement}
+use Rattle.controller.proofs.open_call.write_opened.Tie as tie
+
+first-next-requires : tie.Need-first-next-requires
+first-next-requires c κs = search needs
+
+write-state-requires : tie.Need-write-state-requires
+write-state-requires c κs = search needs
+
+same-length : tie.Need-same-length
+same-length c = search needs
+
+returns : tie.Need-returns
+returns c o sets =
+    let w = c .before .before in
+    let f = w .before .before .before .before .before .before .before in
+    let next = f .first-next in
+    w .write-state .ensures o (opened o) sets (opened-shown o (next .result) (λ n. next .ensures n ∙ ap (λ (size : ℕ). firstNext size n) (sym (sets .size))))
+
+pub write-opened-spec : {M : Type 1} → statement M
+write-opened-spec =
+    tie.close (tie.spec first-next-requires write-state-requires same-length returns)

@@ -1,0 +1,25 @@
+-- What the parts of opening promise: the outcome that an answer stands for, and the bytes of the opening state. Assumes nothing.
+use Prim.Native.Nat.{ℕ}
+use mathlib.Core.Path.{_≡_}
+use mathlib.Core.Bool.{cond}
+use mathlib.Core.List.{List}
+use lib.Dec.{eqb}
+use Rattle.model.specs.Step.{Setup, opened}
+use Rattle.graph.specs.Items.{commandsIn}
+use Rattle.controller.specs.declared.«open_call».Opening.{Opening}
+use Rattle.controller.specs.declared.write.Settings.{Settings}
+use Rattle.controller.specs.Layout.{stateBytes, listsOf}
+use Rattle.controller.specs.Written.{Sets}
+use Rattle.controller.specs.Calls.{Outcome, accepted, refused, openingNumber, openingPlace}
+
+-- the setup of an opening's numbers and bytes
+abbrev pub setupOf : ℕ → ℕ → ℕ → List ℕ → Setup
+setupOf size workers capacity commands = record { size = size; workers = workers; capacity = capacity; commands = commandsIn commands }
+
+-- what an answer says of an opening: `Opened`, that it leaves the lists of the opening state; any other, its number and place
+abbrev pub outcomeOf : Opening → Setup → Outcome
+outcomeOf r o = cond (eqb (openingNumber r) 0) (accepted (listsOf o (opened o))) (refused (openingNumber r) (openingPlace r))
+
+-- bytes of the opening state, on every setup with these numbers
+abbrev pub LaysOpened : Settings → List ℕ → Type 0
+LaysOpened c bytes = (o : Setup) → Sets c o → bytes ≡ stateBytes o (opened o)
