@@ -8,5 +8,6 @@ mod reports;
 mod write;
 
 pub use advance_call::Advancing;
-pub use open_call::{Opening, open};
+pub use open_call::Opening;
+pub use open_call::open;
 pub use reports::Report;
