@@ -10,3 +10,6 @@ pub mod Below
 pub mod Tested
 pub mod OpeningAnswer
 pub mod OpeningState
+pub mod Handed
+pub mod Performing
+pub mod Advancing

@@ -3,6 +3,7 @@ pub mod Layout
 pub mod Pasted
 pub mod Written
 pub mod Calls
+pub mod Performed
 pub mod Opened
 pub mod Reports
 pub mod Demand3

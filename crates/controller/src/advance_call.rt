@@ -1,7 +1,211 @@
+// Advancing: the tests of a handed-back state, then the steps of a schedule.
+ghost use mathlib.Core.Path.{_≡_};
+ghost use lib.ListN.{length};
+ghost use Rattle.model.specs.Step.{steps};
+ghost use Rattle.graph.specs.Memory.{memory};
+ghost use Rattle.controller.specs.Layout.{lists, listsOf, setupIn, stateIn, stateLength};
+ghost use Rattle.controller.specs.Calls.{numberOf, kept, advanceNumber, advanceOn};
+ghost use Rattle.controller.specs.Performed.{CountersIn, SettingsIn, Passes, Performs, Performed};
+use crate::fits::lengths_fit;
+use crate::fits::state_fits;
+use crate::fits::threads_named;
+use crate::layout::CAPACITY;
+use crate::layout::COUNT;
+use crate::layout::EXECUTING;
+use crate::layout::FREE;
+use crate::layout::LOADED;
+use crate::layout::LOCKED;
+use crate::layout::NEXT;
+use crate::layout::SEQ;
+use crate::layout::SIZE;
+use crate::layout::USED;
+use crate::layout::WORKERS;
+use crate::read::number_at;
+use crate::read::read_bytes;
+use crate::read::read_flags;
+use crate::read::read_numbers;
+use crate::read::read_sets;
+use crate::read::read_threads;
+use crate::write::Settings;
+use crate::write::write_state;
+use graph::Counters;
+use model::Thread;
+use node_set::Node;
+
 // What a call on a handed-back state answers.
 pub enum Advancing {
     Advanced,
     WrongLength,
     UnknownThread,
     WrongState,
+}
+
+// Performs a schedule, one step a byte. A refusal leaves every list as it was.
+pub fn advance(
+    state: &mut [u8],
+    keys: &mut [u64],
+    chutes: &mut [u16],
+    answers: &mut [u16],
+    commands: &[u8],
+    schedule: &[u8],
+) -> Advancing
+    ensures number { λ r. ⌜ advanceNumber r ≡ numberOf (advanceOn (lists (now (state .entry)) (now (keys .entry)) (now (chutes .entry)) (now (answers .entry))) (now (commands .entry)) (now (schedule .entry))) ⌝ }
+    ensures left { λ r. ⌜ lists (now (state .exit)) (now (keys .exit)) (now (chutes .exit)) (now (answers .exit)) ≡ kept (advanceOn (lists (now (state .entry)) (now (keys .entry)) (now (chutes .entry)) (now (answers .entry))) (now (commands .entry)) (now (schedule .entry))) (lists (now (state .entry)) (now (keys .entry)) (now (chutes .entry)) (now (answers .entry))) ⌝ }
+{
+    if !lengths_fit(
+        state,
+        answers.len(),
+        keys.len(),
+        chutes.len(),
+        commands.len(),
+    ) {
+        return Advancing::WrongLength;
+    }
+    if !state_fits(state, keys) {
+        return Advancing::WrongState;
+    }
+    if !threads_named(schedule, state[WORKERS]) {
+        return Advancing::UnknownThread;
+    }
+    run(state, keys, chutes, answers, commands, schedule);
+    Advancing::Advanced
+}
+
+// The settings of the state bytes.
+fn settings_in(state: &[u8]) -> Settings
+    requires { ⌜ length (now state) ≡ stateLength ⌝ }
+    ensures { λ r. ⌜ SettingsIn (now (state .entry)) r ⌝ }
+{
+    Settings {
+        size: state[SIZE],
+        workers: state[WORKERS],
+        capacity: number_at(state, CAPACITY),
+        count: number_at(state, COUNT),
+    }
+}
+
+// The counters of the state bytes.
+fn counters_in(state: &[u8]) -> Counters
+    requires { ⌜ length (now state) ≡ stateLength ⌝ }
+    ensures { λ r. ⌜ CountersIn (now (state .entry)) r ⌝ }
+{
+    let free = Node(state[FREE]);
+    Counters {
+        free,
+        loaded: number_at(state, LOADED) as usize,
+        used: number_at(state, USED) as usize,
+    }
+}
+
+// Reads the state bytes, and performs a schedule on what they show.
+fn run(
+    state: &mut [u8],
+    keys: &mut [u64],
+    chutes: &mut [u16],
+    answers: &mut [u16],
+    commands: &[u8],
+    schedule: &[u8],
+)
+    requires { ⌜ Passes (lists (now state) (now keys) (now chutes) (now answers)) (now commands) (now schedule) ⌝ }
+    ensures { λ _. ⌜ lists (now (state .exit)) (now (keys .exit)) (now (chutes .exit)) (now (answers .exit)) ≡ listsOf (setupIn (now (state .entry)) (now (commands .entry))) (steps (setupIn (now (state .entry)) (now (commands .entry))) (now (schedule .entry)) (stateIn (lists (now (state .entry)) (now (keys .entry)) (now (chutes .entry)) (now (answers .entry))))) ⌝ }
+{
+    let settings = settings_in(state);
+    let counters = counters_in(state);
+    let mut next = [0u8; 151];
+    let mut seq = [0u16; 151];
+    let mut executing = [false; 151];
+    let mut locked = [false; 151];
+    let mut waits = [[0u64; 3]; 151];
+    read_bytes(state, NEXT, &mut next);
+    read_numbers(state, SEQ, &mut seq);
+    read_flags(state, EXECUTING, &mut executing);
+    read_flags(state, LOCKED, &mut locked);
+    read_sets(state, &mut waits);
+    let threads = read_threads(state);
+    let mut kinds = [0u8; 151];
+    let mut item_keys = [0u64; 151];
+    let mut item_chutes = [0u16; 151];
+    graph::keep_all(&seq, commands, &mut kinds, &mut item_keys, &mut item_chutes);
+    perform(
+        state,
+        keys,
+        chutes,
+        answers,
+        commands,
+        schedule,
+        settings,
+        counters,
+        next,
+        seq,
+        executing,
+        locked,
+        waits,
+        kinds,
+        item_keys,
+        item_chutes,
+        threads,
+    );
+}
+
+// Performs a schedule on the arrays, and writes the state that they then show.
+fn perform(
+    state: &mut [u8],
+    keys: &mut [u64],
+    chutes: &mut [u16],
+    answers: &mut [u16],
+    commands: &[u8],
+    schedule: &[u8],
+    settings: Settings,
+    mut counters: Counters,
+    mut next: [u8; 151],
+    mut seq: [u16; 151],
+    mut executing: [bool; 151],
+    mut locked: [bool; 151],
+    mut waits: [[u64; 3]; 151],
+    mut kinds: [u8; 151],
+    mut item_keys: [u64; 151],
+    mut item_chutes: [u16; 151],
+    mut threads: [Thread; 65],
+)
+    requires { ⌜ Performs (now state) (now commands) (now schedule) kinds «item_keys» «item_chutes» (memory next seq executing locked waits (now keys) (now chutes) (now answers) counters) threads ⌝ }
+    ensures { λ _. ⌜ Performed settings (now (commands .entry)) (now (schedule .entry)) (memory next seq executing locked waits (now (keys .entry)) (now (chutes .entry)) (now (answers .entry)) counters) threads (lists (now (state .exit)) (now (keys .exit)) (now (chutes .exit)) (now (answers .exit))) ⌝ }
+{
+    let mut i = 0;
+    while i < schedule.len() {
+        let t = schedule[i];
+        let n = t as usize;
+        let thread = threads[n];
+        let r = graph::step(
+            &mut next,
+            &mut seq,
+            &mut executing,
+            &mut locked,
+            &mut waits,
+            &mut kinds,
+            &mut item_keys,
+            &mut item_chutes,
+            keys,
+            chutes,
+            answers,
+            commands,
+            t,
+            thread,
+            counters,
+        );
+        let moved = r.thread;
+        threads[n] = moved;
+        counters = r.counters;
+        i += 1;
+    }
+    write_state(
+        state,
+        settings,
+        counters,
+        &next,
+        &seq,
+        &executing,
+        &locked,
+        &waits,
+        threads,
+    );
 }

@@ -8,6 +8,7 @@ mod reports;
 mod write;
 
 pub use advance_call::Advancing;
+pub use advance_call::advance;
 pub use open_call::Opening;
 pub use open_call::open;
 pub use reports::Report;

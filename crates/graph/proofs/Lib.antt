@@ -7,3 +7,4 @@ pub mod Readiness
 pub mod Steps
 pub mod WorkerSteps
 pub mod Writing
+pub mod Filled

@@ -3,6 +3,7 @@ ghost use Rattle.graph.specs.Memory.{Ready, Steps, memory};
 
 mod arrays;
 mod chain;
+mod fill;
 mod items;
 mod loader;
 mod loader_thread;
@@ -14,6 +15,7 @@ pub use chain::enter;
 pub use chain::load;
 pub use chain::search;
 pub use chain::walk;
+pub use fill::keep_all;
 pub use items::Item;
 pub use items::command_at;
 pub use items::dependent;

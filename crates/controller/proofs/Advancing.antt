@@ -1,0 +1,42 @@
+-- What a call on handed-back lists answers and leaves, by its three tests. Assumes nothing.
+use Prim.Native.Nat.{ℕ}
+use mathlib.Core.Path.{_≡_, sym, ap}
+use mathlib.Core.Bool.{true, false}
+use mathlib.Core.List.{List}
+use Rattle.model.specs.Step.{steps}
+use Rattle.model.specs.Statement.{allWithin}
+use Rattle.controller.specs.Layout.{Lists, listsOf, setupIn, stateIn, stateFits}
+use Rattle.controller.specs.Calls.{Outcome, accepted, refused, numberOf, kept, handedBackFit, advanceOn}
+use Rattle.controller.specs.Performed.{Passes}
+
+module _ (l : Lists) (commands schedule : List ℕ) where
+  -- the first test that fails decides
+  pub refuses-lengths : handedBackFit l commands ≡ false → advanceOn l commands schedule ≡ refused 6 0
+  unfolding advanceOn
+  refuses-lengths e = rw e
+
+  pub refuses-state : handedBackFit l commands ≡ true → stateFits l ≡ false → advanceOn l commands schedule ≡ refused 12 0
+  unfolding advanceOn
+  refuses-state e f = rw (e, f)
+
+  pub refuses-thread : handedBackFit l commands ≡ true → stateFits l ≡ true → allWithin (setupIn (l .state) commands .workers) schedule ≡ false
+      → advanceOn l commands schedule ≡ refused 11 0
+  unfolding advanceOn
+  refuses-thread e f g = rw (e, f, g)
+
+  -- where none fails, the schedule's steps are performed
+  pub accepts : Passes l commands schedule → advanceOn l commands schedule ≡ accepted (listsOf (setupIn (l .state) commands) (steps (setupIn (l .state) commands) schedule (stateIn l)))
+  unfolding advanceOn
+  accepts p = rw (p .lengths, p .state, p .named)
+
+  -- a refusal answers its number and leaves the lists
+  pub refused-so : (n : ℕ) → advanceOn l commands schedule ≡ refused n 0
+      → (n ≡ numberOf (advanceOn l commands schedule)) × (l ≡ kept (advanceOn l commands schedule) l)
+  unfolding numberOf kept
+  refused-so n e = (sym (ap numberOf e), sym (ap (λ (x : Outcome). kept x l) e))
+
+  -- an accepted call answers 0 and leaves its lists
+  pub accepted-so : (m after : Lists) → m ≡ after → advanceOn l commands schedule ≡ accepted after
+      → (0 ≡ numberOf (advanceOn l commands schedule)) × (m ≡ kept (advanceOn l commands schedule) l)
+  unfolding numberOf kept
+  accepted-so m after is e = (sym (ap numberOf e), rw (is, e))

@@ -1,0 +1,243 @@
+-- What lists that pass the tests of a call show: the facts behind the tests, and memory ready for a step. Assumes nothing.
+use Prim.Native.Nat.{ℕ, zero, suc, _+_, _*_, _%_, _≤_, _<_}
+use native.Mathlib.Omega.{arith}
+use native.Mathlib.Nat.{zero-add}
+use mathlib.Core.Path.{_≡_, refl, sym, ap, _∙_, fun-ext, subst}
+use mathlib.Core.Bool.{Bool, true, false, cond, not, _&&_, _||_, and-eq-true-iff}
+use mathlib.Core.List.{List, [], _∷_}
+use lib.ListN.{length, getD, replicate, length-replicate, getD-replicate, List·getD-eq-default}
+use lib.Dec.{eqb, leb, ltb}
+use lib.Seq.{drop-cons}
+use borrow.Author.Tests.{leb-true, eqb-true, lt-ltb, le-ltb}
+use Rattle.node_set.specs.Members.{member}
+use Rattle.node_set.proofs.Bits.{bit-of-zero}
+use Rattle.model.specs.declared.Thread.{Thread}
+use Rattle.model.specs.declared.Thread.the-variants.{Idle}
+use Rattle.model.specs.Statement.{allWithin}
+use Rattle.graph.specs.declared.Counters.{Counters}
+use Rattle.graph.specs.Arrays.{Within, numbers}
+use Rattle.graph.specs.Items.{Kept, commandsIn}
+use Rattle.graph.specs.Memory.{Ready, memory, shown}
+use Rattle.graph.proofs.Commands.{commands-length}
+use Rattle.controller.specs.Bytes.{numberOf, numberAt, tabulate, allBelow}
+use Rattle.controller.specs.Layout.{Lists, lists, threadOf, threadAt, setAt, setupIn, countIn, stateIn, stateLength, threadFits, threadFitsAt, setFits, nodeFitsAt, settingsFit, ascends, stateFits}
+use Rattle.controller.specs.Calls.{lengthsFit, handedBackFit}
+use Rattle.controller.specs.Performed.{CountersIn}
+use Rattle.controller.proofs.Bytes.{below-or-past, tabulate-at, tabulate-past, all-below-each}
+use Rattle.controller.proofs.RoundTrip.{state-tests, node-tests}
+use Rattle.controller.proofs.Performing.{threadsOf, within-higher}
+
+-- ---- tests one after the other
+
+abbrev pub allOf : Bool → List Bool → Bool
+allOf test [] = test
+allOf test (next ∷ tests) = allOf (test && next) tests
+
+-- each test of a chain that passes has passed
+pub each-passed : (test : Bool) (tests : List Bool) → allOf test tests ≡ true → (i : ℕ) → getD (test ∷ tests) i true ≡ true
+each-passed test [] h zero = h
+each-passed test [] h (suc i) = refl
+each-passed test (next ∷ tests) h zero = and-eq-true-iff test next .0 (each-passed (test && next) tests h 0) .0
+each-passed test (next ∷ tests) h (suc zero) = and-eq-true-iff test next .0 (each-passed (test && next) tests h 0) .1
+each-passed test (next ∷ tests) h (suc (suc i)) = each-passed (test && next) tests h (suc i)
+
+-- ---- what is read
+
+-- a number of one byte is the byte
+pub number-one : (at : ℕ) (b : List ℕ) → at < length b → numberAt 1 at b ≡ getD b at 0
+unfolding numberAt numberOf
+number-one at b h = rw (drop-cons b at 0 h) (zero-add (getD b at 0))
+
+-- a tabulated element, or the default past the end
+tabulate-cond {ℓ} : {A : Type ℓ} (k : ℕ) (f : ℕ → A) (d : A) (n : ℕ) → getD (tabulate k f) n d ≡ cond (ltb n k) (f n) d
+tabulate-cond k f d n =
+    below-or-past n k (λ h. rw (lt-ltb n k h) (tabulate-at k f d n h)) (λ h. rw (le-ltb n k h) (tabulate-past k f d n h))
+
+-- what holds of all tabulated elements and of the default holds everywhere
+tabulate-all {ℓ} : {A : Type ℓ} (P : A → Type 0) (k : ℕ) (f : ℕ → A) (d : A) → ((n : ℕ) → n < k → P (f n)) → P d → (n : ℕ) → P (getD (tabulate k f) n d)
+tabulate-all P k f d each last n =
+    below-or-past n k (λ h. subst P (sym (tabulate-at k f d n h)) (each n h)) (λ h. subst P (sym (tabulate-past k f d n h)) last)
+
+-- an array of zeros is 0 everywhere
+pub zeros : (k n : ℕ) → _≡_ {A = ℕ} (getD (replicate k 0) n 0) 0
+zeros k n =
+    below-or-past n k (λ h. getD-replicate k n 0 0 h) (λ h. List·getD-eq-default (replicate k 0) 0 {n = n} (rw (length-replicate {A = ℕ} k 0) h))
+
+-- the set of no words is empty
+no-member : (y : ℕ) → member [] y ≡ false
+unfolding member
+no-member y = bit-of-zero (y % 64)
+
+-- a tabulated set's members
+set-cond : (f : ℕ → List ℕ) (n y : ℕ) → member (getD (tabulate 151 f) n []) y ≡ cond (ltb n 151) (member (f n) y) false
+set-cond f n y =
+    below-or-past n 151
+    (λ h. rw (lt-ltb n 151 h, tabulate-at 151 f [] n h))
+    (λ h. rw (le-ltb n 151 h, tabulate-past 151 f [] n h) (no-member y))
+
+-- either way a property holds
+either : (P : Thread → Type 0) (t : Bool) {a b : Thread} → P a → P b → P (cond t a b)
+either P true p q = p
+either P false p q = q
+
+-- a thread made of nodes is within the graph
+thread-within : (tag at own found : ℕ) → at ≤ 150 → own ≤ 150 → Within (threadOf tag at own found)
+unfolding threadOf
+thread-within tag at own found h j =
+    either Within (eqb tag 1) (h, j) (either Within (eqb tag 2) h (either Within (eqb tag 3) j (either Within (eqb tag 4) j
+    (either Within (eqb tag 5) j (either Within (eqb tag 6) (h, j) (either Within (eqb tag 7) (h, j) tt))))))
+
+-- ---- the facts behind the tests
+
+pub record Fit (l : Lists) (commands : List ℕ) : Type 0 where
+  pub long : length (l .state) ≡ 4715
+  pub answers : length (l .answers) ≡ countIn (l .state)
+  pub keys : length (l .keys) ≡ numberAt 2 2 (l .state)
+  pub whole : length commands ≡ 16 * countIn (l .state)
+  pub workers : numberAt 1 1 (l .state) ≤ 64
+  pub few : countIn (l .state) ≤ 4096
+  pub free : numberAt 1 10 (l .state) ≤ 150
+  pub next : (n : ℕ) → n < 151 → getD (l .state) (11 + n) 0 ≤ 150
+  pub seq : (n : ℕ) → n < 151 → numberAt 2 (162 + 2 * n) (l .state) ≤ countIn (l .state)
+  pub threads : (t : ℕ) → t < 65 → Within (threadAt (l .state) t)
+
+module _ (l : Lists) (commands : List ℕ) where
+  lengths-passed : handedBackFit l commands ≡ true
+      → (length (l .state) ≡ 4715) × (length (l .answers) ≡ countIn (l .state)) × (length (l .keys) ≡ numberAt 2 2 (l .state)) × (length commands ≡ 16 * countIn (l .state))
+  unfolding handedBackFit lengthsFit stateLength setupIn
+  lengths-passed fit =
+      let capacity = numberAt 2 2 (l .state) in
+      let each = each-passed (eqb (length (l .state)) 4715) (eqb (length (l .answers)) (countIn (l .state)) ∷ eqb (length (l .keys)) capacity
+      ∷ eqb (length (l .chutes)) capacity ∷ eqb (length commands) (16 * countIn (l .state)) ∷ []) fit in
+      (eqb-true _ _ (each 0), eqb-true _ _ (each 1), eqb-true _ _ (each 2), eqb-true _ _ (each 4))
+
+  settings-passed : (size workers capacity count : ℕ) → settingsFit size workers capacity count ≡ true → (size ≤ 150) × (workers ≤ 64) × (count ≤ 4096)
+  unfolding settingsFit
+  settings-passed size workers capacity count fit =
+      let each = each-passed (leb 1 size) (leb size 150 ∷ leb 1 workers ∷ leb workers 64 ∷ leb 1 capacity ∷ leb capacity 4096 ∷ leb count 4096 ∷ []) fit in
+      (leb-true _ _ (each 1), leb-true _ _ (each 3), leb-true _ _ (each 6))
+
+  node-passed : (size count n : ℕ) → nodeFitsAt (l .state) size count n ≡ true
+      → (getD (l .state) (11 + n) 0 ≤ size) × (numberAt 2 (162 + 2 * n) (l .state) ≤ count)
+  node-passed size count n fit =
+      let b = l .state in
+      let each = each-passed (leb (getD b (11 + n) 0) size) (leb (numberAt 2 (162 + 2 * n) b) count ∷ leb (getD b (464 + n) 0) 1 ∷ leb (getD b (615 + n) 0) 1
+      ∷ setFits (setAt b n) size ∷ []) (sym (node-tests b size count n) ∙ fit) in
+      (leb-true _ _ (each 0), leb-true _ _ (each 1))
+
+  thread-passed : (size t : ℕ) → size ≤ 150 → threadFitsAt (l .state) size t ≡ true → Within (threadAt (l .state) t)
+  unfolding threadFitsAt threadFits threadAt
+  thread-passed size t small fit =
+      let b = l .state in
+      let tag = getD b (4390 + 5 * t) 0 in
+      let at = getD b (4391 + 5 * t) 0 in
+      let own = getD b (4392 + 5 * t) 0 in
+      let found = numberAt 2 (4393 + 5 * t) b in
+      let each = each-passed (leb tag 7) (leb at size ∷ leb own size ∷ cond (eqb t 0) (leb tag 1) (not (eqb tag 1))
+      ∷ (eqb tag 1 || eqb tag 2 || eqb tag 6 || eqb tag 7 || eqb at 0)
+      ∷ (eqb tag 1 || eqb tag 3 || eqb tag 4 || eqb tag 5 || eqb tag 6 || eqb tag 7 || eqb own 0) ∷ (eqb tag 4 || eqb found 0) ∷ []) fit in
+      thread-within tag at own found (omega (arith, leb-true at size (each 1))) (omega (arith, leb-true own size (each 2)))
+
+  pub tests-fit : handedBackFit l commands ≡ true → stateFits l ≡ true → Fit l commands
+  tests-fit fit all =
+      let b = l .state in
+      let size = numberAt 1 0 b in
+      let count = countIn b in
+      let lengths = lengths-passed fit in
+      let each = each-passed (settingsFit size (numberAt 1 1 b) (numberAt 2 2 b) count) (leb (numberAt 2 6 b) count ∷ leb (numberAt 1 10 b) size
+      ∷ allBelow 151 (nodeFitsAt b size count) ∷ allBelow 65 (threadFitsAt b size) ∷ leb (numberAt 2 8 b) (numberAt 2 2 b)
+      ∷ ascends (numberAt 2 8 b) (l .keys) ∷ []) (sym (state-tests l) ∙ all) in
+      let settings = settings-passed size (numberAt 1 1 b) (numberAt 2 2 b) count (each 0) in
+      let nodes = all-below-each 151 (nodeFitsAt b size count) (each 3) in
+      record {
+        long = lengths .0;
+        answers = lengths .1;
+        keys = lengths .2;
+        whole = lengths .3;
+        workers = settings .1;
+        few = settings .2;
+        free = omega (arith, leb-true (numberAt 1 10 b) size (each 2), settings .0);
+        next = λ n h. omega (arith, node-passed size count n (nodes n h) .0, settings .0);
+        seq = λ n h. node-passed size count n (nodes n h) .1;
+        threads = λ t h. thread-passed size t (settings .0) (all-below-each 65 (threadFitsAt b size) (each 4) t h);
+      }
+
+  -- there are as many commands as the state says
+  pub fit-count : Fit l commands → length (commandsIn commands) ≡ countIn (l .state)
+  fit-count f = commands-length commands (countIn (l .state)) (f .whole)
+
+  -- the schedule's threads are among the 65, and the setup is that of the lists
+  pub fit-named : Fit l commands → (schedule : List ℕ) → allWithin (setupIn (l .state) commands .workers) schedule ≡ true → allWithin 64 schedule ≡ true
+  unfolding setupIn
+  fit-named f schedule = within-higher (numberAt 1 1 (l .state)) 64 (f .workers) schedule
+
+  pub fit-capacity : Fit l commands → setupIn (l .state) commands .capacity ≡ length (l .keys)
+  unfolding setupIn
+  fit-capacity f = sym (f .keys)
+
+  pub fit-commands : setupIn (l .state) commands .commands ≡ commandsIn commands
+  unfolding setupIn
+  fit-commands = refl
+
+-- the state is as long as the layout
+pub passed-long : (l : Lists) (commands : List ℕ) → handedBackFit l commands ≡ true → length (l .state) ≡ stateLength
+unfolding stateLength
+passed-long l commands fit = lengths-passed l commands fit .0
+
+-- the worker count is byte 1
+pub workers-in : (b commands : List ℕ) → length b ≡ stateLength → setupIn b commands .workers ≡ getD b 1 0
+unfolding setupIn stateLength
+workers-in b commands long = number-one 1 b (omega arith)
+
+-- ---- the arrays of handed-back lists
+
+-- what is read into the arrays
+pub record ReadOut (l : Lists) (k : Counters) (next seq : List ℕ) (executing locked : List Bool) (waits : List (List ℕ)) (threads : List Thread) : Type 0 where
+  pub counters : CountersIn (l .state) k
+  pub next-is : next ≡ tabulate 151 (λ (n : ℕ). getD (l .state) (11 + n) 0)
+  pub seq-is : seq ≡ tabulate 151 (λ (n : ℕ). numberAt 2 (162 + 2 * n) (l .state))
+  pub executing-is : executing ≡ tabulate 151 (λ (n : ℕ). eqb (getD (l .state) (464 + n) 0) 1)
+  pub locked-is : locked ≡ tabulate 151 (λ (n : ℕ). eqb (getD (l .state) (615 + n) 0) 1)
+  pub waits-is : waits ≡ tabulate 151 (setAt (l .state))
+  pub threads-are : threads ≡ tabulate 65 (threadAt (l .state))
+
+module _ (l : Lists) {k : Counters} {next seq : List ℕ} {executing locked : List Bool} {waits : List (List ℕ)} {threads : List Thread}
+    (r : ReadOut l k next seq executing locked waits threads) where
+  -- they show the state that stands in the lists
+  pub read-shows : shown (memory next seq executing locked waits (l .keys) (l .chutes) (l .answers) k) (threadsOf threads) ≡ stateIn l
+  unfolding stateIn
+  read-shows = λ i. record {
+    next = fun-ext (λ n. ap (λ (a : List ℕ). getD a n 0) (r .next-is) ∙ tabulate-cond 151 _ 0 n) i;
+    seq = fun-ext (λ n. ap (λ (a : List ℕ). getD a n 0) (r .seq-is) ∙ tabulate-cond 151 _ 0 n) i;
+    executing = fun-ext (λ n. ap (λ (a : List Bool). getD a n false) (r .executing-is) ∙ tabulate-cond 151 _ false n) i;
+    locked = fun-ext (λ n. ap (λ (a : List Bool). getD a n false) (r .locked-is) ∙ tabulate-cond 151 _ false n) i;
+    waits = fun-ext (λ n. fun-ext (λ y. ap (λ (a : List (List ℕ)). member (getD a n []) y) (r .waits-is) ∙ set-cond (setAt (l .state)) n y)) i;
+    free = r .counters .free-is i;
+    loaded = r .counters .loaded-is i;
+    threads = fun-ext (λ t. ap (λ (a : List Thread). getD a t Idle) (r .threads-are) ∙ tabulate-cond 65 _ Idle t) i;
+    store = record { keys = l .keys; chutes = l .chutes; used = r .counters .used-is i };
+    answers = λ c. getD (0 ∷ l .answers) c 0;
+  }
+
+  module _ (commands : List ℕ) (f : Fit l commands) where
+    -- each sequence number is that of a command
+    pub read-placed : (n : ℕ) → 16 * getD seq n 0 ≤ length commands
+    read-placed n =
+        let h = tabulate-all (λ (x : ℕ). x ≤ countIn (l .state)) 151 (λ (n : ℕ). numberAt 2 (162 + 2 * n) (l .state)) 0 (f .seq) (omega arith) n in
+        let e = ap (λ (a : List ℕ). getD a n 0) (r .seq-is) in
+        omega (arith, f .whole, h, e)
+
+    -- and they are ready for a step of any thread
+    pub read-ready : {kinds itemKeys itemChutes : List ℕ} → Kept (commandsIn commands) (numbers seq) kinds itemKeys itemChutes
+        → Ready commands kinds itemKeys itemChutes (memory next seq executing locked waits (l .keys) (l .chutes) (l .answers) k) Idle
+    read-ready kept = record {
+      nodes = subst (λ (a : List ℕ). (n : ℕ) → getD a n 0 ≤ 150) (sym (r .next-is)) (tabulate-all (λ (x : ℕ). x ≤ 150) 151 _ 0 (f .next) (omega arith));
+      free = omega (arith, r .counters .free-is, f .free);
+      within = tt;
+      kept = kept;
+      whole = omega (arith, f .whole, f .answers);
+      few = omega (arith, f .few, f .answers);
+    }
+
+    pub read-within : (t : ℕ) → Within (threadsOf threads t)
+    read-within = subst (λ (a : List Thread). (t : ℕ) → Within (threadsOf a t)) (sym (r .threads-are)) (tabulate-all Within 65 (threadAt (l .state)) Idle (f .threads) tt)

@@ -1,0 +1,37 @@
+-- `advance_call::counters_in` meets its contract: each counter is read where it stands. Assumes nothing.
+use native.Mathlib.Omega.{arith}
+use mathlib.Core.Path.{sym}
+use Rattle.controller.specs.Layout.{stateLength}
+use Rattle.controller.proofs.Handed.{number-one}
+use borrow.Author.Needs.{needs}
+use Rattle.controller.proofs.advance_call.counters_in.Statement.{statement}
+use Rattle.controller.proofs.advance_call.counters_in.Tie as tie
+
+shared-slice-read-t4 : tie.Need-shared-slice-read-t4
+unfolding stateLength
+shared-slice-read-t4 c = omega arith
+
+number-at-requires : tie.Need-number-at-requires
+unfolding stateLength
+number-at-requires c κs = omega arith
+
+cast-t6 : tie.Need-cast-t6
+cast-t6 c = search needs
+
+number-at-requires-2 : tie.Need-number-at-requires-2
+unfolding stateLength
+number-at-requires-2 c κs = omega arith
+
+cast-t8 : tie.Need-cast-t8
+cast-t8 c = search needs
+
+returns : tie.Need-returns
+unfolding stateLength
+returns c =
+    let start = c .before .before .before .before in
+    record { free-is = sym (number-one 10 (start .args .state .now) (omega (arith, start .pre))); loaded-is = c .before .number-at .ensures; used-is = c .number-at2 .ensures }
+
+pub counters-in-spec : {M : Type 1} → statement M
+counters-in-spec =
+    tie.close
+    (tie.spec shared-slice-read-t4 number-at-requires cast-t6 number-at-requires-2 cast-t8 returns)

@@ -1,0 +1,109 @@
+-- `advance_call::perform` meets its contract. The loop's invariant: after i steps the arrays show the state after the schedule's first i steps.
+-- Assumes nothing.
+use Prim.Native.Nat.{_+_, _-_, _^_, _<_}
+use native.Mathlib.Omega.{arith}
+use borrow.Author.Needs.{needs}
+use lib.ListN.{length, getD}
+use Rattle.graph.specs.Memory.{memory}
+use Rattle.controller.proofs.Performing.{Along, along-none, along-more, performed, each-within, ready-for}
+use Rattle.controller.proofs.advance_call.perform.Statement.{statement}
+use Rattle.controller.proofs.advance_call.perform.Tie as tie
+
+abbrev Inv-loop : tie.InvT-loop
+Inv-loop state keys₀ chutes₀ answers₀ commands schedule settings counters₀ next₀ seq₀ executing₀ locked₀ waits₀ kinds₀ item-keys₀ item-chutes₀ threads₀ i₀ keys chutes answers counters next seq executing locked waits kinds item-keys item-chutes threads i =
+    Along commands schedule (memory next₀ seq₀ executing₀ locked₀ waits₀ keys₀ chutes₀ answers₀ counters₀) threads₀ kinds item-keys item-chutes (memory next seq executing locked waits keys chutes answers counters) threads i
+
+abbrev μ-loop : tie.MeasureT-loop
+μ-loop state keys₀ chutes₀ answers₀ commands schedule settings counters₀ next₀ seq₀ executing₀ locked₀ waits₀ kinds₀ item-keys₀ item-chutes₀ threads₀ i₀ keys chutes answers counters next seq executing locked waits kinds item-keys item-chutes threads i =
+    length schedule - i
+
+-- the thread that the schedule names next is one of the 65, and the next place is a number
+named : (c : tie.In-loop Inv-loop μ-loop) →
+    let schedule = c .before .before .before .before .before .before .before .before .args .schedule .now in
+    getD schedule (c .before .loop .i) 0 < 65
+named c = let start = c .before .before .before .before .before .before .before .before in omega (arith, each-within 64 (start .args .schedule .now) (start .pre .named) (c .before .loop .i))
+
+next-fits : (c : tie.In-loop Inv-loop μ-loop) → c .before .loop .i + 1 < 2 ^ 64
+next-fits c = omega arith
+
+loop-holds : tie.Need-loop-holds Inv-loop μ-loop
+loop-holds c = along-none (c .before .before .before .before .before .before .pre .ready) (c .before .before .before .before .before .before .pre .within) (search needs)
+
+shared-slice-read-t : tie.Need-shared-slice-read-t Inv-loop μ-loop
+shared-slice-read-t c = omega arith
+
+cast-n : tie.Need-cast-n Inv-loop μ-loop
+cast-n c = omega (arith, named (c .before))
+
+mul-thread : tie.Need-mul-thread Inv-loop μ-loop
+mul-thread c = omega (arith, named (c .before))
+
+array-copy-out-thread : tie.Need-array-copy-out-thread Inv-loop μ-loop
+array-copy-out-thread c = named (c .before)
+
+step-requires : tie.Need-step-requires Inv-loop μ-loop
+step-requires c κs = let pass = c .before .before .before .before .before .before .before .before .before .before .before .before .before .before .loop in ready-for _ (pass .inv .within _) (pass .inv .ready)
+
+mul-threads : tie.Need-mul-threads Inv-loop μ-loop
+mul-threads c = omega (arith, named (c .before .before .before .before .before .before .before .before .before .before .before .before .before .before .before .before .before .before .before .before))
+
+array-set-from-threads : tie.Need-array-set-from-threads Inv-loop μ-loop
+array-set-from-threads c = named (c .before .before .before .before .before .before .before .before .before .before .before .before .before .before .before .before .before .before .before .before)
+
+add-i : tie.Need-add-i Inv-loop μ-loop
+add-i c = omega (arith, next-fits (c .before .before .before .before .before .before .before .before .before .before .before .before .before .before .before .before .before .before .before .before .before))
+
+loop-less : tie.Need-loop-less Inv-loop μ-loop
+loop-less c = omega (arith, c .before .before .before .before .before .before .before .before .before .before .before .before .before .before .before .before .before .before .before .before .before .loop-test .taken)
+
+loop-again : tie.Need-loop-again Inv-loop μ-loop
+loop-again c =
+    let called = c .before .before .before .before .before .before .before .step in
+    let pass = c .before .before .before .before .before .before .before .before .before .before .before .before .before .before .before .before .before .before .before .before .before in
+    along-more (called .result .thread) (pass .before .loop .inv) (pass .loop-test .taken) (named pass) (called .ensures) (called .kept .1 .1 .1 .1 .1 .1 .1 .1 .0) (called .kept .1 .1 .1 .1 .1 .1 .1 .1 .1 .0) (called .kept .1 .1 .1 .1 .1 .1 .1 .1 .1 .1 .0)
+
+write-state-requires : tie.Need-write-state-requires Inv-loop μ-loop
+write-state-requires c κs = c .before .before .before .before .before .before .before .before .before .before .before .before .before .before .pre .long
+
+same-length : tie.Need-same-length Inv-loop μ-loop
+same-length c = c .before .before .write-state .kept .0
+
+same-length-2 : tie.Need-same-length-2 Inv-loop μ-loop
+same-length-2 c = c .before .before .before .before .before .before .before .before .before .before .loop .inv .keys-long
+
+same-length-3 : tie.Need-same-length-3 Inv-loop μ-loop
+same-length-3 c = c .before .before .before .before .before .before .before .before .before .before .loop .inv .chutes-long
+
+same-length-4 : tie.Need-same-length-4 Inv-loop μ-loop
+same-length-4 c = c .before .before .before .before .before .before .before .before .before .before .loop .inv .answers-long
+
+returns : tie.Need-returns Inv-loop μ-loop
+returns c =
+    let after = c .before .before .before .before .before .before .before .before .before in
+    let pass = after .before .loop in
+    performed (c .before .before .before .before .before .before .before .before .before .before .before .before .before .before .before .before .before .args .settings) (pass .counters) (pass .next) (pass .seq) (pass .executing) (pass .locked) (pass .waits) (pass .keys) (pass .chutes) (pass .answers) _
+    (pass .inv) (after .loop-test .left) (c .before .before .write-state .ensures)
+
+pub perform-spec : {M : Type 1} → statement M
+perform-spec =
+    tie.close
+    (tie.spec
+    Inv-loop
+    μ-loop
+    loop-holds
+    shared-slice-read-t
+    cast-n
+    mul-thread
+    array-copy-out-thread
+    step-requires
+    mul-threads
+    array-set-from-threads
+    add-i
+    loop-less
+    loop-again
+    write-state-requires
+    same-length
+    same-length-2
+    same-length-3
+    same-length-4
+    returns)

@@ -1,0 +1,168 @@
+-- `advance_call::run` meets its contract: what is read from the lists shows their state, and is ready for the schedule's steps. Assumes nothing.
+use Prim.Native.Nat.{ℕ, _*_}
+use native.Mathlib.Omega.{arith}
+use mathlib.Core.Path.{_≡_, refl, sym, ap, _∙_}
+use mathlib.Core.Bool.{Bool}
+use mathlib.Core.List.{List}
+use lib.ListN.{length}
+use Rattle.model.specs.Step.{State, steps}
+use Rattle.graph.specs.declared.Counters.{Counters}
+use Rattle.controller.specs.Layout.{Lists, lists, listsOf, setupIn, stateLength}
+use Rattle.controller.proofs.Handed.{Fit, ReadOut, tests-fit, fit-count, fit-named, fit-capacity, fit-commands, read-shows, read-placed, read-ready, read-within, passed-long, zeros}
+use borrow.Author.Needs.{needs}
+use Rattle.controller.proofs.advance_call.run.Statement.{statement}
+use Rattle.controller.proofs.advance_call.run.Tie as tie
+
+-- the lists that the call gets, and what their tests say
+abbrev given : tie.Start → Lists
+given c = lists (c .args .state .now) (c .args .keys .now) (c .args .chutes .now) (c .args .answers .now)
+
+fit : (c : tie.Start) → Fit (given c) (c .args .commands .now)
+fit c = tests-fit (given c) (c .args .commands .now) (c .pre .lengths) (c .pre .state)
+
+long : (c : tie.Start) → length (c .args .state .now) ≡ stateLength
+long c = passed-long (given c) (c .args .commands .now) (c .pre .lengths)
+
+settings-in-requires : tie.Need-settings-in-requires
+settings-in-requires c κs = long (c .before .before .before .before .before .before .before)
+
+counters-in-requires : tie.Need-counters-in-requires
+counters-in-requires c κs = long (c .before .before .before .before .before .before .before .before .before)
+
+slice-aggregate-read-bytes : tie.Need-slice-aggregate-read-bytes
+slice-aggregate-read-bytes c = search needs
+
+read-bytes-requires : tie.Need-read-bytes-requires
+read-bytes-requires c κs = omega (arith, fit (c .before .before .before .before .before .before .before .before .before .before .before .before) .long)
+
+slice-aggregate-read-numbers : tie.Need-slice-aggregate-read-numbers
+slice-aggregate-read-numbers c = search needs
+
+read-numbers-requires : tie.Need-read-numbers-requires
+read-numbers-requires c κs = omega (arith, fit (c .before .before .before .before .before .before .before .before .before .before .before .before .before .before .before .before) .long)
+
+slice-aggregate-read-flags : tie.Need-slice-aggregate-read-flags
+slice-aggregate-read-flags c = search needs
+
+read-flags-requires : tie.Need-read-flags-requires
+read-flags-requires c κs = omega (arith, fit (c .before .before .before .before .before .before .before .before .before .before .before .before .before .before .before .before .before .before .before .before) .long)
+
+slice-aggregate-read-flags-2 : tie.Need-slice-aggregate-read-flags-2
+slice-aggregate-read-flags-2 c = search needs
+
+read-flags-requires-2 : tie.Need-read-flags-requires-2
+read-flags-requires-2 c κs = omega (arith, fit (c .before .before .before .before .before .before .before .before .before .before .before .before .before .before .before .before .before .before .before .before .before .before .before .before) .long)
+
+slice-aggregate-read-sets : tie.Need-slice-aggregate-read-sets
+slice-aggregate-read-sets c = search needs
+
+read-sets-requires : tie.Need-read-sets-requires
+read-sets-requires c κs = (long (c .before .before .before .before .before .before .before .before .before .before .before .before .before .before .before .before .before .before .before .before .before .before .before .before .before .before .before .before), refl)
+
+read-threads-requires : tie.Need-read-threads-requires
+read-threads-requires c κs = long (c .before .before .before .before .before .before .before .before .before .before .before .before .before .before .before .before .before .before .before .before .before .before .before .before .before .before .before .before .before .before .before)
+
+-- the function's entry
+abbrev entry : tie.After-read-threads → tie.Start
+entry c = c .before .before .before .before .before .before .before .before .before .before .before .before .before .before .before .before .before .before .before .before .before .before .before .before .before .before .before .before .before .before .before .before
+
+-- the arrays, each as its call leaves it
+abbrev countersOf : tie.After-read-threads → Counters
+countersOf c = c .before .before .before .before .before .before .before .before .before .before .before .before .before .before .before .before .before .before .before .before .before .before .counters-in .result
+
+abbrev nextOf : tie.After-read-threads → List ℕ
+nextOf c = c .before .before .before .before .before .before .before .before .before .before .before .before .before .before .before .before .before .before .before .read-bytes .last .1 .1 .0
+
+abbrev seqOf : tie.After-read-threads → List ℕ
+seqOf c = c .before .before .before .before .before .before .before .before .before .before .before .before .before .before .before .read-numbers .last .1 .1 .0
+
+abbrev executingOf : tie.After-read-threads → List Bool
+executingOf c = c .before .before .before .before .before .before .before .before .before .before .before .read-flags .last .1 .1 .0
+
+abbrev lockedOf : tie.After-read-threads → List Bool
+lockedOf c = c .before .before .before .before .before .before .before .read-flags2 .last .1 .1 .0
+
+abbrev waitsOf : tie.After-read-threads → List (List ℕ)
+waitsOf c = c .before .before .before .read-sets .last .1 .0
+
+-- they are what stands in the lists
+read-out : (c : tie.After-read-threads) → ReadOut (given (entry c)) (countersOf c) (nextOf c) (seqOf c) (executingOf c) (lockedOf c) (waitsOf c) (c .read-threads .result)
+read-out c = record {
+  counters = c .before .before .before .before .before .before .before .before .before .before .before .before .before .before .before .before .before .before .before .before .before .before .counters-in .ensures;
+  next-is = c .before .before .before .before .before .before .before .before .before .before .before .before .before .before .before .before .before .before .before .read-bytes .ensures;
+  seq-is = c .before .before .before .before .before .before .before .before .before .before .before .before .before .before .before .read-numbers .ensures;
+  executing-is = c .before .before .before .before .before .before .before .before .before .before .before .read-flags .ensures;
+  locked-is = c .before .before .before .before .before .before .before .read-flags2 .ensures;
+  waits-is = c .before .before .before .read-sets .ensures;
+  threads-are = c .read-threads .ensures;
+}
+
+keep-all-requires : tie.Need-keep-all-requires
+keep-all-requires c κs =
+    let at = c .before .before .before .before in
+    let start = entry at in
+    let commands = start .args .commands .now in (
+      read-placed (given start) (read-out at) commands (fit start),
+      fit start .whole ∙ ap (λ (n : ℕ). 16 * n) (sym (fit-count (given start) commands (fit start))),
+      zeros 151,
+    )
+
+perform-requires : tie.Need-perform-requires
+perform-requires c κs =
+    let at = c .before .before .before .before .before .before .before .before .before in
+    let start = entry at in
+    let commands = start .args .commands .now in
+    record {
+      long = long start;
+      ready = read-ready (given start) (read-out at) commands (fit start) (c .before .before .before .before .keep-all .ensures);
+      within = read-within (given start) (read-out at) commands (fit start);
+      named = fit-named (given start) commands (fit start) (start .args .schedule .now) (start .pre .named);
+    }
+
+same-length : tie.Need-same-length
+same-length c = search needs
+
+same-length-2 : tie.Need-same-length-2
+same-length-2 c = search needs
+
+same-length-3 : tie.Need-same-length-3
+same-length-3 c = search needs
+
+same-length-4 : tie.Need-same-length-4
+same-length-4 c = search needs
+
+returns : tie.Need-returns
+returns c =
+    let called = c .before .before .before .before .before .before .before .before in
+    let at = called .before .before .before .before .before .before .before .before .before .before in
+    let start = entry at in
+    let commands = start .args .commands .now in
+    let o = setupIn (start .args .state .now) commands in
+    called .perform .ensures o (at .before .before .before .before .before .before .before .before .before .before .before .before .before .before .before .before .before .before .before .before .before .before .before .before .settings-in .ensures commands (fit-count (given start) commands (fit start)))
+    (fit-commands (given start) commands) (fit-capacity (given start) commands (fit start))
+    ∙ ap (λ (s : State). listsOf o (steps o (start .args .schedule .now) s)) (read-shows (given start) (read-out at))
+
+pub run-spec : {M : Type 1} → statement M
+run-spec =
+    tie.close
+    (tie.spec
+    settings-in-requires
+    counters-in-requires
+    slice-aggregate-read-bytes
+    read-bytes-requires
+    slice-aggregate-read-numbers
+    read-numbers-requires
+    slice-aggregate-read-flags
+    read-flags-requires
+    slice-aggregate-read-flags-2
+    read-flags-requires-2
+    slice-aggregate-read-sets
+    read-sets-requires
+    read-threads-requires
+    keep-all-requires
+    perform-requires
+    same-length
+    same-length-2
+    same-length-3
+    same-length-4
+    returns)

@@ -1,0 +1,142 @@
+-- Laws of a call's outcome: a refusal's number is not 0, so what is printed goes by the number and the lists left; and an opening goes by the
+-- lengths of what is lent. Assumes nothing.
+use Prim.Native.Nat.{ℕ, zero, suc, _+_, _/_, _%_, _<_, min}
+use native.Mathlib.Omega.{arith}
+use mathlib.Core.Path.{_≡_, refl, ap, sym, _∙_}
+use mathlib.Core.Bool.{Bool, true, false, cond, _&&_}
+use mathlib.Core.List.{List, [], _∷_, map}
+use borrow.Author.Tests.{le-leb, lt-leb}
+use lib.ListN.{length, getD, take, drop, replicate, length-replicate}
+use lib.Dec.{eqb, leb}
+use Rattle.s10.specs.Text.{isWellFormed, serialDigits, checkDigit}
+use Rattle.s10.specs.Outcome.{readText}
+use Rattle.s10.specs.Outcome as Identifier
+use Rattle.command.specs.declared.Kind.{Kind}
+use Rattle.command.specs.Read.{firstRefusal, partsOf, readings, readCommand, withChute, isKind, kindOf, chuteFits, chuteOf}
+use Rattle.command.specs.Read as Command
+use Rattle.model.specs.Step.{Setup}
+use Rattle.model.specs.Statement.{allWithin}
+use Rattle.controller.specs.Layout.{Lists, lists, stateLength, setupIn, stateFits}
+use Rattle.controller.specs.Calls.{Outcome, accepted, refused, numberOf, kept, lengthsFit, openedWith, openOn, handedBackFit, advanceOn}
+use Rattle.controller.proofs.Bytes.{below-or-past}
+use Rattle.depot.specs.Program.{refusal, printed, zeros}
+
+-- ---- a refusal's number is not 0
+
+pub data Numbered : Outcome → Type 0 where
+  call-accepted : (l : Lists) → Numbered (accepted l)
+  call-refused : (n place : ℕ) → Numbered (refused (suc n) place)
+
+data CommandNumbered : Command.Outcome → Type 0 where
+  command-accepted : (command : _) → CommandNumbered (Command.accepted command)
+  command-refused : (n : ℕ) → CommandNumbered (Command.refused (suc n))
+
+data IdentifierNumbered : Identifier.Outcome → Type 0 where
+  identifier-accepted : (key : ℕ) → IdentifierNumbered (Identifier.accepted key)
+  identifier-refused : (n : ℕ) → IdentifierNumbered (Identifier.refused (suc n))
+
+-- what holds of both ways out of a test holds after it
+tested : {A : Type 0} (P : A → Type 0) (t : Bool) (pass fail : A) → P pass → P fail → P (cond t pass fail)
+tested P true pass fail p q = p
+tested P false pass fail p q = q
+
+identifier-numbered : (text : List ℕ) → IdentifierNumbered (readText text)
+unfolding readText
+identifier-numbered text =
+    tested IdentifierNumbered (isWellFormed text) _ _
+    (tested IdentifierNumbered (eqb _ (checkDigit (serialDigits text))) _ _ (identifier-accepted _) (identifier-refused 8))
+    (identifier-refused 7)
+
+chute-numbered : (kind : Kind) (o : Identifier.Outcome) (bytes : List ℕ) → IdentifierNumbered o → CommandNumbered (withChute kind o bytes)
+unfolding withChute
+chute-numbered kind _ bytes (identifier-accepted key) =
+    tested CommandNumbered (eqb (length bytes) 2 && chuteFits kind (chuteOf bytes)) _ _ (command-accepted _) (command-refused 9)
+chute-numbered kind _ bytes (identifier-refused n) = command-refused n
+
+command-numbered : (part : List ℕ) → CommandNumbered (readCommand part)
+unfolding readCommand
+command-numbered part =
+    tested CommandNumbered (isKind (getD part 0 0)) _ _
+    (chute-numbered (kindOf (getD part 0 0)) (readText (take 13 (drop 1 part))) (drop 14 part) (identifier-numbered (take 13 (drop 1 part))))
+    (command-refused 6)
+
+-- the first refusal of a list is one of its commands'
+first-of : (place : ℕ) (o : Command.Outcome) (rest : List Command.Outcome) (setup : Setup) → CommandNumbered o
+    → ((p : ℕ) → Numbered (openedWith (firstRefusal p rest) setup)) → Numbered (openedWith (firstRefusal place (o ∷ rest)) setup)
+unfolding firstRefusal openedWith
+first-of place _ rest setup (command-accepted command) later = later (place + 1)
+first-of place _ rest setup (command-refused n) later = call-refused n place
+
+first-numbered : (place : ℕ) (parts : List (List ℕ)) (setup : Setup) → Numbered (openedWith (firstRefusal place (map readCommand parts)) setup)
+unfolding firstRefusal openedWith
+first-numbered place [] setup = call-accepted _
+first-numbered place (part ∷ parts) setup = first-of place (readCommand part) (map readCommand parts) setup (command-numbered part) (λ p. first-numbered p parts setup)
+
+pub open-numbered : (size workers capacity : ℕ) (commands : List ℕ) (l : Lists) → Numbered (openOn size workers capacity commands l)
+unfolding openOn readings
+open-numbered size workers capacity commands l =
+    tested Numbered (leb 1 size && leb size 150) _ _
+    (tested Numbered (leb 1 workers && leb workers 64) _ _
+    (tested Numbered (leb 1 capacity && leb capacity 4096) _ _
+    (tested Numbered (eqb (length commands % 16) 0) _ _
+    (tested Numbered (leb (length commands / 16) 4096) _ _
+    (tested Numbered (lengthsFit capacity (length commands / 16) l) _ _ (first-numbered 1 (partsOf commands) _) (call-refused 5 0))
+    (call-refused 4 0))
+    (call-refused 3 0))
+    (call-refused 2 0))
+    (call-refused 1 0))
+    (call-refused 0 0)
+
+pub advance-numbered : (l : Lists) (commands schedule : List ℕ) → Numbered (advanceOn l commands schedule)
+unfolding advanceOn
+advance-numbered l commands schedule =
+    tested Numbered (handedBackFit l commands) _ _
+    (tested Numbered (stateFits l) _ _
+    (tested Numbered (allWithin (setupIn (l .state) commands .workers) schedule) _ _ (call-accepted _) (call-refused 10 0))
+    (call-refused 11 0))
+    (call-refused 5 0)
+
+-- ---- what is printed
+
+pub printed-refused : (text : Lists → List ℕ) (o : Outcome) (n : ℕ) → n ≡ numberOf o → (n ≡ 0 → ⊥) → printed text o ≡ refusal n
+unfolding printed numberOf
+printed-refused text (accepted l) n e some = absurd (some e)
+printed-refused text (refused m place) n e some = ap refusal (sym e)
+
+pub printed-accepted : (text : Lists → List ℕ) (o : Outcome) (l left : Lists) → Numbered o → numberOf o ≡ 0 → left ≡ kept o l → printed text o ≡ text left
+unfolding printed numberOf kept
+printed-accepted text _ l left (call-accepted m) e k = ap text (sym k)
+printed-accepted text _ l left (call-refused n place) e k = absurd (omega arith)
+
+-- ---- what is lent
+
+-- an opening looks at the lengths of the lent lists alone
+open-by-lengths : (size workers capacity : ℕ) (commands : List ℕ) (l m : Lists) → length (l .state) ≡ length (m .state) → length (l .answers) ≡ length (m .answers)
+    → length (l .keys) ≡ length (m .keys) → length (l .chutes) ≡ length (m .chutes) → openOn size workers capacity commands l ≡ openOn size workers capacity commands m
+unfolding openOn lengthsFit
+open-by-lengths size workers capacity commands l m state answers keys chutes = rw (state, answers, keys, chutes)
+
+-- and not even at these where the capacity is above 4,096
+open-past : (size workers capacity : ℕ) (commands : List ℕ) (l m : Lists) → 4096 < capacity → openOn size workers capacity commands l ≡ openOn size workers capacity commands m
+unfolding openOn
+open-past size workers capacity commands l m past = rw (le-leb 1 capacity (omega arith), lt-leb capacity 4096 past)
+
+state-length : stateLength ≡ 4715
+unfolding stateLength
+state-length = refl
+
+-- so lists of zeros that are as long as asked may stand for those that are lent
+pub lent-as-zeros : (size workers capacity count : ℕ) (commands : List ℕ) (l : Lists) → length (l .state) ≡ 4715 → length (l .answers) ≡ count
+    → length (l .keys) ≡ min capacity 4096 → length (l .chutes) ≡ min capacity 4096
+    → openOn size workers capacity commands l ≡ openOn size workers capacity commands (zeros capacity count)
+unfolding zeros
+lent-as-zeros size workers capacity count commands l state answers keys chutes =
+    below-or-past 4096 capacity
+    (λ past. open-past size workers capacity commands l _ past)
+    (λ within.
+    let room = length-replicate {A = ℕ} capacity 0 in
+    open-by-lengths size workers capacity commands l _
+    (state ∙ sym state-length ∙ sym (length-replicate stateLength 0))
+    (answers ∙ sym (length-replicate count 0))
+    (omega arith)
+    (omega arith))

@@ -1,0 +1,107 @@
+-- `depot::perform::advance_and_report` meets its contract: a number that is not 0 is printed, and else the report of the lists that are left. Assumes nothing.
+use mathlib.Core.Path.{refl, sym, _∙_}
+use mathlib.Core.List.{[]}
+use borrow.Author.Needs.{needs}
+use Rattle.controller.specs.Layout.{lists}
+use Rattle.controller.specs.Calls.{advanceOn}
+use Rattle.depot.specs.Program.{report, advanced}
+use Rattle.depot.proofs.Chain.{report-by-bytes}
+use Rattle.depot.proofs.Outcome.{printed-refused, printed-accepted, advance-numbered}
+use Rattle.depot.proofs.perform.advance_and_report.Statement.{statement}
+use Rattle.depot.proofs.perform.advance_and_report.Tie as tie
+
+advance-requires : tie.Need-advance-requires
+advance-requires c κs = search needs
+
+advancing-number-requires : tie.Need-advancing-number-requires
+advancing-number-requires c κs = search needs
+
+put-refusal-requires : tie.Need-put-refusal-requires
+put-refusal-requires c κs = search needs
+
+same-length : tie.Need-same-length
+same-length c = search needs
+
+same-length-2 : tie.Need-same-length-2
+same-length-2 c = search needs
+
+same-length-3 : tie.Need-same-length-3
+same-length-3 c = search needs
+
+same-length-4 : tie.Need-same-length-4
+same-length-4 c = search needs
+
+same-length-5 : tie.Need-same-length-5
+same-length-5 c = search needs
+
+returns : tie.Need-returns
+unfolding advanced
+returns c =
+    let last = c .before .before in
+    let test = last .before .before in
+    let number = test .before in
+    let call = number .before .before .before .before .before .before .before .before .before in
+    let a = call .before .before .before .before .before .before .before .before .before .before .before .before .args in
+    let commands = a .commands .now in
+    let schedule = a .schedule .now in
+    let lent = lists (a .state .now) (a .keys .now) (a .chutes .now) (a .answers .now) in
+    let refusing = printed-refused (report commands) (advanceOn lent commands schedule) (number .advancing-number .result)
+    (number .advancing-number .ensures .0 ∙ call .advance .ensures .0) (test .if1 .taken) in
+    rw refusing (last .put-refusal .ensures)
+
+put-report-requires : tie.Need-put-report-requires
+put-report-requires c κs = search needs
+
+same-length-6 : tie.Need-same-length-6
+same-length-6 c = search needs
+
+same-length-7 : tie.Need-same-length-7
+same-length-7 c = search needs
+
+same-length-8 : tie.Need-same-length-8
+same-length-8 c = search needs
+
+same-length-9 : tie.Need-same-length-9
+same-length-9 c = search needs
+
+same-length-10 : tie.Need-same-length-10
+same-length-10 c = search needs
+
+returns-2 : tie.Need-returns-2
+unfolding advanced
+returns-2 c =
+    let last = c .before .before in
+    let test = last .before .before .before .before in
+    let number = test .before in
+    let call = number .before .before .before .before .before .before .before .before .before in
+    let a = call .before .before .before .before .before .before .before .before .before .before .before .before .args in
+    let commands = a .commands .now in
+    let schedule = a .schedule .now in
+    let lent = lists (a .state .now) (a .keys .now) (a .chutes .now) (a .answers .now) in
+    let state = call .advance .last .0 in
+    let answers = call .advance .last .1 .1 .1 .0 in
+    let left = lists state (call .advance .last .1 .0) (call .advance .last .1 .1 .0) answers in
+    let none = sym (number .advancing-number .ensures .0 ∙ call .advance .ensures .0) ∙ test .if1 .left in
+    let accepting = printed-accepted (report commands) (advanceOn lent commands schedule) lent left (advance-numbered lent commands schedule) none (call .advance .ensures .1) in
+    rw (accepting, report-by-bytes commands left (lists state [] [] answers) refl refl) (last .put-report .ensures)
+
+pub advance-and-report-spec : {M : Type 1} → statement M
+advance-and-report-spec =
+    tie.close
+    (tie.spec
+    advance-requires
+    advancing-number-requires
+    put-refusal-requires
+    same-length
+    same-length-2
+    same-length-3
+    same-length-4
+    same-length-5
+    returns
+    put-report-requires
+    same-length-6
+    same-length-7
+    same-length-8
+    same-length-9
+    same-length-10
+    returns-2)

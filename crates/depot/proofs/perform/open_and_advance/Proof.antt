@@ -1,0 +1,102 @@
+-- `depot::perform::open_and_advance` meets its contract: a number that is not 0 is printed, and else what the opened lists give. Assumes nothing.
+use mathlib.Core.Path.{sym, _∙_}
+use borrow.Author.Needs.{needs}
+use Rattle.controller.specs.Layout.{lists}
+use Rattle.controller.specs.Calls.{openOn}
+use Rattle.depot.specs.Program.{advanced}
+use Rattle.depot.proofs.Outcome.{printed-refused, printed-accepted, open-numbered}
+use Rattle.depot.proofs.perform.open_and_advance.Statement.{statement}
+use Rattle.depot.proofs.perform.open_and_advance.Tie as tie
+
+open-requires : tie.Need-open-requires
+open-requires c κs = search needs
+
+opening-number-requires : tie.Need-opening-number-requires
+opening-number-requires c κs = search needs
+
+put-refusal-requires : tie.Need-put-refusal-requires
+put-refusal-requires c κs = search needs
+
+same-length : tie.Need-same-length
+same-length c = search needs
+
+same-length-2 : tie.Need-same-length-2
+same-length-2 c = search needs
+
+same-length-3 : tie.Need-same-length-3
+same-length-3 c = search needs
+
+same-length-4 : tie.Need-same-length-4
+same-length-4 c = search needs
+
+same-length-5 : tie.Need-same-length-5
+same-length-5 c = search needs
+
+returns : tie.Need-returns
+returns c =
+    let last = c .before .before in
+    let test = last .before .before in
+    let number = test .before in
+    let call = number .before .before .before .before .before .before .before .before .before in
+    let a = call .before .before .before .before .before .before .before .before .before .before .before .before .args in
+    let commands = a .commands .now in
+    let schedule = a .schedule .now in
+    let lent = lists (a .state .now) (a .keys .now) (a .chutes .now) (a .answers .now) in
+    let refusing = printed-refused (advanced commands schedule) (openOn (a .size) (a .workers) (a .capacity) commands lent) (number .opening-number .result)
+    (number .opening-number .ensures .0 ∙ call .«open» .ensures .0) (test .if1 .taken) in
+    rw refusing (last .put-refusal .ensures)
+
+advance-and-report-requires : tie.Need-advance-and-report-requires
+advance-and-report-requires c κs = search needs
+
+same-length-6 : tie.Need-same-length-6
+same-length-6 c = search needs
+
+same-length-7 : tie.Need-same-length-7
+same-length-7 c = search needs
+
+same-length-8 : tie.Need-same-length-8
+same-length-8 c = search needs
+
+same-length-9 : tie.Need-same-length-9
+same-length-9 c = search needs
+
+same-length-10 : tie.Need-same-length-10
+same-length-10 c = search needs
+
+returns-2 : tie.Need-returns-2
+returns-2 c =
+    let last = c .before .before .before .before .before .before .before .before .before .before in
+    let test = last .before .before .before .before .before .before in
+    let number = test .before in
+    let call = number .before .before .before .before .before .before .before .before .before in
+    let a = call .before .before .before .before .before .before .before .before .before .before .before .before .args in
+    let commands = a .commands .now in
+    let schedule = a .schedule .now in
+    let lent = lists (a .state .now) (a .keys .now) (a .chutes .now) (a .answers .now) in
+    let left = lists (call .«open» .last .0) (call .«open» .last .1 .0) (call .«open» .last .1 .1 .0) (call .«open» .last .1 .1 .1 .0) in
+    let none = sym (number .opening-number .ensures .0 ∙ call .«open» .ensures .0) ∙ test .if1 .left in
+    let accepting = printed-accepted (advanced commands schedule) (openOn (a .size) (a .workers) (a .capacity) commands lent) lent left
+    (open-numbered (a .size) (a .workers) (a .capacity) commands lent) none (call .«open» .ensures .1 .1) in
+    rw accepting (last .advance-and-report .ensures)
+
+pub open-and-advance-spec : {M : Type 1} → statement M
+open-and-advance-spec =
+    tie.close
+    (tie.spec
+    open-requires
+    opening-number-requires
+    put-refusal-requires
+    same-length
+    same-length-2
+    same-length-3
+    same-length-4
+    same-length-5
+    returns
+    advance-and-report-requires
+    same-length-6
+    same-length-7
+    same-length-8
+    same-length-9
+    same-length-10
+    returns-2)

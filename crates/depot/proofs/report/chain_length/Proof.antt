@@ -1,0 +1,58 @@
+-- `depot::report::chain_length` meets its contract. The loop's invariant: the nodes counted, and those behind the last of them, are the chain.
+-- The measure is how many nodes may still follow. Assumes nothing.
+use Prim.Native.Nat.{_-_}
+use native.Mathlib.Omega.{arith}
+use mathlib.Core.Path.{sym, _∙_}
+use mathlib.Core.List.{[]}
+use lib.ListN.{length}
+use Rattle.controller.specs.Layout.{lists, stateIn}
+use Rattle.depot.proofs.Chain.{Walked, walk-begins, walk-goes-on, walk-ends, walk-is-cut}
+use Rattle.depot.proofs.report.chain_length.Statement.{statement}
+use Rattle.depot.proofs.report.chain_length.Tie as tie
+
+abbrev Inv-loop : tie.InvT-loop
+Inv-loop state node₀ count₀ node count = Walked (stateIn (lists state [] [] [])) node count
+
+abbrev μ-loop : tie.MeasureT-loop
+μ-loop state node₀ count₀ node count = 150 - count
+
+loop-holds : tie.Need-loop-holds Inv-loop μ-loop
+loop-holds c = walk-begins _
+
+next-of-requires : tie.Need-next-of-requires Inv-loop μ-loop
+next-of-requires c κs = omega arith
+
+returns : tie.Need-returns Inv-loop μ-loop
+returns c =
+    let l = c .before .before .before .loop in
+    (walk-ends _ (l .node) (l .count) (l .inv) (sym (c .before .next-of .ensures) ∙ c .if1 .taken), l .inv .0)
+
+add-count : tie.Need-add-count Inv-loop μ-loop
+add-count c = omega arith
+
+loop-less : tie.Need-loop-less Inv-loop μ-loop
+loop-less c = omega arith
+
+loop-again : tie.Need-loop-again Inv-loop μ-loop
+loop-again c =
+    let l = c .before .before .before .loop in
+    walk-goes-on _ (l .node) (c .before .next-of .result) (l .count) (l .inv) (c .before .before .loop-test .taken) (c .before .next-of .ensures) (c .if1 .left)
+
+returns-2 : tie.Need-returns-2 Inv-loop μ-loop
+returns-2 c =
+    let l = c .before .loop in
+    (walk-is-cut _ (l .node) (l .count) (l .inv) (c .loop-test .left), l .inv .0)
+
+pub chain-length-spec : {M : Type 1} → statement M
+chain-length-spec =
+    tie.close
+    (tie.spec
+    Inv-loop
+    μ-loop
+    loop-holds
+    next-of-requires
+    returns
+    add-count
+    loop-less
+    loop-again
+    returns-2)

@@ -1,0 +1,104 @@
+-- What the program writes, from what it reads: document 01, "The program `depot`". Each definition quotes its sentence. Assumes nothing.
+use Prim.Native.Nat.{ℕ, zero, suc, _+_, _*_, _/_, _%_}
+use mathlib.Core.Bool.{Bool, cond, _||_}
+use mathlib.Core.List.{List, [], _∷_, _++_}
+use lib.ListN.{length, getD, take, drop, replicate}
+use lib.Dec.{ltb}
+use Rattle.command.specs.declared.Kind.{Kind}
+use Rattle.command.specs.declared.Kind.the-variants.{Insert, Delete, Read, Update}
+use Rattle.command.specs.Read.{kindOf}
+use Rattle.model.specs.Step.{State}
+use Rattle.controller.specs.Bytes.{numberAt, fields}
+use Rattle.controller.specs.Layout.{Lists, lists, stateLength, stateIn}
+use Rattle.controller.specs.Calls.{Outcome, accepted, refused, openOn, advanceOn}
+use Rattle.controller.specs.Reports.{chainFrom}
+
+-- ---- text, as ASCII codes
+
+-- a number in decimal, without leading zeros: at most k digits, and n + 1 are enough for n
+unfoldable pub decimalWithin : ℕ → ℕ → List ℕ
+decimalWithin zero n = []
+decimalWithin (suc k) n = cond (ltb n 10) ((48 + n) ∷ []) (decimalWithin k (n / 10) ++ ((48 + n % 10) ∷ []))
+
+unfoldable pub decimal : ℕ → List ℕ
+decimal n = decimalWithin (suc n) n
+
+abbrev pub space : List ℕ
+space = 32 ∷ []
+
+abbrev pub newline : List ℕ
+newline = 10 ∷ []
+
+-- insert, delete, read, update
+abbrev pub kindName : Kind → List ℕ
+kindName Insert = 105 ∷ 110 ∷ 115 ∷ 101 ∷ 114 ∷ 116 ∷ []
+kindName Delete = 100 ∷ 101 ∷ 108 ∷ 101 ∷ 116 ∷ 101 ∷ []
+kindName Read = 114 ∷ 101 ∷ 97 ∷ 100 ∷ []
+kindName Update = 117 ∷ 112 ∷ 100 ∷ 97 ∷ 116 ∷ 101 ∷ []
+
+-- `refused `, `store ` and ` chain `
+abbrev pub refusedWord : List ℕ
+refusedWord = 114 ∷ 101 ∷ 102 ∷ 117 ∷ 115 ∷ 101 ∷ 100 ∷ 32 ∷ []
+
+abbrev pub storeWord : List ℕ
+storeWord = 115 ∷ 116 ∷ 111 ∷ 114 ∷ 101 ∷ 32 ∷ []
+
+abbrev pub chainWord : List ℕ
+chainWord = 32 ∷ 99 ∷ 104 ∷ 97 ∷ 105 ∷ 110 ∷ 32 ∷ []
+
+-- ---- lines
+
+-- "A refusal prints `refused` and the number."
+unfoldable pub refusal : ℕ → List ℕ
+refusal n = refusedWord ++ decimal n ++ newline
+
+-- "Else one line a command: place, kind, identifier, answer": the identifier's 13 characters stand as in the input
+unfoldable pub commandLine : ℕ → List ℕ → ℕ → List ℕ
+commandLine place command answer =
+    decimal place ++ space ++ kindName (kindOf (getD command 0 0)) ++ space ++ take 13 (drop 1 command) ++ space ++ decimal answer ++ newline
+
+-- the commands' lines one after the other; the places are 1, 2, 3 and on
+unfoldable pub commandLines : List ℕ → List ℕ → List ℕ
+commandLines commands answers =
+    fields (length commands / 16) (λ i. commandLine (suc i) (take 16 (drop (16 * i) commands)) (getD answers i 0))
+
+-- "then `store`, entries used, `chain`, records linked"
+unfoldable pub totals : State → List ℕ
+totals s = storeWord ++ decimal (s .store .used) ++ chainWord ++ decimal (length (chainFrom 150 0 s)) ++ newline
+
+-- all lines, from the lists that the calls leave
+unfoldable pub report : List ℕ → Lists → List ℕ
+report commands l = commandLines commands (l .answers) ++ totals (stateIn l)
+
+-- ---- the calls
+
+-- a refusal, or else the text of the lists that a call leaves
+unfoldable pub printed : (Lists → List ℕ) → Outcome → List ℕ
+printed text (accepted l) = text l
+printed text (refused n place) = refusal n
+
+-- performs a schedule in opened lists
+unfoldable pub advanced : List ℕ → List ℕ → Lists → List ℕ
+advanced commands schedule l = printed (report commands) (advanceOn l commands schedule)
+
+-- lent lists of zeros, as long as the layout, the room and the command count ask
+unfoldable pub zeros : ℕ → ℕ → Lists
+zeros capacity count = lists (replicate stateLength 0) (replicate capacity 0) (replicate capacity 0) (replicate count 0)
+
+-- ---- the program
+
+-- "graph size (1 byte), workers (1), room (2, high first), command count (2, high first), the commands, then a dealing to the end"
+unfoldable pub performed : List ℕ → List ℕ
+performed input =
+    let capacity : ℕ = numberAt 2 2 input in
+    let count : ℕ = numberAt 2 4 input in
+    let commands : List ℕ = take (16 * count) (drop 6 input) in
+    let schedule : List ℕ = drop (6 + 16 * count) input in
+    printed (advanced commands schedule) (openOn (getD input 0 0) (getD input 1 0) capacity commands (zeros capacity count))
+
+-- "Input over 65,536 bytes is refused 5, before any other test. Next, input of fewer than 6 bytes, or ending before the end of the last
+-- counted command, is refused 4. Then come opening's tests, and last 11."
+unfoldable pub output : List ℕ → List ℕ
+output input =
+    cond (ltb 65536 (length input)) (refusal 5)
+    (cond (ltb (length input) 6 || ltb (length input) (6 + 16 * numberAt 2 4 input)) (refusal 4) (performed input))

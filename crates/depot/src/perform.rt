@@ -1,0 +1,168 @@
+// The two calls of the controller, in lent lists.
+ghost use Prim.Native.Nat.{_*_, _≤_, _<_, min};
+ghost use mathlib.Core.Path.{_≡_};
+ghost use lib.ListN.{length};
+ghost use Rattle.controller.specs.Layout.{lists};
+ghost use Rattle.controller.specs.Calls.{openingNumber, advanceNumber, openOn};
+ghost use Rattle.depot.specs.Program.{printed, advanced, zeros};
+ghost use Rattle.depot.specs.Wrote.{Wrote};
+use crate::report::put_refusal;
+use crate::report::put_report;
+use controller::Advancing;
+use controller::Opening;
+use controller::advance;
+use controller::open;
+
+// The most that a store may have room for.
+const LARGEST_CAPACITY: u64 = 4096;
+
+// The number of an opening's answer.
+fn opening_number(opening: Opening) -> u64
+    ensures { λ r. ⌜ r ≡ openingNumber opening ⌝ }
+    ensures { λ r. ⌜ r < 100 ⌝ }
+{
+    match opening {
+        Opening::Opened => 0,
+        Opening::WrongGraphSize => 1,
+        Opening::WrongWorkers => 2,
+        Opening::WrongCapacity => 3,
+        Opening::WrongListLength => 4,
+        Opening::TooManyCommands => 5,
+        Opening::WrongLength => 6,
+        Opening::UnknownKindAt(_) => 7,
+        Opening::MalformedAt(_) => 8,
+        Opening::WrongCheckDigitAt(_) => 9,
+        Opening::WrongChuteAt(_) => 10,
+    }
+}
+
+// The number of an advance's answer.
+fn advancing_number(advancing: Advancing) -> u64
+    ensures { λ r. ⌜ r ≡ advanceNumber advancing ⌝ }
+    ensures { λ r. ⌜ r < 100 ⌝ }
+{
+    match advancing {
+        Advancing::Advanced => 0,
+        Advancing::WrongLength => 6,
+        Advancing::UnknownThread => 11,
+        Advancing::WrongState => 12,
+    }
+}
+
+// Performs the schedule in opened lists, and writes what came of it.
+fn advance_and_report(
+    out: &mut [u8],
+    state: &mut [u8],
+    keys: &mut [u64],
+    chutes: &mut [u16],
+    answers: &mut [u16],
+    commands: &[u8],
+    schedule: &[u8],
+) -> usize
+    requires { ⌜ (length (now commands) ≡ 16 * length (now answers)) × (length (now answers) < 4096) × (131072 ≤ length (now out)) ⌝ }
+    requires { ⌜ length (now state) ≡ 4715 ⌝ }
+    ensures { λ r. ⌜ Wrote (advanced (now (commands .entry)) (now (schedule .entry)) (lists (now (state .entry)) (now (keys .entry)) (now (chutes .entry)) (now (answers .entry)))) 0 (now (out .entry)) (now (out .exit)) r ⌝ }
+{
+    let advancing = advance(state, keys, chutes, answers, commands, schedule);
+    let number = advancing_number(advancing);
+    if number != 0 {
+        return put_refusal(out, number);
+    }
+    put_report(out, state, answers, commands)
+}
+
+// Opens in lent lists, then performs the schedule, and writes what came of it.
+fn open_and_advance(
+    out: &mut [u8],
+    state: &mut [u8],
+    keys: &mut [u64],
+    chutes: &mut [u16],
+    answers: &mut [u16],
+    commands: &[u8],
+    schedule: &[u8],
+    size: u64,
+    workers: u64,
+    capacity: u64,
+) -> usize
+    requires { ⌜ (length (now commands) ≡ 16 * length (now answers)) × (length (now answers) < 4096) × (131072 ≤ length (now out)) ⌝ }
+    requires { ⌜ length (now state) ≡ 4715 ⌝ }
+    ensures { λ r. ⌜ Wrote (printed (advanced (now (commands .entry)) (now (schedule .entry))) (openOn size workers capacity (now (commands .entry)) (lists (now (state .entry)) (now (keys .entry)) (now (chutes .entry)) (now (answers .entry))))) 0 (now (out .entry)) (now (out .exit)) r ⌝ }
+{
+    let opening = open(
+        state,
+        keys,
+        chutes,
+        answers,
+        commands,
+        size,
+        workers,
+        capacity,
+    );
+    let number = opening_number(opening);
+    if number != 0 {
+        return put_refusal(out, number);
+    }
+    advance_and_report(out, state, keys, chutes, answers, commands, schedule)
+}
+
+// Lists to lend. Opening sets them, so their contracts give only the lengths.
+fn new_state() -> [u8; 4715]
+    ensures { λ r. ⌜ length r ≡ 4715 ⌝ }
+{
+    [0; 4715]
+}
+
+fn new_keys() -> [u64; 4096]
+    ensures { λ r. ⌜ length r ≡ 4096 ⌝ }
+{
+    [0; 4096]
+}
+
+fn new_numbers() -> [u16; 4096]
+    ensures { λ r. ⌜ length r ≡ 4096 ⌝ }
+{
+    [0; 4096]
+}
+
+// How many entries are lent: the capacity, or the most there may be. A larger capacity is refused whatever is lent.
+fn lent_entries(capacity: u64) -> usize
+    ensures { λ r. ⌜ r ≡ min capacity 4096 ⌝ }
+{
+    if capacity < LARGEST_CAPACITY {
+        capacity as usize
+    } else {
+        LARGEST_CAPACITY as usize
+    }
+}
+
+// Performs the commands and the schedule in lists of its own.
+pub fn perform(
+    out: &mut [u8],
+    commands: &[u8],
+    schedule: &[u8],
+    count: usize,
+    size: u64,
+    workers: u64,
+    capacity: u64,
+) -> usize
+    requires { ⌜ (length (now commands) ≡ 16 * count) × (count < 4096) × (131072 ≤ length (now out)) ⌝ }
+    ensures { λ r. ⌜ Wrote (printed (advanced (now (commands .entry)) (now (schedule .entry))) (openOn size workers capacity (now (commands .entry)) (zeros capacity count))) 0 (now (out .entry)) (now (out .exit)) r ⌝ }
+{
+    let mut state = new_state();
+    let mut keys = new_keys();
+    let mut chutes = new_numbers();
+    let mut answers = new_numbers();
+    let entries = lent_entries(capacity);
+    open_and_advance(
+        out,
+        &mut state,
+        &mut keys[..entries],
+        &mut chutes[..entries],
+        &mut answers[..count],
+        commands,
+        schedule,
+        size,
+        workers,
+        capacity,
+    )
+}

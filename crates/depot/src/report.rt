@@ -1,0 +1,153 @@
+// The lines that the program writes.
+ghost use Prim.Native.Nat.{_+_, _*_, _≤_, _<_};
+ghost use mathlib.Core.Path.{_≡_};
+ghost use mathlib.Core.List.{[], _++_};
+ghost use lib.ListN.{length};
+ghost use Rattle.controller.specs.Bytes.{numberAt};
+ghost use Rattle.controller.specs.Layout.{lists, stateIn};
+ghost use Rattle.controller.specs.Reports.{chainFrom};
+ghost use Rattle.depot.specs.Program.{decimal, space, kindName, refusal, commandLine, commandLines, totals, report};
+ghost use Rattle.depot.specs.Wrote.{Wrote};
+use crate::text::NEWLINE;
+use crate::text::SPACE;
+use crate::text::put_byte;
+use crate::text::put_number;
+use crate::text::put_text;
+use command::Command;
+use command::Kind;
+
+// Where the state bytes have the count of used store entries and the next index of node 0; how many nodes the table has, and a chain at most.
+const USED: usize = 8;
+
+const NEXT: usize = 11;
+
+const NODES: usize = 151;
+
+const LONGEST_CHAIN: usize = 150;
+
+// The number that two bytes write, the high one first.
+pub fn number_at(bytes: &[u8], at: usize) -> u64
+    requires { ⌜ at + 2 ≤ length (now bytes) ⌝ }
+    ensures { λ r. ⌜ r ≡ numberAt 2 at (now (bytes .entry)) ⌝ }
+    ensures { λ r. ⌜ r < 65536 ⌝ }
+{
+    bytes[at] as u64 * 256 + bytes[at + 1] as u64
+}
+
+// The line of a refusal.
+pub fn put_refusal(out: &mut [u8], number: u64) -> usize
+    requires { ⌜ (14 ≤ length (now out)) × (number < 100) ⌝ }
+    ensures { λ r. ⌜ Wrote (refusal number) 0 (now (out .entry)) (now (out .exit)) r ⌝ }
+{
+    let at = put_text(out, 0, b"refused ");
+    let at = put_number(out, at, number);
+    put_byte(out, at, NEWLINE)
+}
+
+// The name of a kind.
+fn put_kind(out: &mut [u8], at: usize, kind: Kind) -> usize
+    requires { ⌜ at + 6 ≤ length (now out) ⌝ }
+    ensures { λ r. ⌜ Wrote (kindName kind) at (now (out .entry)) (now (out .exit)) r ⌝ }
+    ensures { λ r. ⌜ r ≤ at + 6 ⌝ }
+{
+    match kind {
+        Kind::Insert => put_text(out, at, b"insert"),
+        Kind::Delete => put_text(out, at, b"delete"),
+        Kind::Read => put_text(out, at, b"read"),
+        Kind::Update => put_text(out, at, b"update"),
+    }
+}
+
+// A line's first two words, each with a space behind it.
+fn put_start(out: &mut [u8], at: usize, place: usize, kind: Kind) -> usize
+    requires { ⌜ (at + 12 ≤ length (now out)) × (place < 10000) ⌝ }
+    ensures { λ r. ⌜ Wrote (decimal place ++ space ++ kindName kind ++ space) at (now (out .entry)) (now (out .exit)) r ⌝ }
+    ensures { λ r. ⌜ r ≤ at + 12 ⌝ }
+{
+    let at = put_number(out, at, place as u64);
+    let at = put_byte(out, at, SPACE);
+    let at = put_kind(out, at, kind);
+    put_byte(out, at, SPACE)
+}
+
+// The line of a command: its place, kind, identifier and answer.
+fn put_line(out: &mut [u8], at: usize, place: usize, command: &[u8], answer: u16) -> usize
+    requires { ⌜ (at + 32 ≤ length (now out)) × (place < 10000) × (length (now command) ≡ 16) ⌝ }
+    ensures { λ r. ⌜ Wrote (commandLine place (now (command .entry)) answer) at (now (out .entry)) (now (out .exit)) r ⌝ }
+    ensures { λ r. ⌜ r ≤ at + 32 ⌝ }
+{
+    let at = put_start(out, at, place, Kind::of(command[0]));
+    let at = put_text(out, at, &command[1..14]);
+    let at = put_byte(out, at, SPACE);
+    let at = put_number(out, at, answer as u64);
+    put_byte(out, at, NEWLINE)
+}
+
+// The lines of all commands.
+fn put_lines(out: &mut [u8], commands: &[u8], answers: &[u16]) -> usize
+    requires { ⌜ (length (now commands) ≡ 16 * length (now answers)) × (length (now answers) < 4096) × (131072 ≤ length (now out)) ⌝ }
+    ensures { λ r. ⌜ Wrote (commandLines (now (commands .entry)) (now (answers .entry))) 0 (now (out .entry)) (now (out .exit)) r ⌝ }
+    ensures { λ r. ⌜ r ≤ 32 * length (now (answers .entry)) ⌝ }
+{
+    let mut at = 0;
+    let mut i = 0;
+    while i < answers.len() {
+        let start = Command::LENGTH * i;
+        let end = start + Command::LENGTH;
+        at = put_line(out, at, i + 1, &commands[start..end], answers[i]);
+        i += 1;
+    }
+    at
+}
+
+// The next index of a node.
+fn next_of(state: &[u8], node: usize) -> usize
+    requires { ⌜ length (now state) ≡ 4715 ⌝ }
+    ensures { λ r. ⌜ r ≡ stateIn (lists (now (state .entry)) [] [] []) .next node ⌝ }
+{
+    if node < NODES {
+        state[NEXT + node] as usize
+    } else {
+        0
+    }
+}
+
+// How many nodes the chain has.
+fn chain_length(state: &[u8]) -> usize
+    requires { ⌜ length (now state) ≡ 4715 ⌝ }
+    ensures { λ r. ⌜ r ≡ length (chainFrom 150 0 (stateIn (lists (now (state .entry)) [] [] []))) ⌝ }
+    ensures { λ r. ⌜ r ≤ 150 ⌝ }
+{
+    let mut node = 0;
+    let mut count = 0;
+    while count < LONGEST_CHAIN {
+        node = next_of(state, node);
+        if node == 0 {
+            return count;
+        }
+        count += 1;
+    }
+    count
+}
+
+// The last line: how many entries the store has, and how many nodes the chain.
+fn put_totals(out: &mut [u8], at: usize, state: &[u8]) -> usize
+    requires { ⌜ (at + 22 ≤ length (now out)) × (length (now state) ≡ 4715) ⌝ }
+    ensures { λ r. ⌜ Wrote (totals (stateIn (lists (now (state .entry)) [] [] []))) at (now (out .entry)) (now (out .exit)) r ⌝ }
+{
+    let at = put_text(out, at, b"store ");
+    let at = put_number(out, at, number_at(state, USED));
+    let at = put_text(out, at, b" chain ");
+    let at = put_number(out, at, chain_length(state) as u64);
+    put_byte(out, at, NEWLINE)
+}
+
+// The lines of all commands, then the last.
+pub fn put_report(out: &mut [u8], state: &[u8], answers: &[u16], commands: &[u8]) -> usize
+    requires { ⌜ (length (now commands) ≡ 16 * length (now answers)) × (length (now answers) < 4096) × (131072 ≤ length (now out)) ⌝ }
+    requires { ⌜ length (now state) ≡ 4715 ⌝ }
+    ensures { λ r. ⌜ Wrote (report (now (commands .entry)) (lists (now (state .entry)) [] [] (now (answers .entry)))) 0 (now (out .entry)) (now (out .exit)) r ⌝ }
+{
+    let at = put_lines(out, commands, answers);
+    put_totals(out, at, state)
+}

@@ -1,0 +1,4 @@
+pub mod Fill
+pub mod Paste
+pub mod Entries
+pub mod Outcomes

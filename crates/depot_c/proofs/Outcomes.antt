@@ -1,0 +1,287 @@
+-- Laws of the calls' outcomes at the boundary: what lists of another length answer, where a refusal stands, and what is left.
+-- Assumes nothing.
+use Prim.Native.Nat.{ℕ, zero, suc, _+_, _*_, _/_, _%_, _≤_, _<_}
+use native.Mathlib.Omega.{arith}
+use mathlib.Core.Path.{_≡_, refl, sym, ap, _∙_}
+use mathlib.Core.Bool.{Bool, true, false, cond, _&&_, and-eq-true-iff, false≢true}
+use mathlib.Core.List.{List, [], _∷_}
+use lib.ListN.{length, getD, drop, length-map}
+use lib.Dec.{eqb, leb}
+use borrow.Author.Tests.{leb-true, eqb-true, le-leb}
+use Rattle.command.specs.Read.{firstRefusal, readings, parts, partsOf}
+use Rattle.command.specs.Read as Command
+use Rattle.model.specs.Step.{Setup}
+use Rattle.model.specs.Statement.{allWithin}
+use Rattle.graph.specs.Items.{commandsIn}
+use Rattle.controller.specs.Bytes.{numberAt, allBelow}
+use Rattle.controller.specs.Layout.{Lists, lists, stateLength, setupIn, countIn, settingsFit, nodeFitsAt, threadFitsAt, ascends, stateFits}
+use Rattle.controller.specs.Calls.{Outcome, accepted, refused, numberOf, placeOf, kept, lengthsFit, openedWith, openOn, handedBackFit, advanceOn}
+use Rattle.depot_c.specs.Numbers.{numbersIn, bytesIn}
+use Rattle.depot_c.specs.Boundary.{areWhole, entries, decoded, encoded, answerOf, left}
+use Rattle.controller.proofs.Bytes.{Bytes}
+use Rattle.controller.proofs.RoundTrip.{state-tests}
+use Rattle.depot_c.proofs.Entries.{numbers-length, numbers-read-back}
+
+-- ---- tests
+
+-- what holds of either choice, each under its test, holds of the chosen one
+chosen : (P : Outcome → Type 0) (t : Bool) {a b : Outcome} → (t ≡ true → P a) → (t ≡ false → P b) → P (cond t a b)
+chosen P true p q = p refl
+chosen P false p q = q refl
+
+-- choices that agree where the test is true are the same
+under : (t : Bool) (n : ℕ) {a a′ : Outcome} → (t ≡ true → a ≡ a′) → cond t a (refused n 0) ≡ cond t a′ (refused n 0)
+under true n same = same refl
+under false n same = refl
+
+-- a test that cannot be true is false
+untrue : (t : Bool) → (t ≡ true → ⊥) → t ≡ false
+untrue true h = absurd (h refl)
+untrue false h = refl
+
+-- tests one after the other
+abbrev allOf : Bool → List Bool → Bool
+allOf test [] = test
+allOf test (next ∷ tests) = allOf (test && next) tests
+
+-- each test of a chain that passes has passed
+each-passed : (test : Bool) (tests : List Bool) → allOf test tests ≡ true → (i : ℕ) → getD (test ∷ tests) i true ≡ true
+each-passed test [] h zero = h
+each-passed test [] h (suc i) = refl
+each-passed test (next ∷ tests) h zero = and-eq-true-iff test next .0 (each-passed (test && next) tests h 0) .0
+each-passed test (next ∷ tests) h (suc zero) = and-eq-true-iff test next .0 (each-passed (test && next) tests h 0) .1
+each-passed test (next ∷ tests) h (suc (suc i)) = each-passed (test && next) tests h (suc i)
+
+-- ---- places
+
+length-parts : (n : ℕ) (bytes : List ℕ) → length (parts n bytes) ≡ n
+unfolding parts
+length-parts zero bytes = refl
+length-parts (suc n) bytes = ap suc (length-parts n (drop 16 bytes))
+
+length-readings : (bytes : List ℕ) → length (readings bytes) ≡ (length bytes + 15) / 16
+unfolding readings partsOf
+length-readings bytes = rw (length-map, length-parts)
+
+-- a refusal stands at one of the places from the first on
+place-below : (place : ℕ) (rs : List Command.Outcome) (o : Setup) → 0 < place → placeOf (openedWith (firstRefusal place rs) o) < place + length rs
+unfolding firstRefusal openedWith placeOf
+place-below place [] o h = omega arith
+place-below place (Command.accepted command ∷ rs) o h = omega (arith, place-below (place + 1) rs o (omega arith))
+place-below place (Command.refused n ∷ rs) o h = omega arith
+
+-- so an opening's place is at most the most commands
+pub opening-place-below : (size workers capacity : ℕ) (commands : List ℕ) (l : Lists) → placeOf (openOn size workers capacity commands l) ≤ 4096
+unfolding openOn placeOf
+opening-place-below size workers capacity commands l =
+    let P : Outcome → Type 0 = λ o. placeOf o ≤ 4096 in
+    let none : (n : ℕ) → P (refused n 0) = λ n. omega arith in
+    chosen P (leb 1 size && leb size 150) (λ _.
+    chosen P (leb 1 workers && leb workers 64) (λ _.
+    chosen P (leb 1 capacity && leb capacity 4096) (λ _.
+    chosen P (eqb (length commands % 16) 0) (λ whole.
+    chosen P (leb (length commands / 16) 4096) (λ few.
+    chosen P (lengthsFit capacity (length commands / 16) l)
+    (λ _. omega (arith, place-below 1 (readings commands) (record { size = size; workers = workers; capacity = capacity; commands = commandsIn commands }) (omega arith), length-readings commands, eqb-true (length commands % 16) 0 whole, leb-true (length commands / 16) 4096 few))
+    (λ _. none 6)) (λ _. none 5)) (λ _. none 4)) (λ _. none 3)) (λ _. none 2)) (λ _. none 1)
+
+-- ---- lists of a wrong length
+
+-- Two openings differ only by whether the lists are as long as they have to be.
+pub opening-same : (size workers capacity : ℕ) (commands : List ℕ) (l m : Lists)
+    → (capacity ≤ 4096 → length commands / 16 ≤ 4096 → lengthsFit capacity (length commands / 16) l ≡ lengthsFit capacity (length commands / 16) m)
+    → openOn size workers capacity commands l ≡ openOn size workers capacity commands m
+unfolding openOn
+opening-same size workers capacity commands l m same =
+    under (leb 1 size && leb size 150) 1 (λ _.
+    under (leb 1 workers && leb workers 64) 2 (λ _.
+    under (leb 1 capacity && leb capacity 4096) 3 (λ small.
+    under (eqb (length commands % 16) 0) 4 (λ _.
+    under (leb (length commands / 16) 4096) 5 (λ few.
+    ap (λ (t : Bool). cond t (openedWith (firstRefusal 1 (readings commands)) (record { size = size; workers = workers; capacity = capacity; commands = commandsIn commands })) (refused 6 0))
+    (same (leb-true capacity 4096 (and-eq-true-iff (leb 1 capacity) (leb capacity 4096) .0 small .1)) (leb-true (length commands / 16) 4096 few)))))))
+
+-- no lists are refused, and nothing is left but what was there
+pub nothing-opened : (size workers capacity : ℕ) (commands : List ℕ) (b : Lists) → left (openOn size workers capacity commands (lists [] [] [] [])) b ≡ b
+unfolding openOn lengthsFit stateLength left
+nothing-opened size workers capacity commands b =
+    let P : Outcome → Type 0 = λ o. left o b ≡ b in
+    chosen P (leb 1 size && leb size 150) (λ _.
+    chosen P (leb 1 workers && leb workers 64) (λ _.
+    chosen P (leb 1 capacity && leb capacity 4096) (λ _.
+    chosen P (eqb (length commands % 16) 0) (λ _.
+    chosen P (leb (length commands / 16) 4096) (λ _. refl) (λ _. refl)) (λ _. refl)) (λ _. refl)) (λ _. refl)) (λ _. refl)
+
+-- each list has at most 4,096 entries
+abbrev pub room : Lists → Bool
+room b = leb (length (b .keys) / 8) 4096 && leb (length (b .chutes) / 2) 4096 && leb (length (b .answers) / 2) 4096
+
+-- lists that are as long as asked are no longer than what is asked
+fits-room : (capacity count : ℕ) (b : Lists) → capacity ≤ 4096 → count ≤ 4096 → lengthsFit capacity count (entries b) ≡ true → room b ≡ true
+unfolding lengthsFit entries
+fits-room capacity count b small few fit =
+    let each = each-passed (eqb (length (b .state)) stateLength) (eqb (length (numbersIn 2 (b .answers))) count
+    ∷ eqb (length (numbersIn 8 (b .keys))) capacity ∷ eqb (length (numbersIn 2 (b .chutes))) capacity ∷ []) fit in
+    let keys = le-leb (length (b .keys) / 8) 4096 (omega (arith, numbers-length 8 (b .keys), eqb-true (length (numbersIn 8 (b .keys))) capacity (each 2))) in
+    let chutes = le-leb (length (b .chutes) / 2) 4096 (omega (arith, numbers-length 2 (b .chutes), eqb-true (length (numbersIn 2 (b .chutes))) capacity (each 3))) in
+    let answers = le-leb (length (b .answers) / 2) 4096 (omega (arith, numbers-length 2 (b .answers), eqb-true (length (numbersIn 2 (b .answers))) count (each 1))) in
+    rw (keys, chutes, answers)
+
+-- so a longer list is none that an opening asks for, and the opening is refused as one of no lists
+pub long-opened : (size workers capacity : ℕ) (commands : List ℕ) (b : Lists) → room b ≡ false
+    → openOn size workers capacity commands (entries b) ≡ openOn size workers capacity commands (lists [] [] [] [])
+unfolding lengthsFit stateLength
+long-opened size workers capacity commands b long =
+    opening-same size workers capacity commands (entries b) (lists [] [] [] [])
+    (λ small few. untrue _ (λ fit. false≢true (sym long ∙ fits-room capacity (length commands / 16) b small few fit)))
+
+-- no lists are refused 6 when handed back
+pub nothing-advanced : (commands schedule : List ℕ) → advanceOn (lists [] [] [] []) commands schedule ≡ refused 6 0
+unfolding advanceOn handedBackFit lengthsFit stateLength
+nothing-advanced commands schedule = refl
+
+-- a state that fits asks for at most 4,096 entries
+state-small : (l : Lists) → stateFits l ≡ true → (numberAt 2 2 (l .state) ≤ 4096) × (countIn (l .state) ≤ 4096)
+unfolding settingsFit
+state-small l fit =
+    let b = l .state in
+    let size = numberAt 1 0 b in
+    let count = countIn b in
+    let whole = each-passed (settingsFit size (numberAt 1 1 b) (numberAt 2 2 b) count) (leb (numberAt 2 6 b) count ∷ leb (numberAt 1 10 b) size
+    ∷ allBelow 151 (nodeFitsAt b size count) ∷ allBelow 65 (threadFitsAt b size) ∷ leb (numberAt 2 8 b) (numberAt 2 2 b)
+    ∷ ascends (numberAt 2 8 b) (l .keys) ∷ []) (sym (state-tests l) ∙ fit) 0 in
+    let each = each-passed (leb 1 size) (leb size 150 ∷ leb 1 (numberAt 1 1 b) ∷ leb (numberAt 1 1 b) 64 ∷ leb 1 (numberAt 2 2 b)
+    ∷ leb (numberAt 2 2 b) 4096 ∷ leb count 4096 ∷ []) whole in
+    (leb-true (numberAt 2 2 b) 4096 (each 5), leb-true count 4096 (each 6))
+
+-- a list handed back with a state that fits has room
+lent-room : (b : Lists) (commands : List ℕ) → handedBackFit (entries b) commands ≡ true
+    → (numberAt 2 2 (entries b .state) ≤ 4096) × (countIn (entries b .state) ≤ 4096) → room b ≡ true
+unfolding handedBackFit setupIn
+lent-room b commands fit small =
+    fits-room (numberAt 2 2 (entries b .state)) (countIn (entries b .state)) b (small .0) (small .1)
+    (and-eq-true-iff (lengthsFit (numberAt 2 2 (entries b .state)) (countIn (entries b .state)) (entries b)) _ .0 fit .0)
+
+-- a handed-back list of more than 4,096 entries is refused: 12 where the state asks for so many, else 6
+pub long-advanced : (b : Lists) (commands schedule : List ℕ) → room b ≡ false
+    → advanceOn (entries b) commands schedule ≡ cond (handedBackFit (entries b) commands) (refused 12 0) (refused 6 0)
+unfolding advanceOn
+long-advanced b commands schedule long =
+    under (handedBackFit (entries b) commands) 6 (λ fit. rw (untrue (stateFits (entries b)) (λ whole. false≢true (sym long ∙ has-room fit whole))))
+  where
+    has-room : handedBackFit (entries b) commands ≡ true → stateFits (entries b) ≡ true → room b ≡ true
+    has-room fit whole = lent-room b commands fit (state-small (entries b) whole)
+
+-- an advance names no command
+pub advance-place : (l : Lists) (commands schedule : List ℕ) → placeOf (advanceOn l commands schedule) ≡ 0
+unfolding advanceOn placeOf
+advance-place l commands schedule =
+    let P : Outcome → Type 0 = λ o. placeOf o ≡ 0 in
+    chosen P (handedBackFit l commands) (λ _. chosen P (stateFits l) (λ _. chosen P (allWithin _ schedule) (λ _. refl) (λ _. refl)) (λ _. refl)) (λ _. refl)
+
+-- the tests of a handed-back list, on bytes
+asked-is : (s k c a commands : List ℕ) → handedBackFit (entries (lists s k c a)) commands
+    ≡ (eqb (length s) stateLength && eqb (length a / 2) (countIn s) && eqb (length k / 8) (numberAt 2 2 s) && eqb (length c / 2) (numberAt 2 2 s)
+    && eqb (length commands) (16 * countIn s))
+unfolding handedBackFit lengthsFit setupIn entries
+asked-is s k c a commands = rw (numbers-length 8 k, numbers-length 2 c, numbers-length 2 a)
+
+-- one of two refusals without a place
+either-answer : (t : Bool) → answerOf (cond t (refused 12 0) (refused 6 0)) ≡ cond t 12 6
+unfolding answerOf numberOf placeOf
+either-answer true = refl
+either-answer false = refl
+
+either-left : (t : Bool) (b : Lists) → left (cond t (refused 12 0) (refused 6 0)) b ≡ b
+unfolding left
+either-left true b = refl
+either-left false b = refl
+
+-- what a handed-back list of more than 4,096 entries answers and leaves
+pub long-answered : (s k c a commands schedule : List ℕ) → room (lists s k c a) ≡ false
+    → (cond (eqb (length s) stateLength && eqb (length a / 2) (countIn s) && eqb (length k / 8) (numberAt 2 2 s) && eqb (length c / 2) (numberAt 2 2 s)
+    && eqb (length commands) (16 * countIn s)) 12 6 ≡ answerOf (advanceOn (entries (lists s k c a)) commands schedule))
+    × (lists s k c a ≡ left (advanceOn (entries (lists s k c a)) commands schedule) (lists s k c a))
+long-answered s k c a commands schedule long =
+    let b = lists s k c a in
+    let t = handedBackFit (entries b) commands in
+    let is = long-advanced b commands schedule long in (
+      ap (λ (u : Bool). cond u 12 6) (sym (asked-is s k c a commands)) ∙ sym (either-answer t) ∙ ap answerOf (sym is),
+      sym (either-left t b) ∙ ap (λ (o : Outcome). left o b) (sym is),
+    )
+
+-- ---- whole lists and rooms
+
+-- bytes that end within a number are no lists
+pub decoded-none : (b : Lists) → areWhole (length (b .keys)) (length (b .chutes)) (length (b .answers)) ≡ false → decoded b ≡ lists [] [] [] []
+unfolding decoded
+decoded-none b e = rw e
+
+-- others are their numbers
+pub decoded-whole : (b : Lists) → areWhole (length (b .keys)) (length (b .chutes)) (length (b .answers)) ≡ true → decoded b ≡ entries b
+unfolding decoded
+decoded-whole b e = rw e
+
+-- and as long as these
+pub whole-lengths : (k c a : ℕ) → areWhole k c a ≡ true → (k ≡ 8 * (k / 8)) × (c ≡ 2 * (c / 2)) × (a ≡ 2 * (a / 2))
+unfolding areWhole
+whole-lengths k c a e =
+    let each = each-passed (eqb (k % 8) 0) (eqb (c % 2) 0 ∷ eqb (a % 2) 0 ∷ []) e in
+    (omega (arith, eqb-true (k % 8) 0 (each 0)), omega (arith, eqb-true (c % 2) 0 (each 1)), omega (arith, eqb-true (a % 2) 0 (each 2)))
+
+pub room-bounds : (k c a : ℕ) → (leb k 4096 && leb c 4096 && leb a 4096) ≡ true → (k ≤ 4096) × (c ≤ 4096) × (a ≤ 4096)
+room-bounds k c a e =
+    let each = each-passed (leb k 4096) (leb c 4096 ∷ leb a 4096 ∷ []) e in
+    (leb-true k 4096 (each 0), leb-true c 4096 (each 1), leb-true a 4096 (each 2))
+
+-- ---- from bytes to numbers and back
+
+module _ (state keys chutes answers : List ℕ) where
+  abbrev bytes : Lists
+  bytes = lists state keys chutes answers
+
+  -- bytes that are whole numbers are those of the numbers
+  pub entries-read-back : (k c a : ℕ) → length keys ≡ 8 * k → length chutes ≡ 2 * c → length answers ≡ 2 * a → Bytes keys → Bytes chutes → Bytes answers
+      → encoded (entries bytes) ≡ bytes
+  unfolding encoded entries
+  entries-read-back k c a long-keys long-chutes long-answers key-bytes chute-bytes answer-bytes =
+      let first = numbers-read-back 8 k keys (omega arith) long-keys key-bytes in
+      let second = numbers-read-back 2 c chutes (omega arith) long-chutes chute-bytes in
+      let third = numbers-read-back 2 a answers (omega arith) long-answers answer-bytes in
+      rw (first, second, third)
+
+  -- A call f on the numbers that were read.
+  module _ (f : Lists → Outcome) {K C A : List ℕ} (read : (K ≡ numbersIn 8 keys) × (C ≡ numbersIn 2 chutes) × (A ≡ numbersIn 2 answers)) where
+    read-entries : lists state K C A ≡ entries bytes
+    unfolding entries
+    read-entries = rw (read .0, read .1, read .2)
+
+    -- its answer is that on the entries
+    pub answer-on : {n p : ℕ} → n ≡ numberOf (f (lists state K C A)) → p ≡ placeOf (f (lists state K C A)) → n + 256 * p ≡ answerOf (f (entries bytes))
+    unfolding answerOf
+    answer-on e g = rw (e, g, read-entries)
+
+    -- the bytes of the numbers that it leaves
+    pub written-on : {s K′ C′ A′ x y z : List ℕ} → encoded (entries bytes) ≡ bytes
+        → lists s K′ C′ A′ ≡ kept (f (lists state K C A)) (lists state K C A) → (x ≡ bytesIn 8 K′) × (y ≡ bytesIn 2 C′) × (z ≡ bytesIn 2 A′)
+        → lists s x y z ≡ left (f (entries bytes)) bytes
+    unfolding encoded left kept
+    written-on {s} {K′} {C′} {A′} whole is wrote =
+        let e : lists s K′ C′ A′ ≡ kept (f (entries bytes)) (entries bytes) = is ∙ rw read-entries in
+        rw (wrote .0, wrote .1, wrote .2) (ap encoded e ∙ by (f (entries bytes)))
+      where
+        by : (o : Outcome) → encoded (kept o (entries bytes)) ≡ left o bytes
+        by (accepted l) = refl
+        by (refused n place) = whole
+
+    -- a refusal leaves the bytes
+    pub refused-on : {s K′ C′ A′ : List ℕ} → lists s K′ C′ A′ ≡ kept (f (lists state K C A)) (lists state K C A) → (answerOf (f (entries bytes)) ≡ 0 → ⊥)
+        → lists s keys chutes answers ≡ left (f (entries bytes)) bytes
+    unfolding left kept answerOf numberOf placeOf entries
+    refused-on {s} {K′} {C′} {A′} is nonzero =
+        let e : lists s K′ C′ A′ ≡ kept (f (entries bytes)) (entries bytes) = is ∙ rw read-entries in
+        by (f (entries bytes)) e nonzero
+      where
+        by : (o : Outcome) → lists s K′ C′ A′ ≡ kept o (entries bytes) → (answerOf o ≡ 0 → ⊥) → lists s keys chutes answers ≡ left o bytes
+        by (accepted l) e nonzero = absurd (nonzero refl)
+        by (refused n place) e nonzero = ap (λ (l : Lists). lists (l .state) keys chutes answers) e

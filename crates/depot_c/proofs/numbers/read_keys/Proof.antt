@@ -1,0 +1,63 @@
+-- `depot_c::numbers::read_keys` meets its contract. The loop's invariant: the first i numbers are filled. Assumes nothing.
+use Prim.Native.Nat.{ℕ, _*_, _-_}
+use native.Mathlib.Omega.{arith}
+use mathlib.Core.Path.{refl}
+use lib.ListN.{length}
+use Rattle.controller.specs.Bytes.{numberAt}
+use Rattle.depot_c.proofs.Fill.{Filled, filled-none, filled-more}
+use Rattle.depot_c.proofs.Entries.{filled-numbers}
+use Rattle.depot_c.proofs.numbers.read_keys.Statement.{statement}
+use Rattle.depot_c.proofs.numbers.read_keys.Tie as tie
+
+abbrev Inv-loop : tie.InvT-loop
+Inv-loop bytes out₀ i₀ out i = Filled (λ (n : ℕ). numberAt 8 (8 * n) bytes) (length out₀) out i
+
+abbrev μ-loop : tie.MeasureT-loop
+μ-loop bytes out₀ i₀ out i = length out₀ - i
+
+loop-holds : tie.Need-loop-holds Inv-loop μ-loop
+loop-holds c = filled-none refl
+
+mul-number-at : tie.Need-mul-number-at Inv-loop μ-loop
+mul-number-at c = omega arith
+
+number-at-requires : tie.Need-number-at-requires Inv-loop μ-loop
+number-at-requires c κs = omega arith
+
+mul-out : tie.Need-mul-out Inv-loop μ-loop
+mul-out c = omega arith
+
+slice-write-out : tie.Need-slice-write-out Inv-loop μ-loop
+slice-write-out c = omega arith
+
+add-i : tie.Need-add-i Inv-loop μ-loop
+add-i c = omega arith
+
+loop-less : tie.Need-loop-less Inv-loop μ-loop
+loop-less c = omega arith
+
+loop-again : tie.Need-loop-again Inv-loop μ-loop
+loop-again c = filled-more _ (c .before .before .loop .inv) (omega arith) (c .number-at .ensures .0)
+
+same-length : tie.Need-same-length Inv-loop μ-loop
+same-length c = c .before .loop .inv .long
+
+returns : tie.Need-returns Inv-loop μ-loop
+returns c = filled-numbers _ _ _ (omega arith) (c .before .before .before .before .pre) (c .before .loop .inv) (omega arith)
+
+pub read-keys-spec : {M : Type 1} → statement M
+read-keys-spec =
+    tie.close
+    (tie.spec
+    Inv-loop
+    μ-loop
+    loop-holds
+    mul-number-at
+    number-at-requires
+    mul-out
+    slice-write-out
+    add-i
+    loop-less
+    loop-again
+    same-length
+    returns)

@@ -1,0 +1,117 @@
+-- `depot_c::opening::depot_open` meets its contract: lists that end within a number or are too long are refused, others are lent rooms. Assumes nothing.
+use Prim.Native.Nat.{ℕ, _*_, _/_, _≤_}
+use mathlib.Core.Path.{sym, ap, _∙_}
+use lib.ListN.{length}
+use lib.Seq.{length-take-le}
+use borrow.Author.Tests.{not-true, not-false}
+use Rattle.controller.specs.Layout.{lists}
+use Rattle.depot_c.proofs.Outcomes.{long-opened, nothing-opened, decoded-none, decoded-whole, whole-lengths, room-bounds}
+use borrow.Author.Needs.{needs}
+use Rattle.depot_c.proofs.opening.depot_open.Statement.{statement}
+use Rattle.depot_c.proofs.opening.depot_open.Tie as tie
+
+are-whole-requires : tie.Need-are-whole-requires
+are-whole-requires c κs = search needs
+
+open-without-requires : tie.Need-open-without-requires
+open-without-requires c κs = search needs
+
+returns : tie.Need-returns
+returns c =
+    let args = c .before .before .before .before .before .before .before .before .args in
+    let b = lists (args .state .now) (args .keys .now) (args .chutes .now) (args .answers .now) in
+    let none = decoded-none b (sym (c .before .before .are-whole .ensures) ∙ not-true _ (c .before .if1 .taken)) in
+    (rw none (c .open-without .ensures), rw none (sym (nothing-opened (args .size) (args .workers) (args .capacity) (args .commands .now) b)))
+
+have-room-requires : tie.Need-have-room-requires
+have-room-requires c κs = search needs
+
+open-without-requires-2 : tie.Need-open-without-requires-2
+open-without-requires-2 c κs = search needs
+
+returns-2 : tie.Need-returns-2
+returns-2 c =
+    let args = c .before .before .before .before .before .before .before .before .before .before .args in
+    let b = lists (args .state .now) (args .keys .now) (args .chutes .now) (args .answers .now) in
+    let whole = decoded-whole b (sym (c .before .before .before .before .are-whole .ensures) ∙ not-false _ (c .before .before .before .if1 .left)) in
+    let long = long-opened (args .size) (args .workers) (args .capacity) (args .commands .now) b (sym (c .before .before .have-room .ensures) ∙ not-true _ (c .before .if2 .taken)) in
+    (rw (whole, long) (c .open-without2 .ensures), rw (whole, long) (sym (nothing-opened (args .size) (args .workers) (args .capacity) (args .commands .now) b)))
+
+-- each list fits its room
+bounds : (c : tie.After-open-within-arg4) →
+    let args = c .before .before .before .before .before .before .before .before .before .before .before .before .before .args in
+    (length (args .keys .now) / 8 ≤ 4096) × (length (args .chutes .now) / 2 ≤ 4096) × (length (args .answers .now) / 2 ≤ 4096)
+bounds c = room-bounds _ _ _ (sym (c .before .before .before .before .before .have-room .ensures) ∙ not-false _ (c .before .before .before .before .if2 .left))
+
+array-borrow-prefix-key-room : tie.Need-array-borrow-prefix-key-room
+array-borrow-prefix-key-room c = bounds c .0
+
+slice-aggregate-open-within : tie.Need-slice-aggregate-open-within
+slice-aggregate-open-within c = sym (length-take-le _ _ (bounds (c .before) .0))
+
+array-borrow-prefix-chute-room : tie.Need-array-borrow-prefix-chute-room
+array-borrow-prefix-chute-room c = bounds (c .before) .1
+
+slice-aggregate-open-within-2 : tie.Need-slice-aggregate-open-within-2
+slice-aggregate-open-within-2 c = sym (length-take-le _ _ (bounds (c .before .before) .1))
+
+array-borrow-prefix-answer-room : tie.Need-array-borrow-prefix-answer-room
+array-borrow-prefix-answer-room c = bounds (c .before .before) .2
+
+slice-aggregate-open-within-3 : tie.Need-slice-aggregate-open-within-3
+slice-aggregate-open-within-3 c = sym (length-take-le _ _ (bounds (c .before .before .before) .2))
+
+open-within-requires : tie.Need-open-within-requires
+open-within-requires c κs =
+    let fit = bounds (c .before .before .before) in
+    let first = c .before .before .before .before .before .before .before .before .before in
+    let whole = whole-lengths _ _ _ (sym (first .before .are-whole .ensures) ∙ not-false _ (first .if1 .left)) in
+    record {
+      keys-fit = whole .0 ∙ ap (λ (m : ℕ). 8 * m) (sym (length-take-le _ _ (fit .0)));
+      chutes-fit = whole .1 ∙ ap (λ (m : ℕ). 2 * m) (sym (length-take-le _ _ (fit .1)));
+      answers-fit = whole .2 ∙ ap (λ (m : ℕ). 2 * m) (sym (length-take-le _ _ (fit .2)));
+    }
+
+same-length : tie.Need-same-length
+same-length c = search needs
+
+same-length-2 : tie.Need-same-length-2
+same-length-2 c = search needs
+
+same-length-3 : tie.Need-same-length-3
+same-length-3 c = search needs
+
+same-length-4 : tie.Need-same-length-4
+same-length-4 c = search needs
+
+returns-3 : tie.Need-returns-3
+returns-3 c =
+    let args = c .before .before .before .before .before .before .before .before .before .before .before .before .before .before .before .before .before .before .before .before .before .before .before .before .before .before .before .before .args in
+    let b = lists (args .state .now) (args .keys .now) (args .chutes .now) (args .answers .now) in
+    let call = c .before .before .before .before .before .before .before .before .before .before .before in
+    let first = call .before .before .before .before .before .before .before .before .before .before in
+    let whole = decoded-whole b (sym (first .before .are-whole .ensures) ∙ not-false _ (first .if1 .left)) in
+    (rw whole (call .open-within .ensures .0), rw whole (call .open-within .ensures .1))
+
+pub depot-open-spec : {M : Type 1} → statement M
+depot-open-spec =
+    tie.close
+    (tie.spec
+    are-whole-requires
+    open-without-requires
+    returns
+    have-room-requires
+    open-without-requires-2
+    returns-2
+    array-borrow-prefix-key-room
+    slice-aggregate-open-within
+    array-borrow-prefix-chute-room
+    slice-aggregate-open-within-2
+    array-borrow-prefix-answer-room
+    slice-aggregate-open-within-3
+    open-within-requires
+    same-length
+    same-length-2
+    same-length-3
+    same-length-4
+    returns-3)

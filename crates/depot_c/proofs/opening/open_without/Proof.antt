@@ -1,0 +1,61 @@
+-- `depot_c::opening::open_without` meets its contract: the call is made on empty lists. Assumes nothing.
+use mathlib.Core.Path.{_∙_}
+use Rattle.depot_c.specs.Boundary.{answerOf}
+use Rattle.depot_c.proofs.Outcomes.{opening-place-below}
+use borrow.Author.Needs.{needs}
+use Rattle.depot_c.proofs.opening.open_without.Statement.{statement}
+use Rattle.depot_c.proofs.opening.open_without.Tie as tie
+
+array-borrow-prefix-state : tie.Need-array-borrow-prefix-state
+array-borrow-prefix-state c = search needs
+
+slice-aggregate-open : tie.Need-slice-aggregate-open
+slice-aggregate-open c = search needs
+
+array-borrow-prefix-keys : tie.Need-array-borrow-prefix-keys
+array-borrow-prefix-keys c = search needs
+
+slice-aggregate-open-2 : tie.Need-slice-aggregate-open-2
+slice-aggregate-open-2 c = search needs
+
+array-borrow-prefix-chutes : tie.Need-array-borrow-prefix-chutes
+array-borrow-prefix-chutes c = search needs
+
+slice-aggregate-open-3 : tie.Need-slice-aggregate-open-3
+slice-aggregate-open-3 c = search needs
+
+array-borrow-prefix-answers : tie.Need-array-borrow-prefix-answers
+array-borrow-prefix-answers c = search needs
+
+slice-aggregate-open-4 : tie.Need-slice-aggregate-open-4
+slice-aggregate-open-4 c = search needs
+
+open-requires : tie.Need-open-requires
+open-requires c κs = search needs
+
+opening-answer-requires : tie.Need-opening-answer-requires
+opening-answer-requires c κs =
+    let call = c .before .before .before .before in
+    rw (call .«open» .ensures .1 .0) (opening-place-below _ _ _ _ _)
+
+returns : tie.Need-returns
+unfolding answerOf
+returns c =
+    let call = c .before .before .before .before .before in
+    c .opening-answer .ensures ∙ rw (call .«open» .ensures .0, call .«open» .ensures .1 .0)
+
+pub open-without-spec : {M : Type 1} → statement M
+open-without-spec =
+    tie.close
+    (tie.spec
+    array-borrow-prefix-state
+    slice-aggregate-open
+    array-borrow-prefix-keys
+    slice-aggregate-open-2
+    array-borrow-prefix-chutes
+    slice-aggregate-open-3
+    array-borrow-prefix-answers
+    slice-aggregate-open-4
+    open-requires
+    opening-answer-requires
+    returns)

@@ -1,0 +1,72 @@
+-- What the exported functions answer and leave: the calls' own definitions, on numbers and byte lists. Assumes nothing.
+use Prim.Native.Nat.{ℕ, _+_, _*_, _%_}
+use mathlib.Core.Bool.{Bool, cond, _&&_}
+use mathlib.Core.List.{List, []}
+use mathlib.Core.Path.{_≡_}
+use lib.ListN.{length}
+use lib.Dec.{eqb}
+use Rattle.s10.specs.Outcome.{readText}
+use Rattle.s10.specs.Outcome as Identifier
+use Rattle.controller.specs.Bytes.{bytesOf}
+use Rattle.controller.specs.Layout.{Lists, lists}
+use Rattle.controller.specs.Calls.{Outcome, accepted, refused, numberOf, placeOf}
+use Rattle.depot_c.specs.Numbers.{numbersIn, bytesIn}
+
+-- ---- lists
+
+-- keys are eight bytes each, chutes and answers two
+unfoldable pub areWhole : ℕ → ℕ → ℕ → Bool
+areWhole keys chutes answers = eqb (keys % 8) 0 && eqb (chutes % 2) 0 && eqb (answers % 2) 0
+
+-- the lists of numbers that lists of bytes write
+unfoldable pub entries : Lists → Lists
+entries b = lists (b .state) (numbersIn 8 (b .keys)) (numbersIn 2 (b .chutes)) (numbersIn 2 (b .answers))
+
+-- the same, or no lists where the bytes end within a number: lists of a wrong length, which is refusal 6
+unfoldable pub decoded : Lists → Lists
+decoded b = cond (areWhole (length (b .keys)) (length (b .chutes)) (length (b .answers))) (entries b) (lists [] [] [] [])
+
+-- the lists of bytes of lists of numbers
+unfoldable pub encoded : Lists → Lists
+encoded l = lists (l .state) (bytesIn 8 (l .keys)) (bytesIn 2 (l .chutes)) (bytesIn 2 (l .answers))
+
+-- ---- answers
+
+-- a refusal's number, and the command's place times 256
+unfoldable pub answerOf : Outcome → ℕ
+answerOf o = numberOf o + 256 * placeOf o
+
+-- the bytes of the lists that the call leaves; a refusal leaves every byte as it was
+unfoldable pub left : Outcome → Lists → Lists
+left (accepted l) old = encoded l
+left (refused n place) old = old
+
+-- ---- identifiers
+
+-- the refusal of a text, 0 for accepted; its key, 0 for refused; and the key's eight bytes where it was accepted
+abbrev pub numberRead : Identifier.Outcome → ℕ
+numberRead (Identifier.accepted key) = 0
+numberRead (Identifier.refused n) = n
+
+abbrev pub keyRead : Identifier.Outcome → ℕ
+keyRead (Identifier.accepted key) = key
+keyRead (Identifier.refused n) = 0
+
+unfoldable pub bytesRead : Identifier.Outcome → List ℕ → List ℕ
+bytesRead (Identifier.accepted key) old = bytesOf 8 key
+bytesRead (Identifier.refused n) old = old
+
+-- "6: 12 bytes for an identifier": the key's list has eight bytes, which is tested first
+unfoldable pub readAnswer : List ℕ → List ℕ → ℕ
+readAnswer text key = cond (eqb (length key) 8) (numberRead (readText text)) 6
+
+unfoldable pub readLeft : List ℕ → List ℕ → List ℕ
+readLeft text key = cond (eqb (length key) 8) (bytesRead (readText text) key) key
+
+-- ---- lent rooms
+
+-- The rooms have an entry for each number of the bytes.
+pub record Rooms (keys chutes answers keyRoom chuteRoom answerRoom : List ℕ) : Type 0 where
+  pub keys-fit : length keys ≡ 8 * length keyRoom
+  pub chutes-fit : length chutes ≡ 2 * length chuteRoom
+  pub answers-fit : length answers ≡ 2 * length answerRoom

@@ -1,0 +1,141 @@
+// Advancing, on byte lists.
+ghost use mathlib.Core.Path.{_≡_};
+ghost use mathlib.Core.Bool.{cond, _&&_};
+ghost use Prim.Native.Nat.{_*_, _≤_};
+ghost use lib.Dec.{eqb};
+ghost use lib.ListN.{length};
+ghost use Rattle.controller.specs.Bytes.{numberAt};
+ghost use Rattle.controller.specs.Layout.{lists, stateLength, countIn};
+ghost use Rattle.controller.specs.Calls.{advanceOn, advanceNumber};
+ghost use Rattle.depot_c.specs.Boundary.{decoded, entries, answerOf, left, Rooms};
+use crate::lists::MOST;
+use crate::lists::are_whole;
+use crate::lists::have_room;
+use crate::lists::read_lists;
+use crate::lists::write_lists;
+use crate::numbers::SHORT;
+use crate::numbers::number_at;
+use controller::Advancing;
+use controller::advance;
+
+// The number that an advance's answer is at the boundary.
+fn advancing_answer(advancing: Advancing) -> u64
+    ensures { λ r. ⌜ r ≡ advanceNumber advancing ⌝ }
+{
+    match advancing {
+        Advancing::Advanced => 0,
+        Advancing::WrongLength => 6,
+        Advancing::UnknownThread => 11,
+        Advancing::WrongState => 12,
+    }
+}
+
+// Where the capacity and the count of commands stand in the state bytes, docs/STATE-LAYOUT.md, and how many bytes there are.
+const STATE_LENGTH: usize = 4715;
+
+const CAPACITY: usize = 2;
+
+const COUNT: usize = 4;
+
+// Whether lists are as long as a capacity and a count of commands ask.
+fn is_asked(
+    keys: usize,
+    chutes: usize,
+    answers: usize,
+    commands: usize,
+    capacity: usize,
+    count: usize,
+) -> bool
+    requires { ⌜ count ≤ 65535 ⌝ }
+    ensures { λ r. ⌜ r ≡ (eqb answers count && eqb keys capacity && eqb chutes capacity && eqb commands (16 * count)) ⌝ }
+{
+    if answers != count {
+        return false;
+    }
+    if keys != capacity {
+        return false;
+    }
+    if chutes != capacity {
+        return false;
+    }
+    commands == 16 * count
+}
+
+// The answer where a list has more entries than an opened one: 12 where the state asks for so many, else 6.
+fn long_answer(state: &[u8], keys: usize, chutes: usize, answers: usize, commands: usize) -> u64
+    ensures { λ r. ⌜ r ≡ cond (eqb (length (now (state .entry))) stateLength && eqb answers (countIn (now (state .entry))) && eqb keys (numberAt 2 2 (now (state .entry))) && eqb chutes (numberAt 2 2 (now (state .entry))) && eqb commands (16 * countIn (now (state .entry)))) 12 6 ⌝ }
+{
+    if state.len() != STATE_LENGTH {
+        return 6;
+    }
+    let capacity = number_at(state, CAPACITY, SHORT) as usize;
+    let count = number_at(state, COUNT, SHORT) as usize;
+    if is_asked(keys, chutes, answers, commands, capacity, count) {
+        12
+    } else {
+        6
+    }
+}
+
+// Advances, with rooms for the numbers of the byte lists.
+fn advance_within(
+    state: &mut [u8],
+    keys: &mut [u8],
+    chutes: &mut [u8],
+    answers: &mut [u8],
+    commands: &[u8],
+    schedule: &[u8],
+    key_room: &mut [u64],
+    chute_room: &mut [u16],
+    answer_room: &mut [u16],
+) -> u64
+    requires { ⌜ Rooms (now keys) (now chutes) (now answers) (now «key_room») (now «chute_room») (now «answer_room») ⌝ }
+    ensures number { λ r. ⌜ r ≡ answerOf (advanceOn (entries (lists (now (state .entry)) (now (keys .entry)) (now (chutes .entry)) (now (answers .entry)))) (now (commands .entry)) (now (schedule .entry))) ⌝ }
+    ensures left { λ r. ⌜ lists (now (state .exit)) (now (keys .exit)) (now (chutes .exit)) (now (answers .exit)) ≡ left (advanceOn (entries (lists (now (state .entry)) (now (keys .entry)) (now (chutes .entry)) (now (answers .entry)))) (now (commands .entry)) (now (schedule .entry))) (lists (now (state .entry)) (now (keys .entry)) (now (chutes .entry)) (now (answers .entry))) ⌝ }
+{
+    read_lists(keys, chutes, answers, key_room, chute_room, answer_room);
+    let advancing = advance(state, key_room, chute_room, answer_room, commands, schedule);
+    let answer = advancing_answer(advancing);
+    if answer == 0 {
+        write_lists(keys, chutes, answers, key_room, chute_room, answer_room);
+    }
+    answer
+}
+
+// Performs a schedule, one step a byte. A refusal leaves every list as it was.
+#[no_mangle]
+pub extern "C" fn depot_advance(
+    state: &mut [u8],
+    keys: &mut [u8],
+    chutes: &mut [u8],
+    answers: &mut [u8],
+    commands: &[u8],
+    schedule: &[u8],
+) -> u64
+    ensures number { λ r. ⌜ r ≡ answerOf (advanceOn (decoded (lists (now (state .entry)) (now (keys .entry)) (now (chutes .entry)) (now (answers .entry)))) (now (commands .entry)) (now (schedule .entry))) ⌝ }
+    ensures left { λ r. ⌜ lists (now (state .exit)) (now (keys .exit)) (now (chutes .exit)) (now (answers .exit)) ≡ left (advanceOn (decoded (lists (now (state .entry)) (now (keys .entry)) (now (chutes .entry)) (now (answers .entry)))) (now (commands .entry)) (now (schedule .entry))) (lists (now (state .entry)) (now (keys .entry)) (now (chutes .entry)) (now (answers .entry))) ⌝ }
+{
+    let key_count = keys.len() / 8;
+    let chute_count = chutes.len() / 2;
+    let answer_count = answers.len() / 2;
+    if !are_whole(keys.len(), chutes.len(), answers.len()) {
+        return 6;
+    }
+    if !have_room(key_count, chute_count, answer_count) {
+        return long_answer(state, key_count, chute_count, answer_count, commands.len());
+    }
+    let mut key_room = [0u64; MOST];
+    let mut chute_room = [0u16; MOST];
+    let mut answer_room = [0u16; MOST];
+    advance_within(
+        state,
+        keys,
+        chutes,
+        answers,
+        commands,
+        schedule,
+        &mut key_room[..key_count],
+        &mut chute_room[..chute_count],
+        &mut answer_room[..answer_count],
+    )
+}

@@ -1,0 +1,69 @@
+// The two calls on identifiers.
+ghost use mathlib.Core.Path.{_≡_};
+ghost use Rattle.s10.specs.Outcome.{outcome, number, writeNumber, writeText};
+ghost use Rattle.depot_c.specs.Boundary.{numberRead, keyRead, readAnswer, readLeft};
+use crate::numbers::KEY;
+use crate::numbers::put_number;
+use s10::Identifier;
+use s10::Reading;
+use s10::Writing;
+
+// The number of a reading's answer.
+fn reading_number(reading: Reading) -> u64
+    ensures { λ r. ⌜ r ≡ numberRead (outcome reading) ⌝ }
+{
+    match reading {
+        Reading::Key(_) => 0,
+        Reading::Malformed => 8,
+        Reading::WrongCheckDigit => 9,
+    }
+}
+
+// The key that was read, 0 for none.
+fn reading_key(reading: Reading) -> u64
+    ensures { λ r. ⌜ r ≡ keyRead (outcome reading) ⌝ }
+{
+    match reading {
+        Reading::Key(key) => key,
+        Reading::Malformed => 0,
+        Reading::WrongCheckDigit => 0,
+    }
+}
+
+// The number of a writing's answer.
+fn writing_number(writing: Writing) -> u64
+    ensures { λ r. ⌜ r ≡ number writing ⌝ }
+{
+    match writing {
+        Writing::Written => 0,
+        Writing::WrongLength => 6,
+        Writing::KeyTooLarge => 12,
+    }
+}
+
+// The key of a text, as eight bytes. A refusal leaves the list as it was.
+#[no_mangle]
+pub extern "C" fn depot_read_identifier(text: &[u8], key: &mut [u8]) -> u64
+    ensures number { λ r. ⌜ r ≡ readAnswer (now (text .entry)) (now (key .entry)) ⌝ }
+    ensures left { λ r. ⌜ now (key .exit) ≡ readLeft (now (text .entry)) (now (key .entry)) ⌝ }
+{
+    if key.len() != KEY {
+        return 6;
+    }
+    let reading = Identifier::read(text);
+    let answer = reading_number(reading);
+    if answer == 0 {
+        put_number(key, 0, KEY, reading_key(reading));
+    }
+    answer
+}
+
+// Writes the text of a key. A refusal leaves the list as it was.
+#[no_mangle]
+pub extern "C" fn depot_write_identifier(key: u64, text: &mut [u8]) -> u64
+    ensures number { λ r. ⌜ r ≡ writeNumber key (now (text .entry)) ⌝ }
+    ensures left { λ r. ⌜ now (text .exit) ≡ writeText key (now (text .entry)) ⌝ }
+{
+    let writing = Identifier::write(key, text);
+    writing_number(writing)
+}

@@ -1,0 +1,161 @@
+// Opening, on byte lists.
+ghost use mathlib.Core.Path.{_≡_};
+ghost use mathlib.Core.List.{[]};
+ghost use Prim.Native.Nat.{_+_, _*_, _≤_};
+ghost use Rattle.controller.specs.Layout.{lists};
+ghost use Rattle.controller.specs.Calls.{openOn, openingNumber, openingPlace};
+ghost use Rattle.depot_c.specs.Boundary.{decoded, entries, answerOf, left, Rooms};
+use crate::lists::MOST;
+use crate::lists::are_whole;
+use crate::lists::have_room;
+use crate::lists::read_lists;
+use crate::lists::write_lists;
+use controller::Opening;
+use controller::open;
+
+// The number of an opening's answer.
+fn opening_number(opening: Opening) -> u64
+    ensures { λ r. ⌜ (r ≡ openingNumber opening) × (r ≤ 10) ⌝ }
+{
+    match opening {
+        Opening::Opened => 0,
+        Opening::WrongGraphSize => 1,
+        Opening::WrongWorkers => 2,
+        Opening::WrongCapacity => 3,
+        Opening::WrongListLength => 4,
+        Opening::TooManyCommands => 5,
+        Opening::WrongLength => 6,
+        Opening::UnknownKindAt(_) => 7,
+        Opening::MalformedAt(_) => 8,
+        Opening::WrongCheckDigitAt(_) => 9,
+        Opening::WrongChuteAt(_) => 10,
+    }
+}
+
+// The place of an opening's answer.
+fn opening_place(opening: Opening) -> usize
+    ensures { λ r. ⌜ r ≡ openingPlace opening ⌝ }
+{
+    match opening {
+        Opening::Opened => 0,
+        Opening::WrongGraphSize => 0,
+        Opening::WrongWorkers => 0,
+        Opening::WrongCapacity => 0,
+        Opening::WrongListLength => 0,
+        Opening::TooManyCommands => 0,
+        Opening::WrongLength => 0,
+        Opening::UnknownKindAt(seq) => seq.0,
+        Opening::MalformedAt(seq) => seq.0,
+        Opening::WrongCheckDigitAt(seq) => seq.0,
+        Opening::WrongChuteAt(seq) => seq.0,
+    }
+}
+
+// A refusal's number and the command's place, in one number.
+fn opening_answer(opening: Opening) -> u64
+    requires { ⌜ openingPlace opening ≤ 4096 ⌝ }
+    ensures { λ r. ⌜ r ≡ openingNumber opening + 256 * openingPlace opening ⌝ }
+{
+    let number = opening_number(opening);
+    let place = opening_place(opening);
+    number + 256 * place as u64
+}
+
+// The answer where the lists cannot be those of an accepted opening.
+fn open_without(commands: &[u8], size: u64, workers: u64, capacity: u64) -> u64
+    ensures { λ r. ⌜ r ≡ answerOf (openOn size workers capacity (now (commands .entry)) (lists [] [] [] [])) ⌝ }
+{
+    let mut state = [0u8; 1];
+    let mut keys = [0u64; 1];
+    let mut chutes = [0u16; 1];
+    let mut answers = [0u16; 1];
+    let opening = open(
+        &mut state[..0],
+        &mut keys[..0],
+        &mut chutes[..0],
+        &mut answers[..0],
+        commands,
+        size,
+        workers,
+        capacity,
+    );
+    opening_answer(opening)
+}
+
+// Opens, with rooms for the numbers of the byte lists.
+fn open_within(
+    state: &mut [u8],
+    keys: &mut [u8],
+    chutes: &mut [u8],
+    answers: &mut [u8],
+    commands: &[u8],
+    size: u64,
+    workers: u64,
+    capacity: u64,
+    key_room: &mut [u64],
+    chute_room: &mut [u16],
+    answer_room: &mut [u16],
+) -> u64
+    requires { ⌜ Rooms (now keys) (now chutes) (now answers) (now «key_room») (now «chute_room») (now «answer_room») ⌝ }
+    ensures number { λ r. ⌜ r ≡ answerOf (openOn size workers capacity (now (commands .entry)) (entries (lists (now (state .entry)) (now (keys .entry)) (now (chutes .entry)) (now (answers .entry))))) ⌝ }
+    ensures left { λ r. ⌜ lists (now (state .exit)) (now (keys .exit)) (now (chutes .exit)) (now (answers .exit)) ≡ left (openOn size workers capacity (now (commands .entry)) (entries (lists (now (state .entry)) (now (keys .entry)) (now (chutes .entry)) (now (answers .entry))))) (lists (now (state .entry)) (now (keys .entry)) (now (chutes .entry)) (now (answers .entry))) ⌝ }
+{
+    read_lists(keys, chutes, answers, key_room, chute_room, answer_room);
+    let opening = open(
+        state,
+        key_room,
+        chute_room,
+        answer_room,
+        commands,
+        size,
+        workers,
+        capacity,
+    );
+    let answer = opening_answer(opening);
+    if answer == 0 {
+        write_lists(keys, chutes, answers, key_room, chute_room, answer_room);
+    }
+    answer
+}
+
+// Opens a list of commands. A refusal leaves every list as it was.
+#[no_mangle]
+pub extern "C" fn depot_open(
+    state: &mut [u8],
+    keys: &mut [u8],
+    chutes: &mut [u8],
+    answers: &mut [u8],
+    commands: &[u8],
+    size: u64,
+    workers: u64,
+    capacity: u64,
+) -> u64
+    ensures number { λ r. ⌜ r ≡ answerOf (openOn size workers capacity (now (commands .entry)) (decoded (lists (now (state .entry)) (now (keys .entry)) (now (chutes .entry)) (now (answers .entry))))) ⌝ }
+    ensures left { λ r. ⌜ lists (now (state .exit)) (now (keys .exit)) (now (chutes .exit)) (now (answers .exit)) ≡ left (openOn size workers capacity (now (commands .entry)) (decoded (lists (now (state .entry)) (now (keys .entry)) (now (chutes .entry)) (now (answers .entry))))) (lists (now (state .entry)) (now (keys .entry)) (now (chutes .entry)) (now (answers .entry))) ⌝ }
+{
+    let key_count = keys.len() / 8;
+    let chute_count = chutes.len() / 2;
+    let answer_count = answers.len() / 2;
+    if !are_whole(keys.len(), chutes.len(), answers.len()) {
+        return open_without(commands, size, workers, capacity);
+    }
+    if !have_room(key_count, chute_count, answer_count) {
+        return open_without(commands, size, workers, capacity);
+    }
+    let mut key_room = [0u64; MOST];
+    let mut chute_room = [0u16; MOST];
+    let mut answer_room = [0u16; MOST];
+    open_within(
+        state,
+        keys,
+        chutes,
+        answers,
+        commands,
+        size,
+        workers,
+        capacity,
+        &mut key_room[..key_count],
+        &mut chute_room[..chute_count],
+        &mut answer_room[..answer_count],
+    )
+}
