@@ -1,5 +1,9 @@
 # Thin: each target is a command of the toolchain or a script.
-.PHONY: demo test check clean
+.PHONY: demo test check bench install uninstall clean
+
+PREFIX ?= /usr/local
+archive = target/staticlib/libdepot_c.a
+prefix = $(DESTDIR)$(abspath $(PREFIX))
 
 # The program on document 01's example: two commands, five steps of the loader, fifteen of worker 1.
 demo:
@@ -14,5 +18,22 @@ test:
 check:
 	rt check
 
+# Speed beside plain Rust on the same bytes; the figures kept are in docs/PERFORMANCE.md.
+bench: $(archive)
+	DEPOT_LIB_DIR=$(CURDIR)/target/staticlib cargo run --offline --release --quiet --manifest-path bench/Cargo.toml
+
+$(archive):
+	rt staticlib depot_c
+
+# The C side below PREFIX: header, archive and pkg-config file. DESTDIR, if given, goes before it.
+install: $(archive)
+	install -d "$(prefix)/include" "$(prefix)/lib/pkgconfig"
+	install -m 644 include/depot.h "$(prefix)/include/depot.h"
+	install -m 644 $(archive) "$(prefix)/lib/libdepot_c.a"
+	sed 's|@PREFIX@|$(abspath $(PREFIX))|' depot.pc.in > "$(prefix)/lib/pkgconfig/depot.pc"
+
+uninstall:
+	rm -f "$(prefix)/include/depot.h" "$(prefix)/lib/libdepot_c.a" "$(prefix)/lib/pkgconfig/depot.pc"
+
 clean:
-	rm -rf target tests/second/target
+	rm -rf target tests/second/target bench/target

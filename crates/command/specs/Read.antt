@@ -95,3 +95,12 @@ listOutcome (UnknownKindAt seq) = refusedAt 7 (seq .0)
 listOutcome (MalformedAt seq) = refusedAt 8 (seq .0)
 listOutcome (WrongCheckDigitAt seq) = refusedAt 9 (seq .0)
 listOutcome (WrongChuteAt seq) = refusedAt 10 (seq .0)
+
+-- the commands of a list. A list that was accepted has no refused command; in any other list a refused one reads as a read of key 0, so
+-- that every list has a command at each place
+unfoldable pub commandFrom : Outcome → Command
+commandFrom (accepted c) = c
+commandFrom (refused n) = record { kind = Read; key = 0; chute = 0 }
+
+unfoldable pub commandsIn : List ℕ → List Command
+commandsIn bytes = map commandFrom (readings bytes)

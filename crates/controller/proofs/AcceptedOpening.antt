@@ -12,14 +12,12 @@ use Rattle.s10.specs.Outcome.{readText}
 use Rattle.s10.specs.Outcome as Identifier
 use Rattle.command.specs.declared.Kind.{Kind}
 use Rattle.command.specs.declared.Command.{Command}
-use Rattle.command.specs.Read.{Outcome, accepted, refused, isKind, kindOf, chuteFits, chuteOf, withChute, readCommand, parts, partsOf, readings}
-use Rattle.command.specs.Read.{ListOutcome, allAccepted, refusedAt, firstRefusal}
+use Rattle.command.specs.Read.{Outcome, accepted, refused, isKind, kindOf, chuteFits, chuteOf, withChute, readCommand, parts, partsOf, readings, ListOutcome, allAccepted, refusedAt, firstRefusal, commandFrom, commandsIn}
 use Rattle.model.specs.Step.{Setup, opened, commandAt}
 use Rattle.model.specs.Statement.{Accepted}
-use Rattle.graph.specs.Items.{commandFrom, commandsIn}
-use Rattle.controller.specs.Layout.{Lists, listsOf}
+use Rattle.state_bytes.specs.Layout.{Lists, listsOf, lengthsFit}
 use Rattle.controller.specs.Calls as Calls
-use Rattle.controller.specs.Calls.{openedWith, openOn, lengthsFit}
+use Rattle.controller.specs.Calls.{openedWith, openOn}
 
 -- ---- commands
 

@@ -5,8 +5,8 @@ use mathlib.Core.Bool.{true, false}
 use mathlib.Core.List.{List}
 use Rattle.model.specs.Step.{steps}
 use Rattle.model.specs.Statement.{allWithin}
-use Rattle.controller.specs.Layout.{Lists, listsOf, setupIn, stateIn, stateFits}
-use Rattle.controller.specs.Calls.{Outcome, accepted, refused, numberOf, kept, handedBackFit, advanceOn}
+use Rattle.state_bytes.specs.Layout.{Lists, listsOf, setupIn, stateIn, stateFits, handedBackFit}
+use Rattle.controller.specs.Calls.{Outcome, accepted, refused, numberOf, kept, advanceOn}
 use Rattle.controller.specs.Performed.{Passes}
 
 module _ (l : Lists) (commands schedule : List ℕ) where

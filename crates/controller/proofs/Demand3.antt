@@ -20,12 +20,12 @@ use Rattle.model.specs.Proof.Theorem.{table-at-any-moment, demand-3}
 use Rattle.model.specs.Proof.Formed.{SetupFormed, Formed}
 use Rattle.model.specs.Proof.Formed.Keep.{steps-formed}
 use Rattle.model.specs.Proof.Formed.Opening.{opened-formed, accepted-formed}
-use Rattle.graph.specs.Items.{commandsIn}
-use Rattle.controller.specs.Layout.{Lists, listsOf, setupIn, stateIn, ascends, stateFits}
-use Rattle.controller.specs.Calls.{Outcome, accepted, refused, kept, advanceOn, handedBackFit}
+use Rattle.command.specs.Read.{commandsIn}
+use Rattle.state_bytes.specs.Layout.{Lists, listsOf, setupIn, stateIn, ascends, stateFits, handedBackFit}
+use Rattle.controller.specs.Calls.{Outcome, accepted, refused, kept, advanceOn}
 use Rattle.controller.specs.Demand3.{Call, callOn, after, ProperCall, Proper, accepts, schedules, HoldsAfter, Demand3}
-use Rattle.controller.proofs.Bytes.{below-or-past, each-all-below}
-use Rattle.controller.proofs.RoundTrip.{lists-state, state-read-back, setup-read-back, lists-fit, state-fits}
+use Rattle.state_bytes.proofs.Bytes.{below-or-past, each-all-below}
+use Rattle.state_bytes.proofs.RoundTrip.{lists-state, state-read-back, setup-read-back, lists-fit, state-fits}
 use Rattle.controller.proofs.AcceptedOpening.{passed, IsOpened, accepted-opening}
 
 -- ---- the store's keys ascend

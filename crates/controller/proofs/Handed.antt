@@ -14,17 +14,17 @@ use Rattle.node_set.proofs.Bits.{bit-of-zero}
 use Rattle.model.specs.declared.Thread.{Thread}
 use Rattle.model.specs.declared.Thread.the-variants.{Idle}
 use Rattle.model.specs.Statement.{allWithin}
-use Rattle.graph.specs.declared.Counters.{Counters}
+use Rattle.model.specs.declared.Counters.{Counters}
 use Rattle.graph.specs.Arrays.{Within, numbers}
-use Rattle.graph.specs.Items.{Kept, commandsIn}
+use Rattle.command.specs.Read.{commandsIn}
+use Rattle.graph.specs.Items.{Kept}
 use Rattle.graph.specs.Memory.{Ready, memory, shown}
 use Rattle.graph.proofs.Commands.{commands-length}
-use Rattle.controller.specs.Bytes.{numberOf, numberAt, tabulate, allBelow}
-use Rattle.controller.specs.Layout.{Lists, lists, threadOf, threadAt, setAt, setupIn, countIn, stateIn, stateLength, threadFits, threadFitsAt, setFits, nodeFitsAt, settingsFit, ascends, stateFits}
-use Rattle.controller.specs.Calls.{lengthsFit, handedBackFit}
+use Rattle.state_bytes.specs.Bytes.{numberOf, numberAt, tabulate, allBelow}
+use Rattle.state_bytes.specs.Layout.{Lists, lists, threadOf, threadAt, setAt, setupIn, countIn, stateIn, stateLength, threadFits, threadFitsAt, setFits, nodeFitsAt, settingsFit, ascends, stateFits, lengthsFit, handedBackFit}
 use Rattle.controller.specs.Performed.{CountersIn}
-use Rattle.controller.proofs.Bytes.{below-or-past, tabulate-at, tabulate-past, all-below-each}
-use Rattle.controller.proofs.RoundTrip.{state-tests, node-tests}
+use Rattle.state_bytes.proofs.Bytes.{below-or-past, tabulate-at, tabulate-past, all-below-each}
+use Rattle.state_bytes.proofs.RoundTrip.{state-tests, node-tests}
 use Rattle.controller.proofs.Performing.{threadsOf, within-higher}
 
 -- ---- tests one after the other

@@ -16,13 +16,13 @@ use Rattle.node_set.proofs.Laws.{word-of-is-word-of}
 use Rattle.model.specs.declared.Thread.{Thread}
 use Rattle.model.specs.Step.{steps}
 use Rattle.model.specs.Statement.{allWithin}
-use Rattle.graph.specs.Items.{commandsIn}
-use Rattle.controller.specs.Bytes.{bytesOf, numberAt, tabulate, fields, allBelow}
-use Rattle.controller.specs.Layout.{Lists, flagByte, setBytes, threadBytes, stateBytes, listsOf, threadOf, threadAt, setAt, setupIn, countIn, stateIn, stateLength, threadFits, threadFitsAt, setFits, nodeFitsAt, settingsFit, ascends, stateFits}
-use Rattle.controller.specs.Calls.{accepted, lengthsFit, handedBackFit, advanceOn}
-use Rattle.controller.proofs.Bytes.{_▸_, Bytes, number-read-below, number-stands, one-byte, next-stands, parts-of, StandAt, fields-of, tabulate-elements, all-below-each}
-use Rattle.controller.proofs.StateParts.{tagOf, atOf, ownOf, foundOf, thread-parts, setParts, set-parts, partLengths, partsOf, parts-joined}
-use Rattle.controller.proofs.RoundTrip.{lists-state, lists-answers, lists-keys, lists-chutes, state-tests, node-tests}
+use Rattle.command.specs.Read.{commandsIn}
+use Rattle.state_bytes.specs.Bytes.{bytesOf, numberAt, tabulate, fields, allBelow}
+use Rattle.state_bytes.specs.Layout.{Lists, flagByte, setBytes, threadBytes, stateBytes, listsOf, threadOf, threadAt, setAt, setupIn, countIn, stateIn, stateLength, threadFits, threadFitsAt, setFits, nodeFitsAt, settingsFit, ascends, stateFits, lengthsFit, handedBackFit}
+use Rattle.controller.specs.Calls.{accepted, advanceOn}
+use Rattle.state_bytes.proofs.Bytes.{_▸_, Bytes, number-read-below, number-stands, one-byte, next-stands, parts-of, StandAt, fields-of, tabulate-elements, all-below-each}
+use Rattle.state_bytes.proofs.StateParts.{tagOf, atOf, ownOf, foundOf, thread-parts, setParts, set-parts, partLengths, partsOf, parts-joined}
+use Rattle.state_bytes.proofs.RoundTrip.{lists-state, lists-answers, lists-keys, lists-chutes, state-tests, node-tests}
 use Rattle.controller.proofs.AcceptedOpening.{commands-length}
 
 -- ---- tests one after the other

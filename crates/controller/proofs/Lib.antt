@@ -1,13 +1,6 @@
-pub mod Bytes
-pub mod StateParts
-pub mod RoundTrip
 pub mod AcceptedOpening
 pub mod Demand3
 pub mod HandedBack
-pub mod Fill
-pub mod Paste
-pub mod Below
-pub mod Tested
 pub mod OpeningAnswer
 pub mod OpeningState
 pub mod Handed

@@ -14,8 +14,8 @@ use Rattle.model.specs.Step.{Setup, opened}
 use Rattle.model.specs.Statement.{Accepted}
 use Rattle.controller.specs.declared.«open_call».Opening.{Opening}
 use Rattle.controller.specs.declared.«open_call».Opening.the-variants.{Opened, WrongGraphSize, WrongWorkers, WrongCapacity, WrongListLength, TooManyCommands, WrongLength, UnknownKindAt, MalformedAt, WrongCheckDigitAt, WrongChuteAt}
-use Rattle.controller.specs.Layout.{Lists, stateLength, listsOf}
-use Rattle.controller.specs.Calls.{accepted, numberOf, placeOf, kept, openingNumber, openingPlace, lengthsFit, openOn}
+use Rattle.state_bytes.specs.Layout.{Lists, stateLength, listsOf, lengthsFit}
+use Rattle.controller.specs.Calls.{accepted, numberOf, placeOf, kept, openingNumber, openingPlace, openOn}
 use Rattle.controller.specs.Opened.{setupOf, outcomeOf}
 use Rattle.controller.proofs.AcceptedOpening.{passed, accepted-opening}
 use Rattle.controller.proofs.«open_call».Opening.{the-type}

@@ -16,11 +16,11 @@ use Rattle.model.specs.declared.Thread.the-variants.{Idle}
 use Rattle.model.specs.Store.{layOut}
 use Rattle.model.specs.Step.{Setup, node, noNode, firstNext, opened}
 use Rattle.model.specs.Proof.Upd.{eqb-cases}
-use Rattle.graph.specs.declared.Counters.{Counters}
-use Rattle.controller.specs.Bytes.{tabulate}
-use Rattle.controller.specs.Layout.{lists, stateBytes, listsOf}
-use Rattle.controller.specs.Written.{Shown}
-use Rattle.controller.proofs.Bytes.{below-or-past}
+use Rattle.model.specs.declared.Counters.{Counters}
+use Rattle.state_bytes.specs.Bytes.{tabulate}
+use Rattle.state_bytes.specs.Layout.{lists, stateBytes, listsOf}
+use Rattle.state_bytes.specs.Written.{Shown}
+use Rattle.state_bytes.proofs.Bytes.{below-or-past}
 
 -- ---- lists of one value
 

@@ -16,16 +16,16 @@ use Rattle.model.specs.Step.{Setup, State, upd, step, steps}
 use Rattle.model.specs.Statement.{allWithin}
 use Rattle.model.specs.Proof.Upd.{eqb-cases, upd-at, upd-other}
 use Rattle.model.specs.Proof.Finish.Schedule.{steps-append}
-use Rattle.graph.specs.declared.Counters.{Counters}
+use Rattle.model.specs.declared.Counters.{Counters}
 use Rattle.graph.specs.Arrays.{Within}
-use Rattle.graph.specs.Items.{commandsIn}
+use Rattle.command.specs.Read.{commandsIn}
 use Rattle.graph.specs.Memory.{Memory, Ready, Steps, memory, shown}
 use Rattle.graph.proofs.Commands.{commands-length}
-use Rattle.controller.specs.declared.write.Settings.{Settings}
-use Rattle.controller.specs.Layout.{Lists, lists, listsOf}
-use Rattle.controller.specs.Written.{Shown, Lays}
+use Rattle.state_bytes.specs.declared.Settings.{Settings}
+use Rattle.state_bytes.specs.Layout.{Lists, lists, listsOf}
+use Rattle.state_bytes.specs.Written.{Shown, Lays}
 use Rattle.controller.specs.Performed.{Performed}
-use Rattle.controller.proofs.Bytes.{tabulate-elements}
+use Rattle.state_bytes.proofs.Bytes.{tabulate-elements}
 
 -- the threads of an array, idle past its end
 abbrev pub threadsOf : List Thread → ℕ → Thread

@@ -4,15 +4,14 @@ use mathlib.Core.Bool.{Bool, true, false, cond, _&&_, _||_}
 use mathlib.Core.List.{List, [], _∷_, _++_}
 use lib.ListN.{length}
 use lib.Dec.{eqb, leb}
-use Rattle.command.specs.Read.{ListOutcome, allAccepted, refusedAt, firstRefusal, readings}
+use Rattle.command.specs.Read.{ListOutcome, allAccepted, refusedAt, firstRefusal, readings, commandsIn}
 use Rattle.model.specs.Step.{Setup, State, opened, steps}
 use Rattle.model.specs.Statement.{allWithin}
-use Rattle.graph.specs.Items.{commandsIn}
 use Rattle.controller.specs.declared.«open_call».Opening.{Opening}
 use Rattle.controller.specs.declared.«open_call».Opening.the-variants.{Opened, WrongGraphSize, WrongWorkers, WrongCapacity, WrongListLength, TooManyCommands, WrongLength, UnknownKindAt, MalformedAt, WrongCheckDigitAt, WrongChuteAt}
 use Rattle.controller.specs.declared.«advance_call».Advancing.{Advancing}
 use Rattle.controller.specs.declared.«advance_call».Advancing.the-variants.{Advanced, WrongLength as WrongLengths, UnknownThread, WrongState}
-use Rattle.controller.specs.Layout.{Lists, stateLength, listsOf, setupIn, countIn, stateIn, stateFits}
+use Rattle.state_bytes.specs.Layout.{Lists, listsOf, setupIn, stateIn, stateFits, lengthsFit, handedBackFit}
 
 -- A call leaves lists, or is refused with a number and a place.
 pub data Outcome : Type 0 where
@@ -62,11 +61,6 @@ openingPlace (MalformedAt seq) = seq .0
 openingPlace (WrongCheckDigitAt seq) = seq .0
 openingPlace (WrongChuteAt seq) = seq .0
 
--- whether the lent lists are as long as the layout, the commands and the capacity ask
-unfoldable pub lengthsFit : ℕ → ℕ → Lists → Bool
-lengthsFit capacity count l =
-    eqb (length (l .state)) stateLength && eqb (length (l .answers)) count && eqb (length (l .keys)) capacity && eqb (length (l .chutes)) capacity
-
 unfoldable pub openedWith : ListOutcome → Setup → Outcome
 openedWith allAccepted o = accepted (listsOf o (opened o))
 openedWith (refusedAt n place) o = refused n place
@@ -86,11 +80,6 @@ advanceNumber Advanced = 0
 advanceNumber WrongLengths = 6
 advanceNumber UnknownThread = 11
 advanceNumber WrongState = 12
-
--- refusal 6: "a list or run handed back whose length is not the opening's", by the state's own settings
-unfoldable pub handedBackFit : Lists → List ℕ → Bool
-handedBackFit l commands =
-    lengthsFit (setupIn (l .state) commands .capacity) (countIn (l .state)) l && eqb (length commands) (16 * countIn (l .state))
 
 -- "Any call on a handed-back run tests 6, then 12, then 11." "It is checked whole before its first turn"
 unfoldable pub advanceOn : Lists → List ℕ → List ℕ → Outcome

@@ -9,8 +9,8 @@ use Rattle.model.specs.Serial.{serialEntries}
 use Rattle.model.specs.Store.{layOut}
 use Rattle.model.specs.Step.{Setup, State, opened, steps}
 use Rattle.model.specs.Statement.{wrote, removed, EachCommand, serialAnswer}
-use Rattle.graph.specs.Items.{commandsIn}
-use Rattle.controller.specs.Layout.{Lists, stateIn}
+use Rattle.command.specs.Read.{commandsIn}
+use Rattle.state_bytes.specs.Layout.{Lists, stateIn}
 use Rattle.controller.specs.Calls.{Outcome, accepted, refused, kept, openOn, advanceOn}
 
 -- what is handed over: the caller's lists, commands and a schedule

@@ -1,9 +1,4 @@
-pub mod Bytes
-pub mod Layout
-pub mod Pasted
-pub mod Written
 pub mod Calls
 pub mod Performed
 pub mod Opened
-pub mod Reports
 pub mod Demand3

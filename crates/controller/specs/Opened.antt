@@ -5,11 +5,11 @@ use mathlib.Core.Bool.{cond}
 use mathlib.Core.List.{List}
 use lib.Dec.{eqb}
 use Rattle.model.specs.Step.{Setup, opened}
-use Rattle.graph.specs.Items.{commandsIn}
+use Rattle.command.specs.Read.{commandsIn}
 use Rattle.controller.specs.declared.«open_call».Opening.{Opening}
-use Rattle.controller.specs.declared.write.Settings.{Settings}
-use Rattle.controller.specs.Layout.{stateBytes, listsOf}
-use Rattle.controller.specs.Written.{Sets}
+use Rattle.state_bytes.specs.declared.Settings.{Settings}
+use Rattle.state_bytes.specs.Layout.{stateBytes, listsOf}
+use Rattle.state_bytes.specs.Written.{Sets}
 use Rattle.controller.specs.Calls.{Outcome, accepted, refused, openingNumber, openingPlace}
 
 -- the setup of an opening's numbers and bytes

@@ -8,15 +8,14 @@ use Rattle.model.specs.declared.Thread.{Thread}
 use Rattle.model.specs.declared.Thread.the-variants.{Idle}
 use Rattle.model.specs.Step.{Setup, steps}
 use Rattle.model.specs.Statement.{allWithin}
-use Rattle.graph.specs.declared.Counters.{Counters}
+use Rattle.model.specs.declared.Counters.{Counters}
 use Rattle.graph.specs.Arrays.{Within}
-use Rattle.graph.specs.Items.{commandsIn}
+use Rattle.command.specs.Read.{commandsIn}
 use Rattle.graph.specs.Memory.{Memory, Ready, shown}
-use Rattle.controller.specs.declared.write.Settings.{Settings}
-use Rattle.controller.specs.Bytes.{numberAt}
-use Rattle.controller.specs.Layout.{Lists, stateLength, listsOf, setupIn, countIn, stateFits}
-use Rattle.controller.specs.Written.{Sets}
-use Rattle.controller.specs.Calls.{handedBackFit}
+use Rattle.state_bytes.specs.declared.Settings.{Settings}
+use Rattle.state_bytes.specs.Bytes.{numberAt}
+use Rattle.state_bytes.specs.Layout.{Lists, stateLength, listsOf, setupIn, countIn, stateFits, handedBackFit}
+use Rattle.state_bytes.specs.Written.{Sets}
 
 -- the counters that stand in state bytes
 pub record CountersIn (b : List ℕ) (k : Counters) : Type 0 where

@@ -3,34 +3,34 @@ ghost use mathlib.Core.Path.{_≡_};
 ghost use lib.ListN.{length};
 ghost use Rattle.model.specs.Step.{steps};
 ghost use Rattle.graph.specs.Memory.{memory};
-ghost use Rattle.controller.specs.Layout.{lists, listsOf, setupIn, stateIn, stateLength};
+ghost use Rattle.state_bytes.specs.Layout.{lists, listsOf, setupIn, stateIn, stateLength};
 ghost use Rattle.controller.specs.Calls.{numberOf, kept, advanceNumber, advanceOn};
 ghost use Rattle.controller.specs.Performed.{CountersIn, SettingsIn, Passes, Performs, Performed};
-use crate::fits::lengths_fit;
-use crate::fits::state_fits;
-use crate::fits::threads_named;
-use crate::layout::CAPACITY;
-use crate::layout::COUNT;
-use crate::layout::EXECUTING;
-use crate::layout::FREE;
-use crate::layout::LOADED;
-use crate::layout::LOCKED;
-use crate::layout::NEXT;
-use crate::layout::SEQ;
-use crate::layout::SIZE;
-use crate::layout::USED;
-use crate::layout::WORKERS;
-use crate::read::number_at;
-use crate::read::read_bytes;
-use crate::read::read_flags;
-use crate::read::read_numbers;
-use crate::read::read_sets;
-use crate::read::read_threads;
-use crate::write::Settings;
-use crate::write::write_state;
-use graph::Counters;
+use model::Counters;
 use model::Thread;
 use node_set::Node;
+use state_bytes::CAPACITY;
+use state_bytes::COUNT;
+use state_bytes::EXECUTING;
+use state_bytes::FREE;
+use state_bytes::LOADED;
+use state_bytes::LOCKED;
+use state_bytes::NEXT;
+use state_bytes::SEQ;
+use state_bytes::SIZE;
+use state_bytes::Settings;
+use state_bytes::USED;
+use state_bytes::WORKERS;
+use state_bytes::lengths_fit;
+use state_bytes::number_at;
+use state_bytes::read_bytes;
+use state_bytes::read_flags;
+use state_bytes::read_numbers;
+use state_bytes::read_sets;
+use state_bytes::read_threads;
+use state_bytes::state_fits;
+use state_bytes::threads_named;
+use state_bytes::write_state;
 
 // What a call on a handed-back state answers.
 pub enum Advancing {
@@ -175,7 +175,7 @@ fn perform(
         let t = schedule[i];
         let n = t as usize;
         let thread = threads[n];
-        let r = graph::step(
+        let r = threads::step(
             &mut next,
             &mut seq,
             &mut executing,

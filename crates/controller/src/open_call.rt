@@ -6,18 +6,18 @@ ghost use lib.ListN.{length, getD, replicate};
 ghost use lib.Dec.{leb};
 ghost use Rattle.command.specs.Read.{listOutcome};
 ghost use Rattle.model.specs.Step.{Setup, firstNext};
-ghost use Rattle.controller.specs.Layout.{lists, stateLength};
-ghost use Rattle.controller.specs.Calls.{numberOf, placeOf, kept, openingNumber, openingPlace, lengthsFit, openedWith, openOn};
+ghost use Rattle.state_bytes.specs.Layout.{lists, stateLength, lengthsFit};
+ghost use Rattle.controller.specs.Calls.{numberOf, placeOf, kept, openingNumber, openingPlace, openedWith, openOn};
 ghost use Rattle.controller.specs.Opened.{setupOf, outcomeOf, LaysOpened};
-use crate::layout::STATE_LENGTH;
-use crate::write::Settings;
-use crate::write::write_state;
 use command::Command;
 use command::ListReading;
 use command::Seq;
-use graph::Counters;
+use model::Counters;
 use model::Thread;
 use node_set::Node;
+use state_bytes::STATE_LENGTH;
+use state_bytes::Settings;
+use state_bytes::write_state;
 
 // What opening answers.
 pub enum Opening {

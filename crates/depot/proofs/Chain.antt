@@ -8,10 +8,9 @@ use mathlib.Core.List.{List}
 use borrow.Author.Tests.{eq-eqb, ne-eqb}
 use lib.ListN.{length, getD}
 use lib.Dec.{ltb}
-use Rattle.model.specs.Step.{State}
-use Rattle.controller.specs.Layout.{Lists, stateIn}
-use Rattle.controller.specs.Reports.{chainFrom}
-use Rattle.controller.specs.Bytes.{numberAt}
+use Rattle.model.specs.Step.{State, chainFrom}
+use Rattle.state_bytes.specs.Layout.{Lists, stateIn}
+use Rattle.state_bytes.specs.Bytes.{numberAt}
 use Rattle.depot.specs.Program.{totals, report}
 
 -- nothing is behind a node whose next index is 0

@@ -9,7 +9,7 @@ use borrow.Author.Tests.{lt-ltb, le-ltb}
 use lib.ListN.{length, length-append}
 use lib.Dec.{ltb}
 use Rattle.io.specs.Digits.{digits, glyph, Fewest}
-use Rattle.controller.proofs.Bytes.{below-or-past}
+use Rattle.state_bytes.proofs.Bytes.{below-or-past}
 use Rattle.depot.specs.Program.{decimalWithin, decimal}
 
 -- a digit's character

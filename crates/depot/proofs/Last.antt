@@ -6,8 +6,8 @@ use mathlib.Core.List.{List, []}
 use native.Mathlib.Omega.{arith}
 use Rattle.model.specs.Step.{steps}
 use Rattle.model.specs.Statement.{allWithin}
-use Rattle.controller.specs.Layout.{Lists, listsOf, setupIn, stateIn, stateFits}
-use Rattle.controller.specs.Calls.{Outcome, accepted, refused, handedBackFit, openOn, advanceOn}
+use Rattle.state_bytes.specs.Layout.{Lists, listsOf, setupIn, stateIn, stateFits, handedBackFit}
+use Rattle.controller.specs.Calls.{Outcome, accepted, refused, openOn, advanceOn}
 use Rattle.controller.specs.Demand3.{after}
 use Rattle.controller.proofs.AcceptedOpening.{passed}
 use Rattle.controller.proofs.Demand3.{demand-3-over-calls}

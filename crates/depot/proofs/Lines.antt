@@ -4,8 +4,8 @@ use native.Mathlib.Omega.{arith}
 use mathlib.Core.Path.{_≡_, refl, ap, sym, _∙_}
 use mathlib.Core.List.{List, _∷_, _++_, append-assoc, append-nil}
 use lib.ListN.{length, getD}
-use Rattle.controller.specs.Bytes.{numberOf, numberAt, fields}
-use Rattle.controller.proofs.Bytes.{next-stands}
+use Rattle.state_bytes.specs.Bytes.{numberOf, numberAt, fields}
+use Rattle.state_bytes.proofs.Bytes.{next-stands}
 use Rattle.depot.specs.Wrote.{Wrote}
 
 -- the last field stands behind those before it

@@ -16,9 +16,9 @@ use Rattle.command.specs.Read.{firstRefusal, partsOf, readings, readCommand, wi
 use Rattle.command.specs.Read as Command
 use Rattle.model.specs.Step.{Setup}
 use Rattle.model.specs.Statement.{allWithin}
-use Rattle.controller.specs.Layout.{Lists, lists, stateLength, setupIn, stateFits}
-use Rattle.controller.specs.Calls.{Outcome, accepted, refused, numberOf, kept, lengthsFit, openedWith, openOn, handedBackFit, advanceOn}
-use Rattle.controller.proofs.Bytes.{below-or-past}
+use Rattle.state_bytes.specs.Layout.{Lists, lists, stateLength, setupIn, stateFits, lengthsFit, handedBackFit}
+use Rattle.controller.specs.Calls.{Outcome, accepted, refused, numberOf, kept, openedWith, openOn, advanceOn}
+use Rattle.state_bytes.proofs.Bytes.{below-or-past}
 use Rattle.depot.specs.Program.{refusal, printed, zeros}
 
 -- ---- a refusal's number is not 0

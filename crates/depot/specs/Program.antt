@@ -7,11 +7,10 @@ use lib.Dec.{ltb}
 use Rattle.command.specs.declared.Kind.{Kind}
 use Rattle.command.specs.declared.Kind.the-variants.{Insert, Delete, Read, Update}
 use Rattle.command.specs.Read.{kindOf}
-use Rattle.model.specs.Step.{State}
-use Rattle.controller.specs.Bytes.{numberAt, fields}
-use Rattle.controller.specs.Layout.{Lists, lists, stateLength, stateIn}
+use Rattle.model.specs.Step.{State, chainFrom}
+use Rattle.state_bytes.specs.Bytes.{numberAt, fields}
+use Rattle.state_bytes.specs.Layout.{Lists, lists, stateLength, stateIn}
 use Rattle.controller.specs.Calls.{Outcome, accepted, refused, openOn, advanceOn}
-use Rattle.controller.specs.Reports.{chainFrom}
 
 -- ---- text, as ASCII codes
 

@@ -2,7 +2,7 @@
 ghost use Prim.Native.Nat.{_*_, _≤_, _<_, min};
 ghost use mathlib.Core.Path.{_≡_};
 ghost use lib.ListN.{length};
-ghost use Rattle.controller.specs.Layout.{lists};
+ghost use Rattle.state_bytes.specs.Layout.{lists};
 ghost use Rattle.controller.specs.Calls.{openingNumber, advanceNumber, openOn};
 ghost use Rattle.depot.specs.Program.{printed, advanced, zeros};
 ghost use Rattle.depot.specs.Wrote.{Wrote};

@@ -1,4 +1,3 @@
-pub mod Fill
-pub mod Paste
 pub mod Entries
 pub mod Outcomes
+pub mod Reporting

@@ -8,18 +8,17 @@ use mathlib.Core.List.{List, [], _∷_}
 use lib.ListN.{length, getD, drop, length-map}
 use lib.Dec.{eqb, leb}
 use borrow.Author.Tests.{leb-true, eqb-true, le-leb}
-use Rattle.command.specs.Read.{firstRefusal, readings, parts, partsOf}
+use Rattle.command.specs.Read.{firstRefusal, readings, parts, partsOf, commandsIn}
 use Rattle.command.specs.Read as Command
 use Rattle.model.specs.Step.{Setup}
 use Rattle.model.specs.Statement.{allWithin}
-use Rattle.graph.specs.Items.{commandsIn}
-use Rattle.controller.specs.Bytes.{numberAt, allBelow}
-use Rattle.controller.specs.Layout.{Lists, lists, stateLength, setupIn, countIn, settingsFit, nodeFitsAt, threadFitsAt, ascends, stateFits}
-use Rattle.controller.specs.Calls.{Outcome, accepted, refused, numberOf, placeOf, kept, lengthsFit, openedWith, openOn, handedBackFit, advanceOn}
+use Rattle.state_bytes.specs.Bytes.{numberAt, allBelow}
+use Rattle.state_bytes.specs.Layout.{Lists, lists, stateLength, setupIn, countIn, settingsFit, nodeFitsAt, threadFitsAt, ascends, stateFits, lengthsFit, handedBackFit}
+use Rattle.controller.specs.Calls.{Outcome, accepted, refused, numberOf, placeOf, kept, openedWith, openOn, advanceOn}
 use Rattle.depot_c.specs.Numbers.{numbersIn, bytesIn}
 use Rattle.depot_c.specs.Boundary.{areWhole, entries, decoded, encoded, answerOf, left}
-use Rattle.controller.proofs.Bytes.{Bytes}
-use Rattle.controller.proofs.RoundTrip.{state-tests}
+use Rattle.state_bytes.proofs.Bytes.{Bytes}
+use Rattle.state_bytes.proofs.RoundTrip.{state-tests}
 use Rattle.depot_c.proofs.Entries.{numbers-length, numbers-read-back}
 
 -- ---- tests
@@ -162,15 +161,16 @@ lent-room b commands fit small =
     fits-room (numberAt 2 2 (entries b .state)) (countIn (entries b .state)) b (small .0) (small .1)
     (and-eq-true-iff (lengthsFit (numberAt 2 2 (entries b .state)) (countIn (entries b .state)) (entries b)) _ .0 fit .0)
 
+-- a list of more than 4,096 entries is handed back with no state that fits
+pub long-unfit : (b : Lists) (commands : List ℕ) → room b ≡ false → handedBackFit (entries b) commands ≡ true → stateFits (entries b) ≡ false
+long-unfit b commands long fit =
+    untrue (stateFits (entries b)) (λ whole. false≢true (sym long ∙ lent-room b commands fit (state-small (entries b) whole)))
+
 -- a handed-back list of more than 4,096 entries is refused: 12 where the state asks for so many, else 6
 pub long-advanced : (b : Lists) (commands schedule : List ℕ) → room b ≡ false
     → advanceOn (entries b) commands schedule ≡ cond (handedBackFit (entries b) commands) (refused 12 0) (refused 6 0)
 unfolding advanceOn
-long-advanced b commands schedule long =
-    under (handedBackFit (entries b) commands) 6 (λ fit. rw (untrue (stateFits (entries b)) (λ whole. false≢true (sym long ∙ has-room fit whole))))
-  where
-    has-room : handedBackFit (entries b) commands ≡ true → stateFits (entries b) ≡ true → room b ≡ true
-    has-room fit whole = lent-room b commands fit (state-small (entries b) whole)
+long-advanced b commands schedule long = under (handedBackFit (entries b) commands) 6 (λ fit. rw (long-unfit b commands long fit))
 
 -- an advance names no command
 pub advance-place : (l : Lists) (commands schedule : List ℕ) → placeOf (advanceOn l commands schedule) ≡ 0
@@ -178,13 +178,6 @@ unfolding advanceOn placeOf
 advance-place l commands schedule =
     let P : Outcome → Type 0 = λ o. placeOf o ≡ 0 in
     chosen P (handedBackFit l commands) (λ _. chosen P (stateFits l) (λ _. chosen P (allWithin _ schedule) (λ _. refl) (λ _. refl)) (λ _. refl)) (λ _. refl)
-
--- the tests of a handed-back list, on bytes
-asked-is : (s k c a commands : List ℕ) → handedBackFit (entries (lists s k c a)) commands
-    ≡ (eqb (length s) stateLength && eqb (length a / 2) (countIn s) && eqb (length k / 8) (numberAt 2 2 s) && eqb (length c / 2) (numberAt 2 2 s)
-    && eqb (length commands) (16 * countIn s))
-unfolding handedBackFit lengthsFit setupIn entries
-asked-is s k c a commands = rw (numbers-length 8 k, numbers-length 2 c, numbers-length 2 a)
 
 -- one of two refusals without a place
 either-answer : (t : Bool) → answerOf (cond t (refused 12 0) (refused 6 0)) ≡ cond t 12 6
@@ -197,18 +190,21 @@ unfolding left
 either-left true b = refl
 either-left false b = refl
 
+-- what is said of lists of that many entries is said of those that bytes write
+pub of-entries : (s k c a commands : List ℕ) {P : Lists → List ℕ → Type 0}
+    → ((l : Lists) (list : List ℕ) → l .state ≡ s → length (l .answers) ≡ length a / 2 → length (l .keys) ≡ length k / 8 → length (l .chutes) ≡ length c / 2
+    → length list ≡ length commands → P l list) → P (entries (lists s k c a)) commands
+unfolding entries
+of-entries s k c a commands said = said (entries (lists s k c a)) commands refl (numbers-length 2 a) (numbers-length 8 k) (numbers-length 2 c) refl
+
 -- what a handed-back list of more than 4,096 entries answers and leaves
-pub long-answered : (s k c a commands schedule : List ℕ) → room (lists s k c a) ≡ false
-    → (cond (eqb (length s) stateLength && eqb (length a / 2) (countIn s) && eqb (length k / 8) (numberAt 2 2 s) && eqb (length c / 2) (numberAt 2 2 s)
-    && eqb (length commands) (16 * countIn s)) 12 6 ≡ answerOf (advanceOn (entries (lists s k c a)) commands schedule))
-    × (lists s k c a ≡ left (advanceOn (entries (lists s k c a)) commands schedule) (lists s k c a))
-long-answered s k c a commands schedule long =
-    let b = lists s k c a in
+pub long-answered : (b : Lists) (commands schedule : List ℕ) → room b ≡ false
+    → (cond (handedBackFit (entries b) commands) 12 6 ≡ answerOf (advanceOn (entries b) commands schedule))
+    × (b ≡ left (advanceOn (entries b) commands schedule) b)
+long-answered b commands schedule long =
     let t = handedBackFit (entries b) commands in
-    let is = long-advanced b commands schedule long in (
-      ap (λ (u : Bool). cond u 12 6) (sym (asked-is s k c a commands)) ∙ sym (either-answer t) ∙ ap answerOf (sym is),
-      sym (either-left t b) ∙ ap (λ (o : Outcome). left o b) (sym is),
-    )
+    let is = long-advanced b commands schedule long in
+    (sym (either-answer t) ∙ ap answerOf (sym is), sym (either-left t b) ∙ ap (λ (o : Outcome). left o b) (sym is))
 
 -- ---- whole lists and rooms
 
@@ -250,16 +246,17 @@ module _ (state keys chutes answers : List ℕ) where
       let third = numbers-read-back 2 a answers (omega arith) long-answers answer-bytes in
       rw (first, second, third)
 
+  -- the numbers that were read are the entries
+  pub read-entries : {K C A : List ℕ} → (K ≡ numbersIn 8 keys) × (C ≡ numbersIn 2 chutes) × (A ≡ numbersIn 2 answers) → lists state K C A ≡ entries bytes
+  unfolding entries
+  read-entries read = rw (read .0, read .1, read .2)
+
   -- A call f on the numbers that were read.
   module _ (f : Lists → Outcome) {K C A : List ℕ} (read : (K ≡ numbersIn 8 keys) × (C ≡ numbersIn 2 chutes) × (A ≡ numbersIn 2 answers)) where
-    read-entries : lists state K C A ≡ entries bytes
-    unfolding entries
-    read-entries = rw (read .0, read .1, read .2)
-
     -- its answer is that on the entries
     pub answer-on : {n p : ℕ} → n ≡ numberOf (f (lists state K C A)) → p ≡ placeOf (f (lists state K C A)) → n + 256 * p ≡ answerOf (f (entries bytes))
     unfolding answerOf
-    answer-on e g = rw (e, g, read-entries)
+    answer-on e g = rw (e, g, read-entries read)
 
     -- the bytes of the numbers that it leaves
     pub written-on : {s K′ C′ A′ x y z : List ℕ} → encoded (entries bytes) ≡ bytes
@@ -267,7 +264,7 @@ module _ (state keys chutes answers : List ℕ) where
         → lists s x y z ≡ left (f (entries bytes)) bytes
     unfolding encoded left kept
     written-on {s} {K′} {C′} {A′} whole is wrote =
-        let e : lists s K′ C′ A′ ≡ kept (f (entries bytes)) (entries bytes) = is ∙ rw read-entries in
+        let e : lists s K′ C′ A′ ≡ kept (f (entries bytes)) (entries bytes) = is ∙ rw (read-entries read) in
         rw (wrote .0, wrote .1, wrote .2) (ap encoded e ∙ by (f (entries bytes)))
       where
         by : (o : Outcome) → encoded (kept o (entries bytes)) ≡ left o bytes
@@ -279,7 +276,7 @@ module _ (state keys chutes answers : List ℕ) where
         → lists s keys chutes answers ≡ left (f (entries bytes)) bytes
     unfolding left kept answerOf numberOf placeOf entries
     refused-on {s} {K′} {C′} {A′} is nonzero =
-        let e : lists s K′ C′ A′ ≡ kept (f (entries bytes)) (entries bytes) = is ∙ rw read-entries in
+        let e : lists s K′ C′ A′ ≡ kept (f (entries bytes)) (entries bytes) = is ∙ rw (read-entries read) in
         by (f (entries bytes)) e nonzero
       where
         by : (o : Outcome) → lists s K′ C′ A′ ≡ kept o (entries bytes) → (answerOf o ≡ 0 → ⊥) → lists s keys chutes answers ≡ left o bytes

@@ -7,10 +7,13 @@ use lib.ListN.{length}
 use lib.Dec.{eqb}
 use Rattle.s10.specs.Outcome.{readText}
 use Rattle.s10.specs.Outcome as Identifier
-use Rattle.controller.specs.Bytes.{bytesOf}
-use Rattle.controller.specs.Layout.{Lists, lists}
+use Rattle.state_bytes.specs.Bytes.{bytesOf}
+use Rattle.state_bytes.specs.Layout.{Lists, lists, stateIn}
 use Rattle.controller.specs.Calls.{Outcome, accepted, refused, numberOf, placeOf}
+use Rattle.panel.specs.Reports.{pendingCounts, workerStatusBytes, workersIn}
 use Rattle.depot_c.specs.Numbers.{numbersIn, bytesIn}
+use Rattle.depot_c.specs.declared.Wanted.{Wanted}
+use Rattle.depot_c.specs.declared.Wanted.the-variants.{PendingCounts, WorkerStatus}
 
 -- ---- lists
 
@@ -62,6 +65,18 @@ readAnswer text key = cond (eqb (length key) 8) (numberRead (readText text)) 6
 
 unfoldable pub readLeft : List ℕ → List ℕ → List ℕ
 readLeft text key = cond (eqb (length key) 8) (bytesRead (readText text) key) key
+
+-- ---- the panel's reports
+
+-- how many bytes a report has
+abbrev pub reportLength : Wanted → ℕ
+reportLength PendingCounts = 150
+reportLength WorkerStatus = 128
+
+-- the bytes of a report, of the state that lists write; the worker count is read from the state bytes
+abbrev pub reportIn : Wanted → List ℕ → Lists → List ℕ
+reportIn PendingCounts state l = pendingCounts (stateIn l)
+reportIn WorkerStatus state l = workerStatusBytes (workersIn state) (stateIn l)
 
 -- ---- lent rooms
 

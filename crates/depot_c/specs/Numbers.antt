@@ -2,8 +2,7 @@
 use Prim.Native.Nat.{ℕ, _*_, _/_}
 use mathlib.Core.List.{List}
 use lib.ListN.{length, getD}
-use lib.Seq.{sets}
-use Rattle.controller.specs.Bytes.{bytesOf, numberAt, tabulate, fields}
+use Rattle.state_bytes.specs.Bytes.{bytesOf, numberAt, tabulate, fields}
 
 -- the numbers that bytes write, k bytes each
 unfoldable pub numbersIn : ℕ → List ℕ → List ℕ
@@ -12,7 +11,3 @@ numbersIn k bytes = tabulate (length bytes / k) (λ i. numberAt k (k * i) bytes)
 -- the bytes of numbers, k bytes each
 unfoldable pub bytesIn : ℕ → List ℕ → List ℕ
 bytesIn k numbers = fields (length numbers) (λ i. bytesOf k (getD numbers i 0))
-
--- b with a part stored from an offset on, element by element
-unfoldable pub pasted : ℕ → List ℕ → List ℕ → List ℕ
-pasted at part b = sets b at part

@@ -1,20 +1,14 @@
 // Advancing, on byte lists.
 ghost use mathlib.Core.Path.{_≡_};
-ghost use mathlib.Core.Bool.{cond, _&&_};
-ghost use Prim.Native.Nat.{_*_, _≤_};
-ghost use lib.Dec.{eqb};
-ghost use lib.ListN.{length};
-ghost use Rattle.controller.specs.Bytes.{numberAt};
-ghost use Rattle.controller.specs.Layout.{lists, stateLength, countIn};
+ghost use Rattle.state_bytes.specs.Layout.{lists};
 ghost use Rattle.controller.specs.Calls.{advanceOn, advanceNumber};
 ghost use Rattle.depot_c.specs.Boundary.{decoded, entries, answerOf, left, Rooms};
 use crate::lists::MOST;
 use crate::lists::are_whole;
 use crate::lists::have_room;
+use crate::lists::long_answer;
 use crate::lists::read_lists;
 use crate::lists::write_lists;
-use crate::numbers::SHORT;
-use crate::numbers::number_at;
 use controller::Advancing;
 use controller::advance;
 
@@ -27,53 +21,6 @@ fn advancing_answer(advancing: Advancing) -> u64
         Advancing::WrongLength => 6,
         Advancing::UnknownThread => 11,
         Advancing::WrongState => 12,
-    }
-}
-
-// Where the capacity and the count of commands stand in the state bytes, docs/STATE-LAYOUT.md, and how many bytes there are.
-const STATE_LENGTH: usize = 4715;
-
-const CAPACITY: usize = 2;
-
-const COUNT: usize = 4;
-
-// Whether lists are as long as a capacity and a count of commands ask.
-fn is_asked(
-    keys: usize,
-    chutes: usize,
-    answers: usize,
-    commands: usize,
-    capacity: usize,
-    count: usize,
-) -> bool
-    requires { ⌜ count ≤ 65535 ⌝ }
-    ensures { λ r. ⌜ r ≡ (eqb answers count && eqb keys capacity && eqb chutes capacity && eqb commands (16 * count)) ⌝ }
-{
-    if answers != count {
-        return false;
-    }
-    if keys != capacity {
-        return false;
-    }
-    if chutes != capacity {
-        return false;
-    }
-    commands == 16 * count
-}
-
-// The answer where a list has more entries than an opened one: 12 where the state asks for so many, else 6.
-fn long_answer(state: &[u8], keys: usize, chutes: usize, answers: usize, commands: usize) -> u64
-    ensures { λ r. ⌜ r ≡ cond (eqb (length (now (state .entry))) stateLength && eqb answers (countIn (now (state .entry))) && eqb keys (numberAt 2 2 (now (state .entry))) && eqb chutes (numberAt 2 2 (now (state .entry))) && eqb commands (16 * countIn (now (state .entry)))) 12 6 ⌝ }
-{
-    if state.len() != STATE_LENGTH {
-        return 6;
-    }
-    let capacity = number_at(state, CAPACITY, SHORT) as usize;
-    let count = number_at(state, COUNT, SHORT) as usize;
-    if is_asked(keys, chutes, answers, commands, capacity, count) {
-        12
-    } else {
-        6
     }
 }
 

@@ -3,10 +3,10 @@ ghost use mathlib.Core.Path.{_≡_};
 ghost use Rattle.s10.specs.Outcome.{outcome, number, writeNumber, writeText};
 ghost use Rattle.depot_c.specs.Boundary.{numberRead, keyRead, readAnswer, readLeft};
 use crate::numbers::KEY;
-use crate::numbers::put_number;
 use s10::Identifier;
 use s10::Reading;
 use s10::Writing;
+use state_bytes::put_number;
 
 // The number of a reading's answer.
 fn reading_number(reading: Reading) -> u64

@@ -4,3 +4,10 @@ mod identifiers;
 mod lists;
 mod numbers;
 mod opening;
+mod panel_calls;
+
+// Which of the panel's reports is asked for.
+pub enum Wanted {
+    PendingCounts,
+    WorkerStatus,
+}

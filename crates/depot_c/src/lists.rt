@@ -1,13 +1,18 @@
 // The byte lists that a call lends: their lengths, and the lists of numbers that they write.
 ghost use mathlib.Core.Path.{_≡_};
-ghost use mathlib.Core.Bool.{_&&_};
+ghost use mathlib.Core.Bool.{cond, _&&_};
+ghost use mathlib.Core.List.{List};
+ghost use Prim.Native.Nat.{ℕ};
 ghost use lib.Dec.{leb};
+ghost use lib.ListN.{length};
+ghost use Rattle.state_bytes.specs.Layout.{Lists, handedBackFit};
 ghost use Rattle.depot_c.specs.Numbers.{numbersIn, bytesIn};
 ghost use Rattle.depot_c.specs.Boundary.{areWhole, Rooms};
 use crate::numbers::read_keys;
 use crate::numbers::read_shorts;
 use crate::numbers::write_keys;
 use crate::numbers::write_shorts;
+use state_bytes::lengths_fit;
 
 // The most entries that a list of an accepted call has.
 pub const MOST: usize = 4096;
@@ -36,6 +41,17 @@ pub fn have_room(keys: usize, chutes: usize, answers: usize) -> bool
         return false;
     }
     answers <= MOST
+}
+
+// The answer where a list has more entries than an opened one: 12 where the state asks for so many, else 6.
+pub fn long_answer(state: &[u8], keys: usize, chutes: usize, answers: usize, commands: usize) -> u64
+    ensures { λ r. ⌜ ((l : Lists) (list : List ℕ) → l .state ≡ now (state .entry) → length (l .answers) ≡ answers → length (l .keys) ≡ keys → length (l .chutes) ≡ chutes → length list ≡ commands → r ≡ cond (handedBackFit l list) 12 6) ⌝ }
+{
+    if lengths_fit(state, answers, keys, chutes, commands) {
+        12
+    } else {
+        6
+    }
 }
 
 // Fills rooms with the numbers that byte lists write.

@@ -2,7 +2,7 @@
 ghost use mathlib.Core.Path.{_≡_};
 ghost use mathlib.Core.List.{[]};
 ghost use Prim.Native.Nat.{_+_, _*_, _≤_};
-ghost use Rattle.controller.specs.Layout.{lists};
+ghost use Rattle.state_bytes.specs.Layout.{lists};
 ghost use Rattle.controller.specs.Calls.{openOn, openingNumber, openingPlace};
 ghost use Rattle.depot_c.specs.Boundary.{decoded, entries, answerOf, left, Rooms};
 use crate::lists::MOST;

@@ -11,11 +11,11 @@ use lib.ListN.{length, take, drop, getElem?, length-map}
 use lib.Dec.{eqb}
 use lib.Seq.{drop-drop}
 use Rattle.command.specs.declared.Command.{Command}
-use Rattle.command.specs.Read.{readCommand, parts, partsOf, readings}
+use Rattle.command.specs.Read.{readCommand, parts, partsOf, readings, commandFrom, commandsIn}
 use Rattle.model.specs.Step.{upd, commandAt}
 use Rattle.model.specs.Proof.Upd.{eqb-cases, upd-at, upd-other}
 use Rattle.graph.specs.Arrays.{numbers}
-use Rattle.graph.specs.Items.{commandFrom, commandsIn, keptAt, Kept}
+use Rattle.graph.specs.Items.{keptAt, Kept}
 use Rattle.graph.specs.Worker.{Placed}
 
 -- the first n parts are n

@@ -1,10 +1,7 @@
 pub mod Bridge
 pub mod Commands
 pub mod Kept
-pub mod LoaderSteps
 pub mod Loading
-pub mod Readiness
 pub mod Steps
-pub mod WorkerSteps
 pub mod Writing
 pub mod Filled

@@ -10,8 +10,7 @@ use Rattle.node_set.specs.declared.Node.{Node}
 use Rattle.node_set.specs.Members.{noneBelow}
 use Rattle.model.specs.declared.Thread.{Thread}
 use Rattle.model.specs.declared.Thread.the-variants.{Idle, Searching, Holding, Walking, Clearing}
-use Rattle.model.specs.Step.{State, upd, node, setThread, setLocked, setExecuting, setNext, setSeq, setFree, setWaits}
-use Rattle.model.specs.Step.{stepOn, enter, leave, ready, examine, searching, bypass, walking, return, clearing}
+use Rattle.model.specs.Step.{State, upd, node, setThread, setLocked, setExecuting, setNext, setSeq, setFree, setWaits, stepOn, enter, leave, ready, examine, searching, bypass, walking, return, clearing}
 use Rattle.model.specs.Proof.Upd.{upd-id}
 use Rattle.graph.specs.Arrays.{numbers, flags, sets, PutBack, Entered, Searches, Walks, ClearsOn}
 use Rattle.graph.proofs.Bridge.{value}

@@ -2,25 +2,15 @@
 use Prim.Native.Nat.{ℕ, _≤_}
 use mathlib.Core.Path.{_≡_}
 use mathlib.Core.Bool.{cond}
-use mathlib.Core.List.{List, [], _∷_, map}
+use mathlib.Core.List.{List}
 use mathlib.Core.Option.{Option, none, some}
 use lib.ListN.{getD}
 use lib.Dec.{eqb}
-use Rattle.command.specs.declared.Kind.the-variants.{Insert, Delete, Read, Update}
 use Rattle.command.specs.declared.Command.{Command}
-use Rattle.command.specs.Read.{Outcome, accepted, refused, kindOf, readings}
+use Rattle.command.specs.Read.{kindOf}
 use Rattle.model.specs.Step.{commandAt}
 use Rattle.graph.specs.declared.items.Item.{Item}
 use Rattle.graph.specs.declared.items.Item.the-variants.{Nothing, Of}
-
--- the commands of a list. A list that was accepted has no refused command; in any other list a refused one reads as a read of key 0, so
--- that every list has a command at each place
-unfoldable pub commandFrom : Outcome → Command
-commandFrom (accepted c) = c
-commandFrom (refused n) = record { kind = Read; key = 0; chute = 0 }
-
-unfoldable pub commandsIn : List ℕ → List Command
-commandsIn bytes = map commandFrom (readings bytes)
 
 -- a node's command, if it has one
 abbrev pub itemOf : Item → Option Command

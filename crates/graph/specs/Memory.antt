@@ -12,9 +12,10 @@ use Rattle.model.specs.declared.Thread.the-variants.{Loading}
 use Rattle.model.specs.Store.{Store}
 use Rattle.model.specs.Step.{Setup, State, upd, step, setThread, loaderWalk, writeFor}
 use Rattle.store.specs.Lists.{storeOf}
-use Rattle.graph.specs.declared.Counters.{Counters}
+use Rattle.model.specs.declared.Counters.{Counters}
 use Rattle.graph.specs.Arrays.{numbers, flags, sets, Nodes, Within, withGraph}
-use Rattle.graph.specs.Items.{Kept, commandsIn}
+use Rattle.command.specs.Read.{commandsIn}
+use Rattle.graph.specs.Items.{Kept}
 
 -- the answer to each command, by its sequence number
 abbrev pub answersOf : List ℕ → ℕ → ℕ

@@ -1,15 +1,12 @@
-// The steps on the graph's arrays, the store and the answers. Together they are the model's `step`.
-ghost use Rattle.graph.specs.Memory.{Ready, Steps, memory};
-
+// The kinds of step on the graph's arrays, the store and the answers.
 mod arrays;
 mod chain;
 mod fill;
 mod items;
 mod loader;
-mod loader_thread;
 mod service;
-mod worker_thread;
 
+pub use chain::Cleared;
 pub use chain::clear;
 pub use chain::enter;
 pub use chain::load;
@@ -23,79 +20,5 @@ pub use items::forget;
 pub use items::item_of;
 pub use items::keep;
 pub use loader::loader_walk;
-use loader_thread::loader_step;
-use model::Thread;
-use node_set::Node;
 pub use service::look_up;
 pub use service::write;
-use worker_thread::worker_step;
-
-// What steps count: the first free node, the commands loaded, and the store's places in use.
-pub struct Counters {
-    pub free: Node,
-    pub loaded: usize,
-    pub used: usize,
-}
-
-// A thread after its step, with the counters.
-pub struct Stepped {
-    pub thread: Thread,
-    pub counters: Counters,
-}
-
-// One step of thread t, which is in state `thread`.
-pub fn step(
-    next: &mut [u8; 151],
-    seq: &mut [u16; 151],
-    executing: &mut [bool; 151],
-    locked: &mut [bool; 151],
-    waits: &mut [[u64; 3]; 151],
-    kinds: &mut [u8; 151],
-    item_keys: &mut [u64; 151],
-    item_chutes: &mut [u16; 151],
-    keys: &mut [u64],
-    chutes: &mut [u16],
-    answers: &mut [u16],
-    list: &[u8],
-    t: u8,
-    thread: Thread,
-    counters: Counters,
-) -> Stepped
-    requires { ⌜ Ready (now list) (now kinds) (now «item_keys») (now «item_chutes») (memory (now next) (now seq) (now executing) (now locked) (now waits) (now keys) (now chutes) (now answers) counters) thread ⌝ }
-    ensures { λ r. ⌜ Steps (now (list .entry)) t thread
-        (memory (now (next .entry)) (now (seq .entry)) (now (executing .entry)) (now (locked .entry)) (now (waits .entry)) (now (keys .entry)) (now (chutes .entry)) (now (answers .entry)) counters)
-        (now (kinds .exit)) (now («item_keys» .exit)) (now («item_chutes» .exit)) (r .thread)
-        (memory (now (next .exit)) (now (seq .exit)) (now (executing .exit)) (now (locked .exit)) (now (waits .exit)) (now (keys .exit)) (now (chutes .exit)) (now (answers .exit)) (r .counters)) ⌝ }
-{
-    if t == 0 {
-        return loader_step(
-            next,
-            seq,
-            executing,
-            locked,
-            waits,
-            kinds,
-            item_keys,
-            item_chutes,
-            answers,
-            list,
-            thread,
-            counters,
-        );
-    }
-    worker_step(
-        next,
-        seq,
-        executing,
-        locked,
-        waits,
-        kinds,
-        item_keys,
-        item_chutes,
-        keys,
-        chutes,
-        answers,
-        thread,
-        counters,
-    )
-}

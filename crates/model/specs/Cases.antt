@@ -11,12 +11,12 @@ use Rattle.s10.specs.Outcome as Identifier
 use Rattle.command.specs.declared.Kind.{Kind}
 use Rattle.command.specs.declared.Kind.the-variants.{Insert, Delete, Read, Update}
 use Rattle.command.specs.declared.Command.{Command}
-use Rattle.command.specs.Read.{Outcome, accepted, refused, readings}
+use Rattle.command.specs.Read.{readings, commandFrom, commandsIn}
 use Rattle.command.specs.Dependent.{areDependent}
 use Rattle.node_set.specs.Members.{noneBelow}
 use Rattle.model.specs.Serial.{serve}
 use Rattle.model.specs.Store.{lookUp, insert}
-use Rattle.model.specs.Step.{Setup, State, upd, opened, steps}
+use Rattle.model.specs.Step.{Setup, State, upd, opened, steps, chainFrom}
 
 -- AA000000005AA and ZZ999999995ZZ
 unfoldable pub firstText : List ℕ
@@ -28,24 +28,18 @@ lastText = 90 ∷ 90 ∷ replicate 8 57 ++ (53 ∷ 90 ∷ 90 ∷ [])
 unfoldable pub command : Kind → ℕ → ℕ → Command
 command kind key chute = record { kind = kind; key = key; chute = chute }
 
--- the commands of a list's readings, the refused ones left out
-unfoldable pub commandsOf : List Outcome → List Command
-commandsOf [] = []
-commandsOf (accepted c ∷ rest) = c ∷ commandsOf rest
-commandsOf (refused n ∷ rest) = commandsOf rest
-
 -- "Input: size 2, workers 1, room 4, count 2; insert AA000000005AA chute 7; read the same; then 5 bytes 0 and 15 bytes 1."
 unfoldable pub input : List ℕ
 unfolding firstText
 input = (2 ∷ 1 ∷ 0 ∷ 4 ∷ 0 ∷ 2 ∷ 1 ∷ firstText) ++ (0 ∷ 7 ∷ 3 ∷ firstText) ++ (0 ∷ 0 ∷ []) ++ replicate 5 0 ++ replicate 15 1
 
 unfoldable pub setup : Setup
-unfolding input commandsOf readings
+unfolding input commandsIn commandFrom readings
 setup = record {
   size = getD input 0 0;
   workers = getD input 1 0;
   capacity = 256 * getD input 2 0 + getD input 3 0;
-  commands = commandsOf (readings (take 32 (drop 6 input)));
+  commands = commandsIn (take 32 (drop 6 input));
 }
 
 -- the state after the first n steps of the input
@@ -53,15 +47,10 @@ unfoldable pub after : ℕ → State
 unfolding setup input steps opened
 after n = steps setup (take n (drop 38 input)) (opened setup)
 
--- how many nodes the chain has behind a node, at most n
-unfoldable pub chainFrom : ℕ → ℕ → State → ℕ
-chainFrom zero x s = 0
-chainFrom (suc n) x s = cond (eqb (s .next x) 0) 0 (1 + chainFrom n (s .next x) s)
-
 -- what the program prints of a state: the two answers, "`store`, entries used, `chain`, records linked"
 unfoldable pub printed : State → List ℕ
 unfolding chainFrom
-printed s = s .answers 1 ∷ s .answers 2 ∷ s .store .used ∷ chainFrom 150 0 s ∷ []
+printed s = s .answers 1 ∷ s .answers 2 ∷ s .store .used ∷ length (chainFrom 150 0 s) ∷ []
 
 pub record Marked : Type 0 where
   -- "serial 00000000 has check digit 5"

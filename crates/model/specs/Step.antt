@@ -393,3 +393,10 @@ unfoldable pub steps : Setup → List ℕ → State → State
 unfolding step
 steps o [] s = s
 steps o (t ∷ ts) s = steps o ts (step o t s)
+
+-- ---- the chain
+
+-- the nodes behind a node, in chain order; at most k, so that a chain that runs in a circle ends too
+unfoldable pub chainFrom : ℕ → ℕ → State → List ℕ
+chainFrom zero x s = []
+chainFrom (suc k) x s = cond (eqb (s .next x) 0) [] (s .next x ∷ chainFrom k (s .next x) s)

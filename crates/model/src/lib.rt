@@ -17,3 +17,10 @@ pub enum Thread {
     Walking { at: Node, own: Node },
     Clearing { at: Node, own: Node },
 }
+
+// What steps count: the first free node, the commands loaded, and the store's places in use.
+pub struct Counters {
+    pub free: Node,
+    pub loaded: usize,
+    pub used: usize,
+}

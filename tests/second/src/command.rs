@@ -32,6 +32,15 @@ impl Kind {
     pub fn carries_chute(self) -> bool {
         matches!(self, Kind::Insert | Kind::Update)
     }
+
+    /// Whether this is a chute, or 0 for none, that commands of this kind carry.
+    fn takes(self, chute: u16) -> bool {
+        if self.carries_chute() {
+            (1..=LARGEST_CHUTE).contains(&chute)
+        } else {
+            chute == 0
+        }
+    }
 }
 
 #[derive(Clone, Copy, Debug, PartialEq, Eq)]
@@ -50,24 +59,23 @@ pub struct ListRefusal {
 }
 
 /// Reads one command, or refuses it with 7, 8, 9 or 10, tested in that order.
-///
-/// A part that is not 16 bytes long is refused for the first thing it lacks or has too much of.
-pub fn read(part: &[u8]) -> Result<Command, Refusal> {
-    let (kind, rest) = part.split_first().ok_or(Refusal::Kind)?;
+pub fn read(part: &[u8; LENGTH]) -> Result<Command, Refusal> {
+    let [kind, text @ .., high, low] = part;
     let kind = Kind::from_number(*kind).ok_or(Refusal::Kind)?;
-    let (text, chute) = rest
-        .split_at_checked(identifier::LENGTH)
-        .ok_or(Refusal::Identifier)?;
     let key = identifier::read(text)?;
-    let chute = read_chute(kind, chute).ok_or(Refusal::Chute)?;
+    let chute = u16::from_be_bytes([*high, *low]);
+    if !kind.takes(chute) {
+        return Err(Refusal::Chute);
+    }
     Ok(Command { kind, key, chute })
 }
 
-/// Reads a list of commands, or refuses it at its first refused command.
-///
-/// Each part has 16 bytes; the last may be shorter and is read as the others are.
+/// Reads a list of commands, or refuses it at its first refused command. Its length is a multiple
+/// of 16, which is tested before.
 pub fn read_list(list: &[u8]) -> Result<Vec<Command>, ListRefusal> {
-    list.chunks(LENGTH)
+    let (parts, _) = list.as_chunks();
+    parts
+        .iter()
         .enumerate()
         .map(|(index, part)| {
             read(part).map_err(|refusal| ListRefusal {
@@ -76,6 +84,11 @@ pub fn read_list(list: &[u8]) -> Result<Vec<Command>, ListRefusal> {
             })
         })
         .collect()
+}
+
+/// The bytes of a command, right or not.
+pub fn encode(kind: u8, text: &[u8], chute: u16) -> Vec<u8> {
+    [&[kind], text, &chute.to_be_bytes()].concat()
 }
 
 /// Whether two commands must keep their order.
@@ -88,24 +101,14 @@ pub fn dependent(first: &Command, second: &Command) -> bool {
     }
 }
 
-fn read_chute(kind: Kind, bytes: &[u8]) -> Option<u16> {
-    let chute = u16::from_be_bytes(bytes.try_into().ok()?);
-    let right = if kind.carries_chute() {
-        (1..=LARGEST_CHUTE).contains(&chute)
-    } else {
-        chute == 0
-    };
-    right.then_some(chute)
-}
-
 #[cfg(test)]
 mod tests {
     use super::*;
 
     const FIRST: &[u8] = b"AA000000005AA";
 
-    fn bytes(kind: u8, text: &[u8], chute: &[u8]) -> Vec<u8> {
-        [&[kind], text, chute].concat()
+    fn refused<T>(seq: usize, refusal: Refusal) -> Result<T, ListRefusal> {
+        Err(ListRefusal { seq, refusal })
     }
 
     fn command(kind: Kind, key: u64) -> Command {
@@ -116,7 +119,7 @@ mod tests {
     /// Document 01, the two commands of the program's example.
     #[test]
     fn the_commands_of_the_example_are_read() {
-        let list = [bytes(1, FIRST, &[0, 7]), bytes(3, FIRST, &[0, 0])].concat();
+        let list = [encode(1, FIRST, 7), encode(3, FIRST, 0)].concat();
         let commands = vec![command(Kind::Insert, 0), command(Kind::Read, 0)];
         assert_eq!(read_list(&list), Ok(commands));
     }
@@ -125,14 +128,14 @@ mod tests {
     #[test]
     fn the_examples_of_refusal_are_refused() {
         let cases = [
-            (bytes(0, FIRST, &[0, 0]), Refusal::Kind),
-            (bytes(3, b"Aa000000005AA", &[0, 0]), Refusal::Identifier),
-            (bytes(3, b"AA000000004AA", &[0, 0]), Refusal::CheckDigit),
-            (bytes(1, FIRST, &[2, 1]), Refusal::Chute),
-            (bytes(3, FIRST, &[0, 1]), Refusal::Chute),
+            (encode(0, FIRST, 0), Refusal::Kind),
+            (encode(3, b"Aa000000005AA", 0), Refusal::Identifier),
+            (encode(3, b"AA000000004AA", 0), Refusal::CheckDigit),
+            (encode(1, FIRST, 513), Refusal::Chute),
+            (encode(3, FIRST, 1), Refusal::Chute),
         ];
         for (part, refusal) in cases {
-            assert_eq!(read(&part), Err(refusal), "{part:?}");
+            assert_eq!(read_list(&part), refused(1, refusal), "{part:?}");
         }
     }
 
@@ -141,7 +144,7 @@ mod tests {
     fn each_kind_takes_its_own_chutes() {
         for kind in Kind::ALL {
             let accepted = [0, 1, 512, 513, 65_535]
-                .map(|chute: u16| read(&bytes(kind.number(), FIRST, &chute.to_be_bytes())).is_ok());
+                .map(|chute| read_list(&encode(kind.number(), FIRST, chute)).is_ok());
             let expected = match kind {
                 Kind::Insert | Kind::Update => [false, true, true, false, false],
                 Kind::Delete | Kind::Read => [true, false, false, false, false],
@@ -150,28 +153,15 @@ mod tests {
         }
     }
 
-    /// A part of another length is refused for the first thing that is wrong with it.
-    #[test]
-    fn parts_of_other_lengths_are_refused() {
-        let whole = bytes(3, FIRST, &[0, 0, 0]);
-        assert_eq!(read(&[]), Err(Refusal::Kind));
-        assert_eq!(read(&whole[..1]), Err(Refusal::Identifier));
-        assert_eq!(read(&whole[..13]), Err(Refusal::Identifier));
-        assert_eq!(read(&whole[..14]), Err(Refusal::Chute));
-        assert_eq!(read(&whole[..15]), Err(Refusal::Chute));
-        assert_eq!(read(&whole[..16]), Ok(command(Kind::Read, 0)));
-        assert_eq!(read(&whole[..17]), Err(Refusal::Chute));
-    }
-
     /// Document 01, section "Numbers of refusal": the first refused command, by its place from 1.
     #[test]
     fn a_list_is_refused_at_its_first_refused_command() {
-        let good = bytes(3, FIRST, &[0, 0]);
-        let list = [&good[..], &bytes(3, FIRST, &[0, 1]), &[0]].concat();
-        let refused = |seq, refusal| Err(ListRefusal { seq, refusal });
-        assert_eq!(read_list(&list), refused(2, Refusal::Chute));
-        let list = [&good[..], &good[..5]].concat();
-        assert_eq!(read_list(&list), refused(2, Refusal::Identifier));
+        let parts = [
+            encode(3, FIRST, 0),
+            encode(3, FIRST, 1),
+            encode(0, FIRST, 0),
+        ];
+        assert_eq!(read_list(&parts.concat()), refused(2, Refusal::Chute));
         assert_eq!(read_list(&[]), Ok(vec![]));
     }
 

@@ -1,29 +1,100 @@
-//! The cases that are compared, made from a seed: right inputs, and inputs that are wrong in
-//! every position, at every bound and in several ways at once.
+//! The inputs that are compared, made from a seed: right ones, and ones that are wrong in every
+//! position, at every bound and in several ways at once.
 
 mod commands;
 mod identifiers;
 mod lists;
 mod pairs;
+pub mod runs;
 
-use crate::case::Case;
 use crate::identifier::{self, LARGEST_KEY};
 use crate::random::Random;
+use crate::script::Step;
+use runs::openings::Opening;
+use runs::programs;
 
 /// Wrong lengths go from 0 to this one.
 const LONGEST: usize = 40;
 
-/// All cases for the leaves.
-pub fn leaf_cases(seed: u64) -> Vec<Case> {
+/// What an input is.
+#[derive(Clone, Copy, Debug, PartialEq, Eq)]
+pub enum Sort {
+    /// A text that is read.
+    Identifiers,
+    /// A key that is written.
+    Keys,
+    /// A single command that is opened, and served where it is accepted.
+    Commands,
+    /// A list of commands that is opened.
+    Lists,
+    /// Two commands that are loaded, so that the second's set tells whether they are dependent.
+    Pairs,
+    /// Calls that go on from one another.
+    Runs,
+    /// An input of the program.
+    Programs,
+}
+
+impl Sort {
+    pub const ALL: [Sort; 7] = [
+        Sort::Identifiers,
+        Sort::Keys,
+        Sort::Commands,
+        Sort::Lists,
+        Sort::Pairs,
+        Sort::Runs,
+        Sort::Programs,
+    ];
+
+    pub fn name(self) -> &'static str {
+        match self {
+            Sort::Identifiers => "identifiers",
+            Sort::Keys => "keys",
+            Sort::Commands => "commands",
+            Sort::Lists => "lists",
+            Sort::Pairs => "pairs",
+            Sort::Runs => "runs",
+            Sort::Programs => "programs",
+        }
+    }
+}
+
+/// The steps of one input.
+pub type Case = Vec<Step>;
+
+/// All inputs but those of `runs::play`, whose steps depend on what the calls before them gave.
+pub fn cases(seed: u64) -> Vec<(Sort, Case)> {
     let random = &mut Random::new(seed);
-    [
-        identifiers::read_cases(random),
-        identifiers::write_cases(random),
-        commands::cases(random),
-        lists::cases(random),
-        pairs::cases(random),
-    ]
-    .concat()
+    let sorts = [
+        (Sort::Identifiers, identifiers::read_cases(random)),
+        (Sort::Keys, identifiers::write_cases(random)),
+        (Sort::Commands, commands::cases(random)),
+        (Sort::Lists, lists::cases(random)),
+        (Sort::Pairs, pairs::cases(random)),
+        (Sort::Programs, programs::limits()),
+    ];
+    sorts
+        .into_iter()
+        .flat_map(|(sort, cases)| cases.into_iter().map(move |case| (sort, case)))
+        .collect()
+}
+
+/// Opens a list of any bytes, with settings that are right and lists as long as it asks for.
+fn opening(commands: Vec<u8>) -> Case {
+    let opening = Opening {
+        size: 2,
+        workers: 1,
+        room: 1,
+        commands,
+    };
+    opening.steps().to_vec()
+}
+
+/// Opens a list of any bytes and deals turns, which are refused where the opening was.
+fn dealt(commands: Vec<u8>, schedule: &[u8]) -> Case {
+    let mut case = opening(commands);
+    case.push(Step::Advance(schedule.to_vec()));
+    case
 }
 
 fn random_key(random: &mut Random) -> u64 {
@@ -65,38 +136,70 @@ fn every_length(base: &[u8]) -> Vec<Vec<u8>> {
 #[cfg(test)]
 mod tests {
     use super::*;
-    use crate::leaves::Second;
+    use crate::command::dependent;
+    use crate::depot::Second;
+    use crate::host::Host;
 
-    /// How many cases of a leaf there are for each value of the four bits from `shift` on of the
-    /// number that they give: the refusal number, or what stands in its place.
-    fn outcomes(cases: &[Case], leaf: &str, shift: u32) -> [usize; 16] {
-        let mut counts = [0; 16];
-        for case in cases.iter().filter(|case| case.leaf() == leaf) {
-            counts[(case.run(&Second).number >> shift) as usize % 16] += 1;
-        }
-        counts
+    /// The caller after a case, and the first refusal number that it met, 0 for none.
+    fn outcome(case: &Case) -> (Host, usize) {
+        let mut host = Host::default();
+        let answers: Vec<u64> = case.iter().map(|step| host.take(&Second, step)).collect();
+        let refused = answers.into_iter().find(|answer| *answer != 0);
+        (host, refused.unwrap_or(0) as usize % 256)
     }
 
     #[test]
     fn there_are_enough_cases_and_every_outcome_is_met_often() {
-        let cases = leaf_cases(1);
-        let check = |leaf, shift, least, expected: &[usize]| {
-            let counts = outcomes(&cases, leaf, shift);
-            assert!(counts.iter().sum::<usize>() >= least, "{leaf}: {counts:?}");
-            for outcome in expected {
-                assert!(counts[*outcome] >= 100, "{leaf} {outcome}: {counts:?}");
+        let mut counts = [[0; 13]; Sort::ALL.len()];
+        for (sort, case) in cases(1) {
+            counts[sort as usize][outcome(&case).1] += 1;
+        }
+        let check = |sort: Sort, least: usize, expected: &[usize]| {
+            let counts = counts[sort as usize];
+            assert!(counts.iter().sum::<usize>() >= least, "{sort:?} {counts:?}");
+            for (number, count) in counts.into_iter().enumerate() {
+                let enough = if expected.contains(&number) {
+                    count >= 100
+                } else {
+                    count < 10
+                };
+                assert!(enough, "{sort:?} {number}: {counts:?}");
             }
         };
-        check("read_identifier", 56, 20_000, &[0, 8, 9]);
-        check("write_identifier", 0, 20_000, &[0, 6, 12]);
-        check("read_command", 60, 20_000, &[0, 7, 8, 9, 10]);
-        check("read_list", 0, 2_000, &[0, 7, 8, 9, 10]);
-        check("dependent", 0, 2_000, &[0, 1, 2]);
+        check(Sort::Identifiers, 40_000, &[0, 6, 8, 9]);
+        check(Sort::Keys, 20_000, &[0, 6, 12]);
+        check(Sort::Commands, 60_000, &[0, 4, 7, 8, 9, 10]);
+        check(Sort::Lists, 4_000, &[0, 4, 7, 8, 9, 10]);
+        check(Sort::Pairs, 10_000, &[0]);
+    }
+
+    /// After a pair is loaded, record 1 is in the set of record 2 exactly if they are dependent.
+    #[test]
+    fn pairs_show_dependence_and_independence() {
+        let mut counts = [0; 2];
+        for (_, case) in cases(1).iter().filter(|(sort, _)| *sort == Sort::Pairs) {
+            let run = outcome(case).0.run().expect("a right pair is opened");
+            let found = run.records.set[2] == [2, 0, 0];
+            assert_eq!(found, dependent(&run.commands[0], &run.commands[1]));
+            assert!(found || run.records.set[2] == [0; 3]);
+            counts[usize::from(found)] += 1;
+        }
+        assert!(counts.iter().all(|count| *count > 1_000), "{counts:?}");
+    }
+
+    /// A right insert that is opened alone is served, so that its key and chute are seen.
+    #[test]
+    fn a_served_insert_shows_what_was_read() {
+        let insert = b"\x01AA000000014AA\x02\x00".to_vec();
+        let (host, refused) = outcome(&commands::case(insert));
+        let run = host.run().expect("it is opened");
+        assert_eq!((refused, run.answers), (0, vec![1000]));
+        assert_eq!((run.store.keys, run.store.chutes), (vec![676], vec![512]));
     }
 
     #[test]
     fn a_seed_gives_the_same_cases_again_and_another_gives_others() {
-        assert!(leaf_cases(1) == leaf_cases(1));
-        assert!(leaf_cases(1) != leaf_cases(2));
+        assert!(cases(1) == cases(1));
+        assert!(cases(1) != cases(2));
     }
 }

@@ -34,7 +34,7 @@ pub fn read(text: &[u8]) -> Result<u64, Refusal> {
 
 /// Writes the identifier of a key into `out`, or refuses with 6 or 12 and leaves it as it was.
 pub fn write(key: u64, out: &mut [u8]) -> Result<(), Refusal> {
-    let out: &mut [u8; LENGTH] = out.try_into().map_err(|_| Refusal::OutputLength)?;
+    let out: &mut [u8; LENGTH] = out.try_into().map_err(|_| Refusal::Length)?;
     *out = text(key)?;
     Ok(())
 }
@@ -42,7 +42,7 @@ pub fn write(key: u64, out: &mut [u8]) -> Result<(), Refusal> {
 /// The identifier of a key, or refusal 12.
 pub fn text(key: u64) -> Result<[u8; LENGTH], Refusal> {
     if key > LARGEST_KEY {
-        return Err(Refusal::Key);
+        return Err(Refusal::OutOfRange);
     }
     let serial = (key / PAIRS % SERIALS) as u32;
     let mut text = [0; LENGTH];
@@ -163,14 +163,11 @@ mod tests {
     #[test]
     fn a_refused_write_leaves_the_list_as_it_was() {
         let mut short = [7; 12];
-        assert_eq!(write(0, &mut short), Err(Refusal::OutputLength));
-        assert_eq!(
-            write(LARGEST_KEY + 1, &mut short),
-            Err(Refusal::OutputLength)
-        );
+        assert_eq!(write(0, &mut short), Err(Refusal::Length));
+        assert_eq!(write(LARGEST_KEY + 1, &mut short), Err(Refusal::Length));
         assert_eq!(short, [7; 12]);
         let mut right = [7; LENGTH];
-        assert_eq!(write(LARGEST_KEY + 1, &mut right), Err(Refusal::Key));
+        assert_eq!(write(LARGEST_KEY + 1, &mut right), Err(Refusal::OutOfRange));
         assert_eq!(right, [7; LENGTH]);
     }
 

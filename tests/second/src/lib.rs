@@ -1,17 +1,32 @@
 //! The second program. It says again, from the documents alone and in plain Rust, what the proved
 //! code must do, and is run beside it on the same inputs.
 //!
-//! `identifier`, `command` and `serial` are that second writing. `leaves` names the functions of
-//! the proved code that are compared and packs their outcomes into numbers, `case` is one
-//! comparison, and `generate` makes the cases from a seed.
+//! - The second writing: `identifier`, `command` and `serial` are what a command means, `store` and
+//!   `run` the records and turns, `bytes` and `calls` the public calls on byte lists, `program` the
+//!   program, and `refusal` the numbers of refusal.
+//! - The comparison: `depot` names the calls that are compared, `script` is the steps of one input,
+//!   `host` a caller that takes them, `play` two callers side by side, and `generate` makes the
+//!   inputs from a seed (`random`); `hex` shows them. The program `compare_depot` runs it.
+//! - The tools: `text` turns the program's input into text and back for `depot_text`, and `draw`
+//!   makes a picture of a run for `depot_draw`.
 
 #![forbid(unsafe_code)]
 
-pub mod case;
+pub mod bytes;
+pub mod calls;
 pub mod command;
+pub mod depot;
+pub mod draw;
 pub mod generate;
+pub mod hex;
+pub mod host;
 pub mod identifier;
-pub mod leaves;
+pub mod play;
+pub mod program;
 pub mod random;
 pub mod refusal;
+pub mod run;
+pub mod script;
 pub mod serial;
+pub mod store;
+pub mod text;

@@ -1,10 +1,20 @@
-//! The numbers of refusal that the identifier and command readers give.
+//! The numbers of refusal.
 
 /// Why a call was refused; the value of each is its number in document 01.
 #[derive(Clone, Copy, Debug, PartialEq, Eq)]
 pub enum Refusal {
-    /// A lent output list has the wrong length.
-    OutputLength = 6,
+    /// The graph size is not 1 to 150.
+    Size = 1,
+    /// The workers are not 1 to 64.
+    Workers = 2,
+    /// The store room is not 1 to 4,096.
+    Room = 3,
+    /// The length of the command list is no multiple of 16.
+    ListLength = 4,
+    /// There are over 4,096 commands.
+    TooManyCommands = 5,
+    /// A lent or handed-back list, or the state, has the wrong length.
+    Length = 6,
     /// The kind is not 1 to 4.
     Kind = 7,
     /// The length, a letter or a digit of an identifier is wrong.
@@ -13,8 +23,10 @@ pub enum Refusal {
     CheckDigit = 9,
     /// The chute is wrong for the kind.
     Chute = 10,
-    /// The key is above the largest.
-    Key = 12,
+    /// A turn is dealt to a party above the worker count.
+    Party = 11,
+    /// The key is above the largest, or a handed-back state is out of range.
+    OutOfRange = 12,
 }
 
 impl Refusal {

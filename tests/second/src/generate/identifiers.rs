@@ -1,9 +1,12 @@
-//! Cases for reading and writing identifiers.
+//! Texts that are read and keys that are written.
 
-use super::{LONGEST, every_byte_everywhere, every_length, random_key, repeat, text, with_byte};
-use crate::case::Case;
+use super::{
+    Case, LONGEST, every_byte_everywhere, every_length, random_key, repeat, text, with_byte,
+};
+use crate::bytes::KEY;
 use crate::identifier::{CHECK_DIGIT, LARGEST_KEY, LENGTH};
 use crate::random::Random;
+use crate::script::Step;
 
 /// Texts of document 01, right and wrong, and one with the serial of a published example.
 const NAMED: [&[u8; LENGTH]; 6] = [
@@ -37,8 +40,12 @@ const KEYS: [u64; 16] = [
 
 pub fn read_cases(random: &mut Random) -> Vec<Case> {
     let bases = bases(random);
+    let named = [NAMED.map(|text| text.to_vec()).to_vec(), bases.clone()].concat();
+    let other_lengths: Vec<Case> = named
+        .iter()
+        .flat_map(|text| (0..=LONGEST).map(|length| read(text.clone(), length)))
+        .collect();
     let texts = [
-        NAMED.map(|text| text.to_vec()).to_vec(),
         repeat(5_000, random, random_text),
         bases
             .iter()
@@ -49,24 +56,30 @@ pub fn read_cases(random: &mut Random) -> Vec<Case> {
         repeat(4_000, random, twice_damaged),
         repeat(1_000, random, |random| random.bytes(LENGTH)),
     ];
-    texts
-        .concat()
-        .into_iter()
-        .map(Case::ReadIdentifier)
-        .collect()
+    let texts = texts.concat().into_iter();
+    [other_lengths, texts.map(|text| read(text, KEY)).collect()].concat()
 }
 
 pub fn write_cases(random: &mut Random) -> Vec<Case> {
-    let cases = [
-        repeat(20_000, random, |random| {
-            Case::WriteIdentifier(random_key(random), random.bytes(LENGTH))
-        }),
-        repeat(1_000, random, |random| {
-            Case::WriteIdentifier(random.number(), random.bytes(LENGTH))
-        }),
-        KEYS.map(|key| writes_of_every_length(random, key)).concat(),
+    let keys = [
+        repeat(20_000, random, random_key),
+        repeat(1_000, random, Random::number),
     ];
-    cases.concat()
+    let keys = keys.concat().into_iter().map(|key| write(key, LENGTH));
+    let ends = KEYS
+        .into_iter()
+        .flat_map(|key| (0..=LONGEST).map(move |length| write(key, length)));
+    keys.chain(ends).collect()
+}
+
+/// Reads a text into a list of this length.
+fn read(text: Vec<u8>, length: usize) -> Case {
+    vec![Step::ReadIdentifier(text, length)]
+}
+
+/// Writes a key into a list of this length.
+fn write(key: u64, length: usize) -> Case {
+    vec![Step::WriteIdentifier(key, length)]
 }
 
 /// Right texts to be damaged, the first and the last among them.
@@ -99,10 +112,4 @@ fn twice_damaged(random: &mut Random) -> Vec<u8> {
 fn damaged(random: &mut Random, base: &[u8]) -> Vec<u8> {
     let position = random.below(LENGTH as u64) as usize;
     with_byte(base, position, random.pick(b"/0459:@AMZ[`az{"))
-}
-
-fn writes_of_every_length(random: &mut Random, key: u64) -> Vec<Case> {
-    (0..=LONGEST)
-        .map(|length| Case::WriteIdentifier(key, random.bytes(length)))
-        .collect()
 }

@@ -1,8 +1,7 @@
-//! Cases for the dependence of two commands.
+//! Pairs of right commands, dependent and independent.
 
-use super::commands::{perhaps_wrong, random_command, with_key};
-use super::{every_length, random_key, repeat};
-use crate::case::Case;
+use super::commands::with_key;
+use super::{Case, dealt, random_key, repeat};
 use crate::command::Kind;
 use crate::identifier::LARGEST_KEY;
 use crate::random::Random;
@@ -10,23 +9,16 @@ use crate::random::Random;
 /// Bits that a key may have.
 const KEY_BITS: u32 = 46;
 
-type Pair = (Vec<u8>, Vec<u8>);
+/// The loader's turns that take and link a record, step on it with another and link that.
+const LOADING: [u8; 5] = [0; 5];
 
 pub fn cases(random: &mut Random) -> Vec<Case> {
-    let pairs = [
-        repeat(20, random, every_kind_pair).concat(),
-        repeat(2_000, random, pair_with_faults),
-        repeat(10, random, pairs_of_every_length).concat(),
-    ];
-    pairs
-        .concat()
-        .into_iter()
-        .map(|(first, second)| Case::Dependent(first, second))
-        .collect()
+    let pairs = repeat(20, random, every_kind_pair).concat().into_iter();
+    pairs.map(|pair| dealt(pair, &LOADING)).collect()
 }
 
 /// All pairs of kinds, each with one key twice and with two keys.
-fn every_kind_pair(random: &mut Random) -> Vec<Pair> {
+fn every_kind_pair(random: &mut Random) -> Vec<Vec<u8>> {
     kind_pairs()
         .into_iter()
         .flat_map(|kinds| every_key_pair(random, kinds))
@@ -40,15 +32,16 @@ fn kind_pairs() -> Vec<(Kind, Kind)> {
         .collect()
 }
 
-fn every_key_pair(random: &mut Random, kinds: (Kind, Kind)) -> Vec<Pair> {
+fn every_key_pair(random: &mut Random, kinds: (Kind, Kind)) -> Vec<Vec<u8>> {
     let key = random_key(random);
     other_keys(random, key)
         .into_iter()
         .map(|other| {
-            (
+            [
                 with_key(random, kinds.0, key),
                 with_key(random, kinds.1, other),
-            )
+            ]
+            .concat()
         })
         .collect()
 }
@@ -59,17 +52,4 @@ fn other_keys(random: &mut Random, key: u64) -> Vec<u64> {
     keys.extend((0..KEY_BITS).map(|bit| key ^ (1 << bit)));
     keys.retain(|key| *key <= LARGEST_KEY);
     keys
-}
-
-fn pair_with_faults(random: &mut Random) -> Pair {
-    (perhaps_wrong(random), perhaps_wrong(random))
-}
-
-/// A right command with one of each length, before it and after it.
-fn pairs_of_every_length(random: &mut Random) -> Vec<Pair> {
-    let right = random_command(random);
-    every_length(&random_command(random))
-        .into_iter()
-        .flat_map(|other| [(right.clone(), other.clone()), (other, right.clone())])
-        .collect()
 }

@@ -8,8 +8,7 @@ use mathlib.Core.List.{List}
 use lib.ListN.{length}
 use borrow.Author.Tests.{not-true, not-false}
 use Rattle.model.specs.Statement.{allWithin}
-use Rattle.controller.specs.Layout.{Lists, lists, stateLength, setupIn, stateFits}
-use Rattle.controller.specs.Calls.{handedBackFit}
+use Rattle.state_bytes.specs.Layout.{Lists, lists, stateLength, setupIn, stateFits, handedBackFit}
 use Rattle.controller.specs.Performed.{Passes}
 use Rattle.controller.proofs.Handed.{passed-long, workers-in}
 use Rattle.controller.proofs.Advancing.{refuses-lengths, refuses-state, refuses-thread, accepts, refused-so, accepted-so}

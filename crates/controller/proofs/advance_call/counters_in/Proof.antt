@@ -1,7 +1,7 @@
 -- `advance_call::counters_in` meets its contract: each counter is read where it stands. Assumes nothing.
 use native.Mathlib.Omega.{arith}
 use mathlib.Core.Path.{sym}
-use Rattle.controller.specs.Layout.{stateLength}
+use Rattle.state_bytes.specs.Layout.{stateLength}
 use Rattle.controller.proofs.Handed.{number-one}
 use borrow.Author.Needs.{needs}
 use Rattle.controller.proofs.advance_call.counters_in.Statement.{statement}

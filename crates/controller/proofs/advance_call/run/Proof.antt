@@ -6,8 +6,8 @@ use mathlib.Core.Bool.{Bool}
 use mathlib.Core.List.{List}
 use lib.ListN.{length}
 use Rattle.model.specs.Step.{State, steps}
-use Rattle.graph.specs.declared.Counters.{Counters}
-use Rattle.controller.specs.Layout.{Lists, lists, listsOf, setupIn, stateLength}
+use Rattle.model.specs.declared.Counters.{Counters}
+use Rattle.state_bytes.specs.Layout.{Lists, lists, listsOf, setupIn, stateLength}
 use Rattle.controller.proofs.Handed.{Fit, ReadOut, tests-fit, fit-count, fit-named, fit-capacity, fit-commands, read-shows, read-placed, read-ready, read-within, passed-long, zeros}
 use borrow.Author.Needs.{needs}
 use Rattle.controller.proofs.advance_call.run.Statement.{statement}

@@ -1,7 +1,7 @@
 -- `advance_call::settings_in` meets its contract: each setting is read where it stands. Assumes nothing.
 use native.Mathlib.Omega.{arith}
 use mathlib.Core.Path.{sym, _∙_}
-use Rattle.controller.specs.Layout.{stateLength, setupIn, countIn}
+use Rattle.state_bytes.specs.Layout.{stateLength, setupIn, countIn}
 use Rattle.controller.proofs.Handed.{number-one}
 use Rattle.controller.proofs.advance_call.settings_in.Statement.{statement}
 use Rattle.controller.proofs.advance_call.settings_in.Tie as tie

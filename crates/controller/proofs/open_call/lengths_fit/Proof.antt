@@ -1,7 +1,6 @@
 -- `controller::open_call::lengths_fit` meets its contract: each test is the definition's. Assumes nothing.
 use borrow.Author.Tests.{eq-eqb, ne-eqb}
-use Rattle.controller.specs.Layout.{stateLength}
-use Rattle.controller.specs.Calls.{lengthsFit}
+use Rattle.state_bytes.specs.Layout.{stateLength, lengthsFit}
 use Rattle.controller.proofs.open_call.lengths_fit.Statement.{statement}
 use Rattle.controller.proofs.open_call.lengths_fit.Tie as tie
 

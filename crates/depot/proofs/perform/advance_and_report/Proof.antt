@@ -2,7 +2,7 @@
 use mathlib.Core.Path.{refl, sym, _∙_}
 use mathlib.Core.List.{[]}
 use borrow.Author.Needs.{needs}
-use Rattle.controller.specs.Layout.{lists}
+use Rattle.state_bytes.specs.Layout.{lists}
 use Rattle.controller.specs.Calls.{advanceOn}
 use Rattle.depot.specs.Program.{report, advanced}
 use Rattle.depot.proofs.Chain.{report-by-bytes}

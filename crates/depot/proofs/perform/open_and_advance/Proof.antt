@@ -1,7 +1,7 @@
 -- `depot::perform::open_and_advance` meets its contract: a number that is not 0 is printed, and else what the opened lists give. Assumes nothing.
 use mathlib.Core.Path.{sym, _∙_}
 use borrow.Author.Needs.{needs}
-use Rattle.controller.specs.Layout.{lists}
+use Rattle.state_bytes.specs.Layout.{lists}
 use Rattle.controller.specs.Calls.{openOn}
 use Rattle.depot.specs.Program.{advanced}
 use Rattle.depot.proofs.Outcome.{printed-refused, printed-accepted, open-numbered}

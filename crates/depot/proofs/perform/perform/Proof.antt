@@ -4,7 +4,7 @@ use mathlib.Core.Path.{sym, _∙_}
 use borrow.Author.Needs.{needs}
 use lib.ListN.{length, take}
 use lib.Seq.{length-take-le}
-use Rattle.controller.specs.Layout.{lists}
+use Rattle.state_bytes.specs.Layout.{lists}
 use Rattle.depot.proofs.Outcome.{lent-as-zeros}
 use Rattle.depot.proofs.perform.perform.Statement.{statement}
 use Rattle.depot.proofs.perform.perform.Tie as tie

@@ -3,7 +3,7 @@ use Prim.Native.Nat.{_+_}
 use native.Mathlib.Omega.{arith}
 use borrow.Author.Tests.{lt-ltb, le-ltb}
 use borrow.Author.Needs.{needs}
-use Rattle.controller.specs.Layout.{stateIn}
+use Rattle.state_bytes.specs.Layout.{stateIn}
 use Rattle.depot.proofs.report.next_of.Statement.{statement}
 use Rattle.depot.proofs.report.next_of.Tie as tie
 

@@ -5,7 +5,7 @@ use native.Mathlib.Omega.{arith}
 use mathlib.Core.Path.{_≡_, refl}
 use mathlib.Core.List.{List}
 use lib.ListN.{length-take, length-drop, length, take, drop, getD}
-use Rattle.controller.specs.Bytes.{fields}
+use Rattle.state_bytes.specs.Bytes.{fields}
 use Rattle.depot.specs.Program.{commandLine, commandLines}
 use Rattle.depot.specs.Wrote.{Wrote}
 use Rattle.depot.proofs.Wrote.{wrote-then}

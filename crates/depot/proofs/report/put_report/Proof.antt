@@ -2,7 +2,7 @@ use native.Mathlib.Omega.{arith}
 use mathlib.Core.Path.{refl}
 use mathlib.Core.List.{[]}
 use borrow.Author.Needs.{needs}
-use Rattle.controller.specs.Layout.{lists}
+use Rattle.state_bytes.specs.Layout.{lists}
 use Rattle.depot.specs.Program.{report}
 use Rattle.depot.proofs.Chain.{totals-by-bytes}
 use Rattle.depot.proofs.Wrote.{wrote-then}

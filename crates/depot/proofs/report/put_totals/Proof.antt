@@ -3,7 +3,7 @@ use Prim.Native.Nat.{_≤_}
 use native.Mathlib.Omega.{arith}
 use borrow.Author.Needs.{needs}
 use lib.ListN.{length}
-use Rattle.controller.specs.Layout.{stateIn}
+use Rattle.state_bytes.specs.Layout.{stateIn}
 use Rattle.depot.specs.Program.{decimal, totals}
 use Rattle.depot.proofs.Decimal.{decimal-length}
 use Rattle.depot.proofs.Wrote.{wrote-then}

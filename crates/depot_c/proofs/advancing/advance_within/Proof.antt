@@ -3,7 +3,7 @@ use native.Mathlib.Omega.{arith}
 use borrow.Author.Needs.{needs}
 use mathlib.Core.Path.{sym, _∙_}
 use lib.ListN.{length}
-use Rattle.controller.specs.Layout.{Lists}
+use Rattle.state_bytes.specs.Layout.{Lists}
 use Rattle.controller.specs.Calls.{Outcome, advanceOn}
 use Rattle.depot_c.proofs.Outcomes.{advance-place, entries-read-back, answer-on, written-on, refused-on}
 use Rattle.depot_c.proofs.advancing.advance_within.Statement.{statement}

@@ -1,13 +1,14 @@
 -- `depot_c::advancing::depot_advance` meets its contract: lists that end within a number or are too long are refused, others are lent rooms. Assumes nothing.
 use Prim.Native.Nat.{ℕ, _*_, _/_, _≤_}
-use mathlib.Core.Path.{sym, ap, _∙_}
+use mathlib.Core.Path.{_≡_, sym, ap, _∙_}
+use mathlib.Core.Bool.{cond}
 use lib.ListN.{length}
 use lib.Seq.{length-take-le}
 use borrow.Author.Tests.{not-true, not-false}
-use Rattle.controller.specs.Layout.{lists}
+use Rattle.state_bytes.specs.Layout.{lists, handedBackFit}
 use Rattle.controller.specs.Calls.{numberOf, placeOf}
 use Rattle.depot_c.specs.Boundary.{answerOf, left}
-use Rattle.depot_c.proofs.Outcomes.{nothing-advanced, long-answered, decoded-none, decoded-whole, whole-lengths, room-bounds}
+use Rattle.depot_c.proofs.Outcomes.{nothing-advanced, of-entries, long-answered, decoded-none, decoded-whole, whole-lengths, room-bounds}
 use borrow.Author.Needs.{needs}
 use Rattle.depot_c.proofs.advancing.depot_advance.Statement.{statement}
 use Rattle.depot_c.proofs.advancing.depot_advance.Tie as tie
@@ -38,9 +39,10 @@ returns-2 c =
     let args = c .before .before .before .before .before .before .before .before .before .before .before .before .args in
     let b = lists (args .state .now) (args .keys .now) (args .chutes .now) (args .answers .now) in
     let whole = decoded-whole b (sym (c .before .before .before .before .before .are-whole .ensures) ∙ not-false _ (c .before .before .before .before .if1 .left)) in
-    let long = long-answered (args .state .now) (args .keys .now) (args .chutes .now) (args .answers .now) (args .commands .now) (args .schedule .now)
-    (sym (c .before .before .before .have-room .ensures) ∙ not-true _ (c .before .before .if2 .taken)) in
-    (rw whole (c .long-answer .ensures ∙ long .0), rw whole (long .1))
+    let long = long-answered b (args .commands .now) (args .schedule .now) (sym (c .before .before .before .have-room .ensures) ∙ not-true _ (c .before .before .if2 .taken)) in
+    let answer = of-entries (args .state .now) (args .keys .now) (args .chutes .now) (args .answers .now) (args .commands .now)
+    {P = λ l list. c .long-answer .result ≡ cond (handedBackFit l list) 12 6} (c .long-answer .ensures) in
+    (rw whole (answer ∙ long .0), rw whole (long .1))
 
 -- each list fits its room
 bounds : (c : tie.After-advance-within-arg4) →

@@ -8,10 +8,10 @@ use Prim.Native.Nat.{ℕ}
 use Rattle.s10.specs.declared.Reading.{Reading}
 use Rattle.s10.specs.declared.Reading.the-variants.{Key, Malformed, WrongCheckDigit}
 use Rattle.s10.specs.Outcome.{outcome}
-use Rattle.controller.specs.Bytes.{bytesOf}
-use Rattle.controller.proofs.Bytes.{bytes-length}
+use Rattle.state_bytes.specs.Bytes.{bytesOf}
+use Rattle.state_bytes.proofs.Bytes.{bytes-length}
 use Rattle.depot_c.specs.Boundary.{numberRead, keyRead, bytesRead, readAnswer, readLeft}
-use Rattle.depot_c.proofs.Paste.{pasted-whole}
+use Rattle.state_bytes.proofs.Paste.{pasted-whole}
 use Rattle.depot_c.proofs.identifiers.depot_read_identifier.Statement.{statement}
 use Rattle.depot_c.proofs.identifiers.depot_read_identifier.Tie as tie
 

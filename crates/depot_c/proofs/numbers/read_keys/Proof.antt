@@ -3,8 +3,8 @@ use Prim.Native.Nat.{ℕ, _*_, _-_}
 use native.Mathlib.Omega.{arith}
 use mathlib.Core.Path.{refl}
 use lib.ListN.{length}
-use Rattle.controller.specs.Bytes.{numberAt}
-use Rattle.depot_c.proofs.Fill.{Filled, filled-none, filled-more}
+use Rattle.state_bytes.specs.Bytes.{numberAt}
+use Rattle.state_bytes.proofs.Fill.{Filled, filled-none, filled-more}
 use Rattle.depot_c.proofs.Entries.{filled-numbers}
 use Rattle.depot_c.proofs.numbers.read_keys.Statement.{statement}
 use Rattle.depot_c.proofs.numbers.read_keys.Tie as tie
@@ -18,11 +18,11 @@ abbrev μ-loop : tie.MeasureT-loop
 loop-holds : tie.Need-loop-holds Inv-loop μ-loop
 loop-holds c = filled-none refl
 
-mul-number-at : tie.Need-mul-number-at Inv-loop μ-loop
-mul-number-at c = omega arith
+mul-word-at : tie.Need-mul-word-at Inv-loop μ-loop
+mul-word-at c = omega arith
 
-number-at-requires : tie.Need-number-at-requires Inv-loop μ-loop
-number-at-requires c κs = omega arith
+word-at-requires : tie.Need-word-at-requires Inv-loop μ-loop
+word-at-requires c κs = omega arith
 
 mul-out : tie.Need-mul-out Inv-loop μ-loop
 mul-out c = omega arith
@@ -37,7 +37,7 @@ loop-less : tie.Need-loop-less Inv-loop μ-loop
 loop-less c = omega arith
 
 loop-again : tie.Need-loop-again Inv-loop μ-loop
-loop-again c = filled-more _ (c .before .before .loop .inv) (omega arith) (c .number-at .ensures .0)
+loop-again c = filled-more _ (c .before .before .loop .inv) (omega arith) (c .word-at .ensures)
 
 same-length : tie.Need-same-length Inv-loop μ-loop
 same-length c = c .before .loop .inv .long
@@ -52,8 +52,8 @@ read-keys-spec =
     Inv-loop
     μ-loop
     loop-holds
-    mul-number-at
-    number-at-requires
+    mul-word-at
+    word-at-requires
     mul-out
     slice-write-out
     add-i

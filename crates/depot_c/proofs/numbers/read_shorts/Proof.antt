@@ -3,8 +3,8 @@ use Prim.Native.Nat.{ℕ, _*_, _-_}
 use native.Mathlib.Omega.{arith}
 use mathlib.Core.Path.{refl}
 use lib.ListN.{length}
-use Rattle.controller.specs.Bytes.{numberAt}
-use Rattle.depot_c.proofs.Fill.{Filled, filled-none, filled-more}
+use Rattle.state_bytes.specs.Bytes.{numberAt}
+use Rattle.state_bytes.proofs.Fill.{Filled, filled-none, filled-more}
 use Rattle.depot_c.proofs.Entries.{filled-numbers}
 use Rattle.depot_c.proofs.numbers.read_shorts.Statement.{statement}
 use Rattle.depot_c.proofs.numbers.read_shorts.Tie as tie
@@ -24,9 +24,6 @@ mul-number-at c = omega arith
 number-at-requires : tie.Need-number-at-requires Inv-loop μ-loop
 number-at-requires c κs = omega arith
 
-cast-out : tie.Need-cast-out Inv-loop μ-loop
-cast-out c = omega (arith, c .number-at .ensures .1)
-
 mul-out : tie.Need-mul-out Inv-loop μ-loop
 mul-out c = omega arith
 
@@ -40,7 +37,7 @@ loop-less : tie.Need-loop-less Inv-loop μ-loop
 loop-less c = omega arith
 
 loop-again : tie.Need-loop-again Inv-loop μ-loop
-loop-again c = filled-more _ (c .before .before .loop .inv) (omega arith) (c .number-at .ensures .0)
+loop-again c = filled-more _ (c .before .before .loop .inv) (omega arith) (c .number-at .ensures)
 
 same-length : tie.Need-same-length Inv-loop μ-loop
 same-length c = c .before .loop .inv .long
@@ -57,7 +54,6 @@ read-shorts-spec =
     loop-holds
     mul-number-at
     number-at-requires
-    cast-out
     mul-out
     slice-write-out
     add-i

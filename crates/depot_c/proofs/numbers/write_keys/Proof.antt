@@ -2,10 +2,10 @@
 use Prim.Native.Nat.{ℕ, _*_, _-_}
 use native.Mathlib.Omega.{arith}
 use lib.ListN.{length, getD}
-use Rattle.controller.specs.Bytes.{bytesOf}
-use Rattle.controller.proofs.Bytes.{bytes-length}
+use Rattle.state_bytes.specs.Bytes.{bytesOf}
+use Rattle.state_bytes.proofs.Bytes.{bytes-length}
 use Rattle.depot_c.proofs.Entries.{put-numbers}
-use Rattle.depot_c.proofs.Paste.{PutFields, fields-none, fields-put, fields-put-length}
+use Rattle.state_bytes.proofs.Paste.{PutFields, fields-none, fields-put, fields-put-length}
 use Rattle.depot_c.proofs.numbers.write_keys.Statement.{statement}
 use Rattle.depot_c.proofs.numbers.write_keys.Tie as tie
 

@@ -4,7 +4,7 @@ use mathlib.Core.Path.{sym, ap, _∙_}
 use lib.ListN.{length}
 use lib.Seq.{length-take-le}
 use borrow.Author.Tests.{not-true, not-false}
-use Rattle.controller.specs.Layout.{lists}
+use Rattle.state_bytes.specs.Layout.{lists}
 use Rattle.depot_c.proofs.Outcomes.{long-opened, nothing-opened, decoded-none, decoded-whole, whole-lengths, room-bounds}
 use borrow.Author.Needs.{needs}
 use Rattle.depot_c.proofs.opening.depot_open.Statement.{statement}

@@ -3,7 +3,7 @@ use native.Mathlib.Omega.{arith}
 use borrow.Author.Needs.{needs}
 use mathlib.Core.Path.{_∙_}
 use lib.ListN.{length}
-use Rattle.controller.specs.Layout.{Lists}
+use Rattle.state_bytes.specs.Layout.{Lists}
 use Rattle.controller.specs.Calls.{Outcome, openOn}
 use Rattle.depot_c.proofs.Outcomes.{opening-place-below, entries-read-back, answer-on, written-on, refused-on}
 use Rattle.depot_c.proofs.opening.open_within.Statement.{statement}

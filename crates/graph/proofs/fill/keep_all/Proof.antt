@@ -7,7 +7,7 @@ use mathlib.Core.Logic.{⊎-elim}
 use lib.ListN.{length}
 use borrow.Author.Needs.{needs}
 use Rattle.graph.specs.Arrays.{numbers}
-use Rattle.graph.specs.Items.{commandsIn}
+use Rattle.command.specs.Read.{commandsIn}
 use Rattle.graph.proofs.Commands.{command-is}
 use Rattle.graph.proofs.Filled.{KeptBelow, none-kept, kept-without, kept-with, all-kept}
 use Rattle.graph.proofs.fill.keep_all.Statement.{statement}

@@ -12,9 +12,8 @@ use lib.ListN.{take, drop}
 use Rattle.command.specs.declared.Kind.the-variants.{Read}
 use Rattle.command.specs.declared.Reading.{Reading}
 use Rattle.command.specs.declared.Reading.the-variants.{Read as Accepted, UnknownKind, Malformed, WrongCheckDigit, WrongChute}
-use Rattle.command.specs.Read.{outcome, readCommand}
+use Rattle.command.specs.Read.{outcome, readCommand, commandFrom}
 use Rattle.command.proofs.Reading.{the-type}
-use Rattle.graph.specs.Items.{commandFrom}
 use Rattle.graph.proofs.items.command_at.Statement.{statement}
 use Rattle.graph.proofs.items.command_at.Tie as tie
 

@@ -1,0 +1,135 @@
+//! The lists that a caller keeps of a run on one side, and the comparison of two sides.
+
+use std::hint::black_box;
+
+use second::bytes;
+use second::calls::LentLists;
+use second::depot::Depot;
+
+use crate::input::Input;
+
+#[derive(Clone, PartialEq, Eq)]
+pub struct Lists {
+    pub state: Vec<u8>,
+    pub keys: Vec<u8>,
+    pub chutes: Vec<u8>,
+    pub answers: Vec<u8>,
+}
+
+impl Lists {
+    /// Lists for an input's run, opened by one side.
+    pub fn opened(depot: &impl Depot, input: &Input) -> Result<Lists, String> {
+        let room = usize::from(input.settings.room);
+        let mut lists = Lists {
+            state: vec![0; bytes::STATE],
+            keys: vec![0; room * bytes::KEY],
+            chutes: vec![0; room * bytes::NUMBER],
+            answers: vec![0; input.count() * bytes::NUMBER],
+        };
+        accepted("open", lists.open(depot, input))?;
+        Ok(lists)
+    }
+
+    pub fn open(&mut self, depot: &impl Depot, input: &Input) -> u64 {
+        let settings = input.settings;
+        depot.open(
+            &mut self.lend(),
+            black_box(&input.commands),
+            [
+                settings.size.into(),
+                settings.workers.into(),
+                settings.room.into(),
+            ],
+        )
+    }
+
+    pub fn advance(&mut self, depot: &impl Depot, input: &Input, schedule: &[u8]) -> u64 {
+        depot.advance(
+            &mut self.lend(),
+            black_box(&input.commands),
+            black_box(schedule),
+        )
+    }
+
+    /// Sets every byte.
+    pub fn fill(&mut self, byte: u8) {
+        let lent = self.lend();
+        for list in [lent.state, lent.keys, lent.chutes, lent.answers] {
+            list.fill(byte);
+        }
+    }
+
+    fn lend(&mut self) -> LentLists<'_> {
+        LentLists {
+            state: &mut self.state,
+            keys: &mut self.keys,
+            chutes: &mut self.chutes,
+            answers: &mut self.answers,
+        }
+    }
+}
+
+/// An error unless a call's answer is 0.
+pub fn accepted(call: &str, answer: u64) -> Result<(), String> {
+    match answer {
+        0 => Ok(()),
+        refused => Err(format!("{call}: refused, answer {refused}")),
+    }
+}
+
+/// An error that names the first list in which the two sides differ, and where.
+pub fn same(proved: &Lists, plain: &Lists) -> Result<(), String> {
+    let pairs = [
+        ("state", &proved.state, &plain.state),
+        ("keys", &proved.keys, &plain.keys),
+        ("chutes", &proved.chutes, &plain.chutes),
+        ("answers", &proved.answers, &plain.answers),
+    ];
+    for (name, proved, plain) in pairs {
+        if proved != plain {
+            let at = proved.iter().zip(plain).position(|(a, b)| a != b);
+            return Err(format!("{name}: the two sides differ, first at {at:?}"));
+        }
+    }
+    Ok(())
+}
+
+#[cfg(test)]
+mod tests {
+    use super::*;
+
+    fn lists() -> Lists {
+        Lists {
+            state: vec![1; 4],
+            keys: vec![2; 8],
+            chutes: vec![3; 2],
+            answers: vec![4; 2],
+        }
+    }
+
+    #[test]
+    fn equal_lists_are_the_same() {
+        assert_eq!(same(&lists(), &lists()), Ok(()));
+    }
+
+    #[test]
+    fn a_difference_in_each_list_is_found() {
+        let changes: [fn(&mut Lists); 4] = [
+            |it| it.state[3] = 0,
+            |it| it.keys[7] = 0,
+            |it| it.chutes[1] = 0,
+            |it| it.answers[1] = 0,
+        ];
+        for change in changes {
+            let mut other = lists();
+            change(&mut other);
+            assert!(same(&lists(), &other).is_err());
+            assert!(same(&other, &lists()).is_err());
+        }
+    }
+
+    #[test]
+    fn a_refusal_is_an_error() {
+        assert!(accepted("open", 6).is_err());
+    }
+}

@@ -1,0 +1,167 @@
+//! Times of one piece of work on both sides, by turns, and their medians.
+
+use std::hint::black_box;
+use std::time::Duration;
+
+use second::bytes;
+use second::depot::Second;
+use second::run::Run;
+
+use crate::archive::Archive;
+use crate::clock::timed;
+use crate::input::Input;
+use crate::lists::{Lists, accepted, same};
+
+/// Turns dealt in one call.
+pub const DEALING: usize = 100_000;
+/// Calls that are timed together where one is short.
+const BATCH: u32 = 100;
+/// A schedule is repeated, from a fresh opening each time, until it has this many turns.
+const LEAST_TURNS: usize = 1_000_000;
+
+/// Median times of a piece of work.
+#[derive(Clone, Copy)]
+pub struct Times {
+    pub proved: Duration,
+    pub plain: Duration,
+}
+
+impl Times {
+    pub fn ratio(self) -> f64 {
+        self.proved.as_secs_f64() / self.plain.as_secs_f64()
+    }
+}
+
+/// Times of a whole schedule.
+pub struct StepTimes {
+    /// Calls on byte lists on both sides.
+    pub calls: Times,
+    /// The proved calls, and the plain turns alone on a run that is kept as arrays.
+    pub turns: Times,
+}
+
+pub struct Bench {
+    pub proved: Archive,
+    pub runs: usize,
+    /// Turns after which a list that is not done is left as it stands.
+    pub most_turns: usize,
+}
+
+impl Bench {
+    /// The whole schedule in dealings, each given to one side after the other.
+    pub fn steps(&self, input: &Input) -> Result<StepTimes, String> {
+        let repeats = LEAST_TURNS.div_ceil(input.schedule.len());
+        let mut times = [const { Vec::new() }; 3];
+        for _ in 0..self.runs {
+            let mut sums = [Duration::ZERO; 3];
+            for _ in 0..repeats {
+                self.steps_once(input, &mut sums)?;
+            }
+            for (times, sum) in times.iter_mut().zip(sums) {
+                times.push(sum / repeats as u32);
+            }
+        }
+        let [proved, plain, turns] = times.map(median);
+        Ok(StepTimes {
+            calls: Times { proved, plain },
+            turns: Times {
+                proved,
+                plain: turns,
+            },
+        })
+    }
+
+    /// Adds the times of the proved calls, the plain calls and the plain turns.
+    fn steps_once(&self, input: &Input, times: &mut [Duration; 3]) -> Result<(), String> {
+        let mut proved = Lists::opened(&self.proved, input)?;
+        let mut plain = Lists::opened(&Second, input)?;
+        let mut run = input.opened();
+        for dealing in input.schedule.chunks(DEALING) {
+            let (time, answer) = timed(|| proved.advance(&self.proved, input, dealing));
+            accepted("advance, proved", answer)?;
+            times[0] += time;
+            let (time, answer) = timed(|| plain.advance(&Second, input, dealing));
+            accepted("advance, plain", answer)?;
+            times[1] += time;
+            let (time, ()) = timed(|| plain_turns(&mut run, black_box(dealing)));
+            times[2] += time;
+        }
+        same(&proved, &plain)?;
+        let mut state = vec![0; bytes::STATE];
+        bytes::write_state(&run, &mut state);
+        if state != plain.state {
+            return Err("the plain run kept as arrays differs".to_string());
+        }
+        Ok(())
+    }
+
+    /// One opening; the first finds lists in which no byte is 0.
+    pub fn open(&self, input: &Input) -> Result<Times, String> {
+        let mut lists = Lists::opened(&Second, input)?;
+        lists.fill(1);
+        self.call(input, &lists, Lists::open, Lists::open)
+    }
+
+    /// One call with an empty schedule, after half of the input's turns.
+    pub fn empty(&self, input: &Input) -> Result<Times, String> {
+        let mut lists = Lists::opened(&Second, input)?;
+        let half = &input.schedule[..input.schedule.len() / 2];
+        accepted("advance", lists.advance(&Second, input, half))?;
+        self.call(
+            input,
+            &lists,
+            |lists, depot, input| lists.advance(depot, input, &[]),
+            |lists, depot, input| lists.advance(depot, input, &[]),
+        )
+    }
+
+    /// A call that is short, on copies of the same lists.
+    fn call(
+        &self,
+        input: &Input,
+        lists: &Lists,
+        prove: impl Fn(&mut Lists, &Archive, &Input) -> u64,
+        plainly: impl Fn(&mut Lists, &Second, &Input) -> u64,
+    ) -> Result<Times, String> {
+        let (mut proved, mut plain) = (lists.clone(), lists.clone());
+        let (mut proved_times, mut plain_times) = (Vec::new(), Vec::new());
+        for _ in 0..self.runs {
+            proved_times.push(batch(|| prove(&mut proved, &self.proved, input))?);
+            plain_times.push(batch(|| plainly(&mut plain, &Second, input))?);
+            same(&proved, &plain)?;
+        }
+        Ok(Times {
+            proved: median(proved_times),
+            plain: median(plain_times),
+        })
+    }
+}
+
+/// The plain turns alone, under a name of their own for callgrind.
+#[inline(never)]
+fn plain_turns(run: &mut Run, dealing: &[u8]) {
+    run.advance(dealing);
+}
+
+/// The time of one of many calls.
+fn batch(mut call: impl FnMut() -> u64) -> Result<Duration, String> {
+    let (time, answers) = timed(|| (0..BATCH).map(|_| black_box(call())).max());
+    accepted("call", answers.unwrap_or(0))?;
+    Ok(time / BATCH)
+}
+
+fn median(mut times: Vec<Duration>) -> Duration {
+    times.sort();
+    times[times.len() / 2]
+}
+
+#[cfg(test)]
+mod tests {
+    use super::*;
+
+    #[test]
+    fn the_median_is_the_middle_one() {
+        let times = [9, 1, 5, 2, 8].map(Duration::from_secs).to_vec();
+        assert_eq!(median(times), Duration::from_secs(5));
+    }
+}

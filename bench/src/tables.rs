@@ -1,0 +1,155 @@
+//! The tables: what is measured, and how it is shown.
+
+use std::time::Duration;
+
+use second::run::Settings;
+
+use crate::input::{Input, Order};
+use crate::measure::{Bench, DEALING, Times};
+
+const MOST_COMMANDS: usize = 4096;
+/// The most turns dealt of a list where many settings are measured.
+const FEWER_TURNS: usize = 2_000_000;
+const LARGEST: Settings = settings(150, 64, 4096);
+
+const fn settings(size: u8, workers: u8, room: u16) -> Settings {
+    Settings {
+        size,
+        workers,
+        room,
+    }
+}
+
+/// Measures and prints one part, or all.
+pub fn print(bench: &Bench, part: Option<&str>) -> Result<(), String> {
+    type Part = fn(&Bench) -> Result<(), String>;
+    let parts: [(&str, Part); 3] = [("steps", steps), ("calls", calls), ("growth", growth)];
+    if let Some(part) = part
+        && parts.iter().all(|(name, _)| *name != part)
+    {
+        return Err(format!(
+            "no part `{part}`; the parts are steps, calls and growth"
+        ));
+    }
+    println!("Medians of {} runs, processor time.", bench.runs);
+    for (name, print) in parts {
+        if part.is_none_or(|part| part == name) {
+            println!();
+            print(bench)?;
+        }
+    }
+    println!("\nBoth sides left the same state, keys, chutes and answers after every run.");
+    Ok(())
+}
+
+/// Whole lists by random and round-robin turns.
+fn steps(bench: &Bench) -> Result<(), String> {
+    println!("Steps: a list of {MOST_COMMANDS} commands, in dealings of {DEALING}.\n");
+    println!(
+        "| Size, workers, room | Schedule | Steps | Waits | Proved, steps/s | Plain, steps/s \
+         | Ratio of times | Plain turns alone, steps/s | Ratio |"
+    );
+    println!("|---|---|---|---|---|---|---|---|---|");
+    let orders = [
+        ("random", Order::Random),
+        ("round-robin", Order::RoundRobin),
+        ("long chain", Order::LongChain),
+        ("random, no waits", Order::Moving),
+    ];
+    for settings in [LARGEST, settings(8, 4, 4096), settings(2, 1, 4096)] {
+        for (name, order) in orders {
+            let input = Input::new(settings, MOST_COMMANDS, order, bench.most_turns);
+            let times = bench.steps(&input)?;
+            let steps = input.schedule.len();
+            println!(
+                "| {}, {}, {} | {name} | {steps}{} | {} | {} | {} | {:.2} | {} | {:.2} |",
+                settings.size,
+                settings.workers,
+                settings.room,
+                if input.done { "" } else { " (not done)" },
+                percent(input.waits, steps),
+                rate(steps, times.calls.proved),
+                rate(steps, times.calls.plain),
+                times.calls.ratio(),
+                rate(steps, times.turns.plain),
+                times.turns.ratio(),
+            );
+        }
+    }
+    Ok(())
+}
+
+/// Opening, and a call with an empty schedule.
+fn calls(bench: &Bench) -> Result<(), String> {
+    let input = Input::new(LARGEST, MOST_COMMANDS, Order::LongChain, FEWER_TURNS);
+    println!("Calls: size 150, 64 workers, room 4096, {MOST_COMMANDS} commands.\n");
+    println!("| Call | Proved | Plain | Ratio |");
+    println!("|---|---|---|---|");
+    for (name, times) in [
+        ("open", bench.open(&input)?),
+        ("advance, empty schedule", bench.empty(&input)?),
+    ] {
+        println!("| {name} | {} |", cells(times));
+    }
+    Ok(())
+}
+
+/// How opening, an empty call and a step grow with list, size and room.
+fn growth(bench: &Bench) -> Result<(), String> {
+    println!(
+        "Growth: long chain, 64 workers, at most {FEWER_TURNS} steps; the rest at its largest.\n"
+    );
+    println!(
+        "| | Open, proved | plain | ratio | Empty call, proved | plain | ratio \
+         | Steps | Waits | A step, proved | plain | ratio |"
+    );
+    println!("|---|---|---|---|---|---|---|---|---|---|---|---|");
+    for count in [1, 16, 256, 1024, MOST_COMMANDS] {
+        grown(bench, &format!("list {count}"), LARGEST, count)?;
+    }
+    for size in [1, 8, 32, 64, 150] {
+        let settings = settings(size, 64, 4096);
+        grown(bench, &format!("size {size}"), settings, MOST_COMMANDS)?;
+    }
+    for room in [1, 64, 512, 4096] {
+        let settings = settings(150, 64, room);
+        grown(bench, &format!("room {room}"), settings, MOST_COMMANDS)?;
+    }
+    Ok(())
+}
+
+fn grown(bench: &Bench, name: &str, settings: Settings, count: usize) -> Result<(), String> {
+    let input = Input::new(settings, count, Order::LongChain, FEWER_TURNS);
+    let steps = input.schedule.len();
+    let whole = bench.steps(&input)?.calls;
+    let step = |time: Duration| format!("{:.1} ns", time.as_secs_f64() * 1e9 / steps as f64);
+    println!(
+        "| {name} | {} | {} | {steps} | {} | {} | {} | {:.2} |",
+        cells(bench.open(&input)?),
+        cells(bench.empty(&input)?),
+        percent(input.waits, steps),
+        step(whole.proved),
+        step(whole.plain),
+        whole.ratio(),
+    );
+    Ok(())
+}
+
+/// Both times and their ratio.
+fn cells(times: Times) -> String {
+    let micros = |time: Duration| format!("{:.1} µs", time.as_secs_f64() * 1e6);
+    let ratio = times.ratio();
+    format!(
+        "{} | {} | {ratio:.2}",
+        micros(times.proved),
+        micros(times.plain)
+    )
+}
+
+fn rate(steps: usize, time: Duration) -> String {
+    format!("{:.1} million", steps as f64 / time.as_secs_f64() / 1e6)
+}
+
+fn percent(part: usize, whole: usize) -> String {
+    format!("{:.0} %", 100.0 * part as f64 / whole as f64)
+}

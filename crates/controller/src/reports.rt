@@ -1,6 +1,0 @@
-// What a report answers.
-pub enum Report {
-    Reported,
-    WrongLength,
-    WrongState,
-}

@@ -1,0 +1,93 @@
+-- `depot_c::panel_calls::report_within` meets its contract: the numbers are read, and the proved report on them is that on the entries. Assumes nothing.
+use borrow.Author.Needs.{needs}
+use Rattle.depot_c.specs.declared.Wanted.the-variants.{PendingCounts, WorkerStatus}
+use Rattle.depot_c.proofs.Reporting.{report-on}
+use Rattle.depot_c.proofs.panel_calls.report_within.Statement.{statement}
+use Rattle.depot_c.proofs.panel_calls.report_within.Tie as tie
+
+read-lists-requires : tie.Need-read-lists-requires
+read-lists-requires c κs = search needs
+
+enum-told : tie.Need-enum-told
+enum-told c = search needs
+
+pending-counts-requires : tie.Need-pending-counts-requires
+pending-counts-requires c κs = search needs
+
+report-answer-requires : tie.Need-report-answer-requires
+report-answer-requires c κs = search needs
+
+enum-told-2 : tie.Need-enum-told-2
+enum-told-2 c = search needs
+
+worker-status-bytes-requires : tie.Need-worker-status-bytes-requires
+worker-status-bytes-requires c κs = search needs
+
+report-answer-requires-2 : tie.Need-report-answer-requires-2
+report-answer-requires-2 c κs = search needs
+
+same-length : tie.Need-same-length
+same-length c = search needs
+
+same-length-2 : tie.Need-same-length-2
+same-length-2 c = search needs
+
+same-length-3 : tie.Need-same-length-3
+same-length-3 c = search needs
+
+same-length-4 : tie.Need-same-length-4
+same-length-4 c = search needs
+
+returns : tie.Need-returns
+returns c =
+    let call = c .before .before .before in
+    let told = call .before .before .before .before .before in
+    let read = told .before .before .before .before .before .before .before .before in
+    let args = read .before .before .before .before .before .before .before .before .before .before .before .before .before .args in
+    rw (told .enum-told .given .1)
+    (report-on PendingCounts (args .state .now) (args .keys .now) (args .chutes .now) (args .answers .now) (args .commands .now) (args .out .now)
+    (read .read-lists .ensures) (c .report-answer .ensures) (call .pending-counts .ensures))
+
+same-length-5 : tie.Need-same-length-5
+same-length-5 c = search needs
+
+same-length-6 : tie.Need-same-length-6
+same-length-6 c = search needs
+
+same-length-7 : tie.Need-same-length-7
+same-length-7 c = search needs
+
+same-length-8 : tie.Need-same-length-8
+same-length-8 c = search needs
+
+returns-2 : tie.Need-returns-2
+returns-2 c =
+    let call = c .before .before .before in
+    let told = call .before .before .before .before .before in
+    let read = told .before .before .before .before .before .before .before .before in
+    let args = read .before .before .before .before .before .before .before .before .before .before .before .before .before .args in
+    rw (told .enum-told2 .given .1)
+    (report-on WorkerStatus (args .state .now) (args .keys .now) (args .chutes .now) (args .answers .now) (args .commands .now) (args .out .now)
+    (read .read-lists .ensures) (c .report-answer2 .ensures) (call .worker-status-bytes .ensures))
+
+pub report-within-spec : {M : Type 1} → statement M
+report-within-spec =
+    tie.close
+    (tie.spec
+    read-lists-requires
+    enum-told
+    pending-counts-requires
+    report-answer-requires
+    enum-told-2
+    worker-status-bytes-requires
+    report-answer-requires-2
+    same-length
+    same-length-2
+    same-length-3
+    same-length-4
+    returns
+    same-length-5
+    same-length-6
+    same-length-7
+    same-length-8
+    returns-2)

@@ -1,0 +1,4 @@
+pub mod Reporting
+pub mod Showing
+pub mod Counts
+pub mod Entries

@@ -1,0 +1,73 @@
+-- What a report answers and leaves, by its tests. Assumes nothing.
+use Prim.Native.Nat.{ℕ}
+use native.Mathlib.Omega.{arith}
+use mathlib.Core.Path.{_≡_, refl}
+use mathlib.Core.Bool.{Bool, true, false, cond, _&&_, and-false, and-eq-true-iff}
+use mathlib.Core.List.{List, [], _∷_}
+use mathlib.Core.Logic.{⊎-elim}
+use lib.ListN.{length}
+use lib.Dec.{eqb}
+use borrow.Author.Tests.{eq-eqb, ne-eqb, eqb-true}
+use denote.Enum.Declared.{tagOf}
+use types.Run.{OneOf}
+use Rattle.state_bytes.specs.Layout.{Lists, stateLength, lengthsFit, handedBackFit, stateFits}
+use Rattle.panel.specs.declared.Report.{Report}
+use Rattle.panel.proofs.Report.{the-type}
+use Rattle.panel.specs.declared.Report.the-variants.{Reported, WrongLength, WrongState}
+use Rattle.panel.specs.Reports.{reportOf, reportNumber, reportLeft}
+
+-- ---- the tests
+
+-- the first of two tests that pass has passed
+first-passed : (a b : Bool) → (a && b) ≡ true → a ≡ true
+first-passed a b e = and-eq-true-iff a b .0 e .0
+
+-- handed-back lists that fit have a state as long as the layout
+pub passed-long : (l : Lists) (commands : List ℕ) → handedBackFit l commands ≡ true → length (l .state) ≡ stateLength
+unfolding handedBackFit lengthsFit
+passed-long l commands fit = eqb-true _ _ (first-passed _ _ (first-passed _ _ (first-passed _ _ (first-passed _ _ fit))))
+
+-- an answer 0 is not that of a test that fails
+not-six : (t : Bool) (n : ℕ) → 0 ≡ cond t n 6 → t ≡ true
+not-six true n e = refl
+not-six false n e = absurd (omega arith)
+
+module _ (l : Lists) (commands : List ℕ) (lent wanted : ℕ) where
+  -- the first test that fails decides
+  pub refuses-lengths : handedBackFit l commands ≡ false → 6 ≡ reportNumber l commands lent wanted
+  unfolding reportNumber
+  refuses-lengths e = rw e
+
+  pub refuses-report : (lent ≡ wanted → ⊥) → 6 ≡ reportNumber l commands lent wanted
+  unfolding reportNumber
+  refuses-report other = rw (ne-eqb lent wanted other, and-false (handedBackFit l commands))
+
+  pub refuses-state : handedBackFit l commands ≡ true → lent ≡ wanted → stateFits l ≡ false → 12 ≡ reportNumber l commands lent wanted
+  unfolding reportNumber
+  refuses-state e same f = rw (e, eq-eqb lent wanted same, f)
+
+  -- where none fails, there is a report
+  pub reports : handedBackFit l commands ≡ true → lent ≡ wanted → stateFits l ≡ true → 0 ≡ reportNumber l commands lent wanted
+  unfolding reportNumber
+  reports e same f = rw (e, eq-eqb lent wanted same, f)
+
+  -- where the answer is 0, the lists have the lengths asked for
+  pub passed-lengths : 0 ≡ reportNumber l commands lent wanted → (length (l .state) ≡ stateLength) × (lent ≡ wanted)
+  unfolding reportNumber
+  passed-lengths e =
+      let both = and-eq-true-iff (handedBackFit l commands) (eqb lent wanted) .0 (not-six (handedBackFit l commands && eqb lent wanted) (cond (stateFits l) 0 12) e) in
+      (passed-long l commands (both .0), eqb-true lent wanted (both .1))
+
+-- ---- what is left
+
+-- a report that is made is left
+pub left-report {ℓ} : {A : Type ℓ} (r : Report) (report old : List A) → r ≡ Reported → report ≡ reportLeft (reportOf r) report old
+unfolding reportLeft
+left-report r report old e = rw e
+
+-- a refusal, any variant but the first, leaves the list
+pub left-old {ℓ} : {A : Type ℓ} (r : Report) (report old : List A) → OneOf (1 ∷ 2 ∷ []) (tagOf the-type r) → old ≡ reportLeft (reportOf r) report old
+unfolding reportLeft
+left-old Reported report old h = absurd (⊎-elim (λ e. omega arith) (λ e. omega arith) h)
+left-old WrongLength report old h = refl
+left-old WrongState report old h = refl

@@ -1,0 +1,89 @@
+-- What the panel shows of a worker, read from the state's bytes. Assumes nothing.
+use Prim.Native.Nat.{ℕ, suc, _+_, _*_, _≤_, _<_}
+use native.Mathlib.Nat.{add-zero}
+use native.Mathlib.Numerals.{add-one}
+use native.Mathlib.Omega.{arith}
+use mathlib.Core.Path.{_≡_, refl, sym, ap, _∙_}
+use mathlib.Core.List.{List}
+use lib.ListN.{length, getD, set}
+use borrow.Author.Tests.{lt-leb, le-leb, lt-ltb}
+use Rattle.model.specs.declared.Thread.{Thread}
+use Rattle.model.specs.declared.Thread.the-variants.{Idle}
+use Rattle.model.specs.Step.{State}
+use Rattle.state_bytes.specs.Bytes.{numberAt, fields}
+use Rattle.state_bytes.specs.Layout.{Lists, stateLength, stateIn, threadAt}
+use Rattle.state_bytes.specs.Pasted.{pasted}
+use Rattle.state_bytes.proofs.Bytes.{fields-length}
+use Rattle.state_bytes.proofs.Fill.{number-none, number-more}
+use Rattle.state_bytes.proofs.Paste.{PutFields, fields-put, fields-all, pasted-whole}
+use Rattle.panel.specs.declared.WorkerStatus.{WorkerStatus}
+use Rattle.panel.specs.declared.WorkerState.the-variants as worker
+use Rattle.panel.specs.Reports.{entry, statusOf, reported, stateNumber, statusBytes, workerStatusBytes, workersIn}
+
+-- a number of one byte is that byte
+number-one : (at : ℕ) (b : List ℕ) → at < length b → numberAt 1 at b ≡ getD b at 0
+number-one at b h = number-more 0 at b (omega arith) ∙ rw (number-none at b, add-zero at) (omega arith)
+
+-- the worker count is byte 1
+workers-in : (b : List ℕ) → length b ≡ stateLength → workersIn b ≡ getD b 1 0
+unfolding stateLength
+workers-in b long = number-one 1 b (omega arith)
+
+-- a worker past the count is reported idle, any other as the bytes have it
+reported-idle : (workers t : ℕ) (s : State) → workers < t → reported workers s t ≡ Idle
+unfolding reported
+reported-idle workers t s h = rw (lt-leb t workers h)
+
+reported-thread : (workers t : ℕ) (l : Lists) → t ≤ workers → t ≤ 64 → reported workers (stateIn l) t ≡ threadAt (l .state) t
+unfolding reported stateIn
+reported-thread workers t l h k =
+    let among : t < 65 = omega arith in
+    rw (le-leb t workers h, lt-ltb t 65 among)
+
+-- what is shown of a worker past the count, and of any other
+pub past-shown : (b : List ℕ) (s : State) (t : ℕ) → length b ≡ stateLength → getD b 1 0 < t → entry worker.Idle 0 ≡ statusOf (reported (workersIn b) s t)
+unfolding statusOf
+past-shown b s t long h =
+    let past : workersIn b < t = omega (arith, workers-in b long) in
+    sym (ap statusOf (reported-idle (workersIn b) t s past))
+
+pub worker-shown : (b : List ℕ) (l : Lists) (t : ℕ) {thread : Thread} {r : WorkerStatus} → l .state ≡ b → length b ≡ stateLength → t ≤ getD b 1 0 → t ≤ 64
+    → thread ≡ threadAt b t → r ≡ statusOf thread → r ≡ statusOf (reported (workersIn b) (stateIn l) t)
+worker-shown b l t same long h k is shown =
+    let within : t ≤ workersIn b = omega (arith, workers-in b long) in
+    shown ∙ ap statusOf (is ∙ ap (λ (a : List ℕ). threadAt a t) (sym same) ∙ sym (reported-thread (workersIn b) t l within k))
+
+-- ---- as bytes
+
+-- the two bytes of worker i + 1
+abbrev pub bytesShown : List ℕ → Lists → ℕ → List ℕ
+bytesShown b l i = statusBytes (statusOf (reported (workersIn b) (stateIn l) (suc i)))
+
+shown-length : (b : List ℕ) (l : Lists) (i : ℕ) → length (bytesShown b l i) ≡ 2
+unfolding statusBytes
+shown-length b l i = refl
+
+-- two stores put an entry
+entry-pastes : (at : ℕ) (e : WorkerStatus) (number : ℕ) (bytes : List ℕ) → number ≡ stateNumber (e .state) → set (set bytes at number) (at + 1) (e .own .0) ≡ pasted at (statusBytes e) bytes
+unfolding pasted statusBytes
+entry-pastes at e number bytes is = rw (is, add-one at)
+
+-- The first i workers' bytes are put.
+abbrev pub BytesPut : List ℕ → Lists → List ℕ → List ℕ → ℕ → Type 0
+BytesPut b l before bytes i = PutFields (bytesShown b l) 2 64 0 before bytes i
+
+-- a pass puts those of the next worker
+pub bytes-more : (b : List ℕ) (l : Lists) {before bytes : List ℕ} {i : ℕ} (e : WorkerStatus) (number : ℕ) → BytesPut b l before bytes i → i < 64
+    → e ≡ statusOf (reported (workersIn b) (stateIn l) (i + 1)) → number ≡ stateNumber (e .state)
+    → BytesPut b l before (set (set bytes (2 * i) number) (2 * i + 1) (e .own .0)) (i + 1)
+bytes-more b l {before} {bytes} {i} e number put h shown is =
+    let same : statusBytes e ≡ bytesShown b l i = ap statusBytes shown ∙ ap (λ (t : ℕ). statusBytes (statusOf (reported (workersIn b) (stateIn l) t))) (add-one i) in
+    fields-put put (2 * i) h (omega arith) (shown-length b l i) (entry-pastes (2 * i) e number bytes is ∙ ap (λ (part : List ℕ). pasted (2 * i) part bytes) same)
+
+-- after the last pass they are the report
+pub bytes-all : (b : List ℕ) (l : Lists) {before bytes : List ℕ} {i : ℕ} → BytesPut b l before bytes i → 64 ≤ i → length before ≡ 128
+    → bytes ≡ workerStatusBytes (workersIn b) (stateIn l)
+unfolding workerStatusBytes
+bytes-all b l {before} put h long =
+    let all : length (fields 64 (bytesShown b l)) ≡ 2 * 64 = fields-length 2 64 (bytesShown b l) (shown-length b l) in
+    fields-all put h ∙ pasted-whole (fields 64 (bytesShown b l)) before (all ∙ sym long)

@@ -1,0 +1,45 @@
+-- `controller::fits::settings_fit` meets its contract: the first test that fails fails them all. Assumes nothing.
+use mathlib.Core.Bool.{and-false}
+use borrow.Author.Tests.{lt-leb, le-leb}
+use Rattle.state_bytes.specs.Layout.{settingsFit}
+use Rattle.state_bytes.proofs.fits.settings_fit.Statement.{statement}
+use Rattle.state_bytes.proofs.fits.settings_fit.Tie as tie
+
+returns : tie.Need-returns
+unfolding settingsFit
+returns c = simp (lt-leb _ _ (c .if1 .taken))
+
+returns-2 : tie.Need-returns-2
+unfolding settingsFit
+returns-2 c = simp (lt-leb _ _ (c .if2 .taken), and-false)
+
+returns-3 : tie.Need-returns-3
+unfolding settingsFit
+returns-3 c = simp (lt-leb _ _ (c .if3 .taken), and-false)
+
+returns-4 : tie.Need-returns-4
+unfolding settingsFit
+returns-4 c = simp (lt-leb _ _ (c .if4 .taken), and-false)
+
+returns-5 : tie.Need-returns-5
+unfolding settingsFit
+returns-5 c = simp (lt-leb _ _ (c .if5 .taken), and-false)
+
+returns-6 : tie.Need-returns-6
+unfolding settingsFit
+returns-6 c = simp (lt-leb _ _ (c .if6 .taken), and-false)
+
+returns-7 : tie.Need-returns-7
+unfolding settingsFit
+returns-7 c =
+    simp (
+      le-leb _ _ (c .before .before .before .before .before .if1 .left),
+      le-leb _ _ (c .before .before .before .before .if2 .left),
+      le-leb _ _ (c .before .before .before .if3 .left),
+      le-leb _ _ (c .before .before .if4 .left),
+      le-leb _ _ (c .before .if5 .left),
+      le-leb _ _ (c .if6 .left),
+    )
+
+pub settings-fit-spec : {M : Type 1} → statement M
+settings-fit-spec = tie.close (tie.spec returns returns-2 returns-3 returns-4 returns-5 returns-6 returns-7)

@@ -1,0 +1,74 @@
+-- `controller::write::write_numbers` meets its contract. The loop's invariant: the first i numbers are put. Assumes nothing.
+use Prim.Native.Nat.{ℕ, _+_, _*_, _-_}
+use native.Mathlib.Omega.{arith}
+use lib.ListN.{length, getD}
+use Rattle.state_bytes.specs.Bytes.{bytesOf}
+use Rattle.state_bytes.proofs.Bytes.{bytes-length}
+use Rattle.state_bytes.proofs.Paste.{PutFields, fields-none, fields-put, fields-all, fields-put-length}
+use Rattle.state_bytes.proofs.write.write_numbers.Statement.{statement}
+use Rattle.state_bytes.proofs.write.write_numbers.Tie as tie
+
+abbrev Inv-loop : tie.InvT-loop
+Inv-loop state₀ at from i₀ state i = PutFields (λ (n : ℕ). bytesOf 2 (getD from n 0)) 2 (length from) at state₀ state i
+
+abbrev μ-loop : tie.MeasureT-loop
+μ-loop state₀ at from i₀ state i = length from - i
+
+loop-holds : tie.Need-loop-holds Inv-loop μ-loop
+loop-holds c = fields-none _ _ _ _ _
+
+mul-put-number : tie.Need-mul-put-number Inv-loop μ-loop
+mul-put-number c = omega arith
+
+add-put-number : tie.Need-add-put-number Inv-loop μ-loop
+add-put-number c = omega arith
+
+mul-put-number-2 : tie.Need-mul-put-number-2 Inv-loop μ-loop
+mul-put-number-2 c = omega arith
+
+shared-slice-read-put-number : tie.Need-shared-slice-read-put-number Inv-loop μ-loop
+shared-slice-read-put-number c = omega arith
+
+cast-put-number : tie.Need-cast-put-number Inv-loop μ-loop
+cast-put-number c = omega (arith, c .shared-slice-known2 .given (c .before .before .before .loop .i))
+
+put-number-requires : tie.Need-put-number-requires Inv-loop μ-loop
+put-number-requires c κs = omega (arith, fields-put-length (c .before .before .before .loop .inv))
+
+add-i : tie.Need-add-i Inv-loop μ-loop
+add-i c = omega arith
+
+loop-less : tie.Need-loop-less Inv-loop μ-loop
+loop-less c = omega arith
+
+loop-again : tie.Need-loop-again Inv-loop μ-loop
+loop-again c =
+    let called = c .before .before in
+    let pass = called .before .before .before .before .loop in
+    let args = called .before .before .before .before .before .before .before .args in
+    fields-put (pass .inv) (args .at + 2 * pass .i) (omega arith) (omega arith) (bytes-length 2 (getD (args .from .now) (pass .i) 0)) (called .put-number .ensures)
+
+same-length : tie.Need-same-length Inv-loop μ-loop
+same-length c = fields-put-length (c .before .loop .inv)
+
+returns : tie.Need-returns Inv-loop μ-loop
+returns c = fields-all (c .before .loop .inv) (omega arith)
+
+pub write-numbers-spec : {M : Type 1} → statement M
+write-numbers-spec =
+    tie.close
+    (tie.spec
+    Inv-loop
+    μ-loop
+    loop-holds
+    mul-put-number
+    add-put-number
+    mul-put-number-2
+    shared-slice-read-put-number
+    cast-put-number
+    put-number-requires
+    add-i
+    loop-less
+    loop-again
+    same-length
+    returns)

@@ -1,0 +1,118 @@
+-- `controller::write::write_state` meets its contract: the head, five arrays and the threads, one after the other, are all state bytes. Assumes nothing.
+use native.Mathlib.Omega.{arith}
+use mathlib.Core.Path.{_≡_, refl, sym, _∙_}
+use lib.ListN.{length, getD}
+use mathlib.Core.Bool.{false}
+use Rattle.state_bytes.specs.Layout.{stateLength}
+use Rattle.state_bytes.specs.Pasted.{headOf}
+use Rattle.state_bytes.proofs.Bytes.{bytes-length}
+use Rattle.state_bytes.proofs.Paste.{put-none, put-more, put-fields, put-whole, head-length, flag-byte-length, set-bytes-length, thread-bytes-length, shown-bytes}
+use borrow.Author.Needs.{needs}
+use Rattle.state_bytes.proofs.write.write_state.Statement.{statement}
+use Rattle.state_bytes.proofs.write.write_state.Tie as tie
+
+-- the function's entry, from each call
+abbrev entry1 : tie.After-write-head → tie.Start
+entry1 c = c .before .before .before
+
+abbrev entry2 : tie.After-write-bytes → tie.Start
+entry2 c = entry1 (c .before .before .before .before .before)
+
+abbrev entry3 : tie.After-write-numbers → tie.Start
+entry3 c = entry2 (c .before .before .before .before .before)
+
+abbrev entry4 : tie.After-write-flags → tie.Start
+entry4 c = entry3 (c .before .before .before .before .before)
+
+abbrev entry5 : tie.After-write-flags2 → tie.Start
+entry5 c = entry4 (c .before .before .before .before .before)
+
+abbrev entry6 : tie.After-write-sets → tie.Start
+entry6 c = entry5 (c .before .before .before .before .before)
+
+abbrev entry7 : tie.After-write-threads → tie.Start
+entry7 c = entry6 (c .before .before .before .before)
+
+-- no call changes the length of the state bytes
+head-long : (c : tie.After-write-head) → length (c .write-head .last .0) ≡ stateLength
+head-long c = c .write-head .kept .0 ∙ entry1 c .pre
+
+bytes-long : (c : tie.After-write-bytes) → length (c .write-bytes .last .0) ≡ stateLength
+bytes-long c = c .write-bytes .kept .0 ∙ head-long (c .before .before .before .before .before)
+
+numbers-long : (c : tie.After-write-numbers) → length (c .write-numbers .last .0) ≡ stateLength
+numbers-long c = c .write-numbers .kept .0 ∙ bytes-long (c .before .before .before .before .before)
+
+flags-long : (c : tie.After-write-flags) → length (c .write-flags .last .0) ≡ stateLength
+flags-long c = c .write-flags .kept .0 ∙ numbers-long (c .before .before .before .before .before)
+
+flags2-long : (c : tie.After-write-flags2) → length (c .write-flags2 .last .0) ≡ stateLength
+flags2-long c = c .write-flags2 .kept .0 ∙ flags-long (c .before .before .before .before .before)
+
+sets-long : (c : tie.After-write-sets) → length (c .write-sets .last .0) ≡ stateLength
+sets-long c = c .write-sets .kept .0 ∙ flags2-long (c .before .before .before .before .before)
+
+write-head-requires : tie.Need-write-head-requires
+unfolding stateLength
+write-head-requires c κs = omega (arith, c .before .before .pre)
+
+write-bytes-requires : tie.Need-write-bytes-requires
+unfolding stateLength
+write-bytes-requires c κs = let p = c .before .before .before .before in omega (arith, head-long p)
+
+write-numbers-requires : tie.Need-write-numbers-requires
+unfolding stateLength
+write-numbers-requires c κs = let p = c .before .before .before .before in omega (arith, bytes-long p)
+
+write-flags-requires : tie.Need-write-flags-requires
+unfolding stateLength
+write-flags-requires c κs = let p = c .before .before .before .before in omega (arith, numbers-long p)
+
+write-flags-requires-2 : tie.Need-write-flags-requires-2
+unfolding stateLength
+write-flags-requires-2 c κs = let p = c .before .before .before .before in omega (arith, flags-long p)
+
+write-sets-requires : tie.Need-write-sets-requires
+unfolding stateLength
+write-sets-requires c κs = let p = c .before .before .before .before in omega (arith, flags2-long p)
+
+write-threads-requires : tie.Need-write-threads-requires
+unfolding stateLength
+write-threads-requires c κs = omega (arith, sets-long (c .before .before .before))
+
+same-length : tie.Need-same-length
+same-length c = search needs
+
+returns : tie.Need-returns
+unfolding stateLength
+returns c o s h i =
+    let called7 = c .before .before in
+    let called6 = called7 .before .before .before .before in
+    let called5 = called6 .before .before .before .before .before in
+    let called4 = called5 .before .before .before .before .before in
+    let called3 = called4 .before .before .before .before .before in
+    let called2 = called3 .before .before .before .before .before in
+    let called1 = called2 .before .before .before .before .before in
+    let args = entry7 called7 .args in
+    let one = put-more (put-none 0 (args .state .now)) (headOf (args .settings) (args .counters)) 0 11 refl (head-length _ _) (called1 .write-head .ensures) in
+    let two = put-fields one 1 151 _ (λ n. bytes-length 1 _) (called2 .before .write-bytes-arg2 .given .0) (called2 .write-bytes .ensures) in
+    let three = put-fields two 2 151 _ (λ n. bytes-length 2 _) (called3 .before .write-numbers-arg2 .given .0) (called3 .write-numbers .ensures) in
+    let four = put-fields three 1 151 _ (λ n. flag-byte-length (getD (args .executing .now) n false)) (called4 .before .write-flags-arg2 .given .0) (called4 .write-flags .ensures) in
+    let five = put-fields four 1 151 _ (λ n. flag-byte-length (getD (args .locked .now) n false)) (called5 .before .write-flags-arg4 .given .0) (called5 .write-flags2 .ensures) in
+    let six = put-fields five 24 151 _ (λ n. set-bytes-length _) (called6 .before .write-sets-arg2 .given .0) (called6 .write-sets .ensures) in
+    let seven = put-fields six 5 65 _ (λ n. thread-bytes-length _) refl (called7 .write-threads .ensures) in
+    put-whole seven refl (entry7 called7 .pre) ∙ sym (shown-bytes o s (args .settings) (args .counters) _ _ _ _ _ _ h i)
+
+pub write-state-spec : {M : Type 1} → statement M
+write-state-spec =
+    tie.close
+    (tie.spec
+    write-head-requires
+    write-bytes-requires
+    write-numbers-requires
+    write-flags-requires
+    write-flags-requires-2
+    write-sets-requires
+    write-threads-requires
+    same-length
+    returns)

@@ -1,0 +1,36 @@
+-- What writing a state promises: on every setup and state that the numbers and arrays show, the bytes are the layout's. Assumes nothing.
+use Prim.Native.Nat.{ℕ}
+use mathlib.Core.Path.{_≡_}
+use mathlib.Core.Bool.{Bool}
+use mathlib.Core.List.{List}
+use lib.ListN.{length, getD}
+use Rattle.model.specs.declared.Thread.{Thread}
+use Rattle.model.specs.declared.Thread.the-variants.{Idle}
+use Rattle.model.specs.Step.{Setup, State}
+use Rattle.model.specs.declared.Counters.{Counters}
+use Rattle.graph.specs.Arrays.{numbers, flags, sets}
+use Rattle.state_bytes.specs.declared.Settings.{Settings}
+use Rattle.state_bytes.specs.Layout.{stateBytes}
+
+-- the setup's numbers
+pub record Sets (c : Settings) (o : Setup) : Type 0 where
+  pub size : o .size ≡ c .size
+  pub workers : o .workers ≡ c .workers
+  pub capacity : o .capacity ≡ c .capacity
+  pub count : length (o .commands) ≡ c .count
+
+-- the state's graph, threads and counters
+pub record Shown (k : Counters) (next seq : List ℕ) (executing locked : List Bool) (waits : List (List ℕ)) (threads : List Thread) (s : State) : Type 0 where
+  pub next-is : s .next ≡ numbers next
+  pub seq-is : s .seq ≡ numbers seq
+  pub executing-is : s .executing ≡ flags executing
+  pub locked-is : s .locked ≡ flags locked
+  pub waits-is : s .waits ≡ sets waits
+  pub threads-are : (t : ℕ) → s .threads t ≡ getD threads t Idle
+  pub free-is : s .free ≡ k .free .0
+  pub loaded-is : s .loaded ≡ k .loaded
+  pub used-is : s .store .used ≡ k .used
+
+abbrev pub Lays : Settings → Counters → List ℕ → List ℕ → List Bool → List Bool → List (List ℕ) → List Thread → List ℕ → Type 0
+Lays c k next seq executing locked waits threads bytes =
+    (o : Setup) (s : State) → Sets c o → Shown k next seq executing locked waits threads s → bytes ≡ stateBytes o s

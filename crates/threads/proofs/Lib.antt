@@ -1,0 +1,3 @@
+pub mod Readiness
+pub mod LoaderSteps
+pub mod WorkerSteps

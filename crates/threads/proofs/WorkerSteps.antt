@@ -1,0 +1,196 @@
+-- The model's step of a worker, by the worker's state, from what the functions on the arrays ensure. Assumes nothing.
+use Prim.Native.Nat.{ℕ, _≤_}
+use mathlib.Core.Path.{_≡_, refl, sym, ap, _∙_}
+use mathlib.Core.Bool.{Bool, true, false}
+use mathlib.Core.List.{List, [], _∷_}
+use mathlib.Core.Logic.{_⊎_, inl, inr, ⊎-elim}
+use mathlib.Core.Option.{Option}
+use native.Mathlib.Omega.{arith}
+use lib.ListN.{length}
+use lib.Dec.{eqb}
+use borrow.Author.Tests.{ne-eqb}
+use denote.Enum.Declared.{tagOf}
+use types.Run.{OneOf, miss}
+use Rattle.command.specs.declared.Command.{Command}
+use Rattle.node_set.specs.declared.Node.{Node}
+use Rattle.model.specs.declared.Thread.{Thread}
+use Rattle.model.specs.declared.Thread.the-variants.{Idle, Loading, Searching, Holding, LookedUp, Written, Walking, Clearing}
+use Rattle.model.proofs.Thread.{the-type}
+use Rattle.model.specs.Step.{Setup, State, upd, node, step, workerStep, setThread, enter, commandOf, foundFor, holding, lookedUp, leave, return, clearing, setSeq, setFree, setNext, setExecuting, setLocked, setWaits, stepOn}
+use Rattle.model.specs.Proof.Upd.{upd-id, upd-same}
+use Rattle.store.specs.Lists.{storeOf}
+use Rattle.graph.specs.Arrays.{numbers, flags, Nodes, Within, Shows, Entered, Searches, Walks, ClearsOn}
+use Rattle.command.specs.Read.{commandsIn}
+use Rattle.graph.specs.Items.{keptAt, Kept}
+use Rattle.graph.specs.Memory.{Memory, shown, Ready, Steps, Writes}
+use Rattle.threads.proofs.Readiness.{withArrays, withStore, graph-ready, store-ready}
+
+-- what a worker's step makes of memory and threads, by the worker's state
+abbrev WorkerMakes : List ℕ → ℕ → Thread → Memory → Thread → Memory → Type 0
+WorkerMakes list t thread m thread′ m′ =
+    (o : Setup) (threads : ℕ → Thread) → o .commands ≡ commandsIn list → o .capacity ≡ length (m .keys) → threads t ≡ thread
+    → workerStep o t thread (shown m threads) ≡ shown m′ (upd threads t thread′)
+
+-- a thread that tried to enter is as it was, or has entered
+entered-cases : (m : Memory) (thread entered r : Thread) (locked′ : List Bool) → Entered thread entered (m .locked) r locked′ → (r ≡ thread) ⊎ (r ≡ entered)
+unfolding enter setThread
+entered-cases m thread entered r locked′ h = go (flags (m .locked) 0) refl
+  where
+    s : State
+    s = shown m (λ t. thread)
+
+    at0 : enter 0 entered s .threads 0 ≡ r
+    at0 = ap (λ (s′ : State). s′ .threads 0) (h s 0 refl refl) ∙ upd-same (λ (t : ℕ). thread) 0 r
+
+    go : (b : Bool) → flags (m .locked) 0 ≡ b → (r ≡ thread) ⊎ (r ≡ entered)
+    go true e = inl (sym (rw e at at0))
+    go false e = inr (sym (rw (e, upd-same (λ (t : ℕ). thread) 0 entered) at at0))
+
+-- a thread of another variant than the first is not idle
+pub busy : (thread : Thread) → OneOf (1 ∷ 2 ∷ 3 ∷ 4 ∷ 5 ∷ 6 ∷ 7 ∷ []) (tagOf the-type thread) → thread ≡ Idle → ⊥
+busy thread h idle = miss (1 ∷ 2 ∷ 3 ∷ 4 ∷ 5 ∷ 6 ∷ 7 ∷ []) 0 tt (rw idle at h)
+
+-- what a clearing worker's step leaves
+module _ (at own : Node) (free : ℕ) (next seq : List ℕ) (executing locked : List Bool) (waits : List (List ℕ)) (r : Thread) (free′ : ℕ) (next′ seq′ : List ℕ)
+    (executing′ locked′ : List Bool) (waits′ : List (List ℕ)) (steps : ClearsOn at own free next seq executing locked waits r free′ next′ seq′ executing′ locked′ waits′) where
+  -- it returned its node and is idle, or left the sequence numbers as they were and is not: by the model's two tests
+  cleared-cases : ((r ≡ Idle) × (numbers seq′ ≡ upd (numbers seq) (own .0) 0)) ⊎ ((r ≡ Idle → ⊥) × (numbers seq′ ≡ numbers seq))
+  unfolding clearing return leave stepOn setThread setSeq setFree setNext setExecuting setLocked setWaits
+  cleared-cases = go (eqb y 0) (flags locked y) refl refl
+    where
+      y : ℕ
+      y = numbers next (at .0)
+
+      was : ℕ → Thread
+      was t = Clearing at own
+
+      s : State
+      s = shown (record { next = next; seq = seq; executing = executing; locked = locked; waits = waits; keys = []; chutes = []; answers = []; free = free; loaded = 0; used = 0 }) was
+
+      showing : Shows s next seq executing locked waits
+      showing = record { next-is = refl; seq-is = refl; executing-is = refl; locked-is = refl; waits-is = refl }
+
+      thread-is : clearing 0 (at .0) (own .0) y s .threads 0 ≡ r
+      thread-is = ap (λ (s′ : State). s′ .threads 0) (steps s 0 showing refl refl) ∙ upd-same was 0 r
+
+      seq-is : clearing 0 (at .0) (own .0) y s .seq ≡ numbers seq′
+      seq-is = ap (λ (s′ : State). s′ .seq) (steps s 0 showing refl refl)
+
+      clears : (a : Node) → r ≡ Clearing a own → r ≡ Idle → ⊥
+      clears a e i = let z : _≡_ {A = ℕ} 0 1 = cc in omega arith
+
+      go : (end taken : Bool) → eqb y 0 ≡ end → flags locked y ≡ taken
+          → ((r ≡ Idle) × (numbers seq′ ≡ upd (numbers seq) (own .0) 0)) ⊎ ((r ≡ Idle → ⊥) × (numbers seq′ ≡ numbers seq))
+      go true taken e l = inl (sym (rw (e, upd-same was 0 Idle) at thread-is), sym (rw e at seq-is))
+      go false true e l = inr (clears at (sym (rw (e, l) at thread-is)), sym (rw (e, l) at seq-is))
+      go false false e l = inr (clears (node y) (sym (rw (e, l, upd-same was 0 (Clearing (node y) own)) at thread-is)), sym (rw (e, l) at seq-is))
+
+  pub idle-returned : r ≡ Idle → numbers seq′ ≡ upd (numbers seq) (own .0) 0
+  idle-returned idle = ⊎-elim (λ w. w .1) (λ w. absurd (w .0 idle)) cleared-cases
+
+  pub other-stayed : (r ≡ Idle → ⊥) → numbers seq′ ≡ numbers seq
+  other-stayed other = ⊎-elim (λ w. absurd (other (w .0))) (λ w. w .1) cleared-cases
+
+module _ (list kinds itemKeys itemChutes : List ℕ) (t : ℕ) (other : t ≡ 0 → ⊥) (m : Memory) where
+  -- a step of a thread other than 0 is a worker's
+  worker-steps : (kinds′ itemKeys′ itemChutes′ : List ℕ) (thread thread′ : Thread) (m′ : Memory) → WorkerMakes list t thread m thread′ m′
+      → Ready list kinds′ itemKeys′ itemChutes′ m′ thread′ → Steps list t thread m kinds′ itemKeys′ itemChutes′ thread′ m′
+  unfolding step
+  worker-steps kinds′ itemKeys′ itemChutes′ thread thread′ m′ makes ready = record {
+    step-is = λ o threads commands capacity is. sym (rw (ne-eqb t 0 other, is) (makes o threads commands capacity is));
+    ready = ready;
+  }
+
+  -- a worker in the loader's state does nothing
+  pub worker-waits : (at own : Node) (thread : Thread) → thread ≡ Loading at own
+      → Ready list kinds itemKeys itemChutes m thread → Steps list t thread m kinds itemKeys itemChutes thread m
+  unfolding workerStep
+  worker-waits at own thread known =
+      worker-steps kinds itemKeys itemChutes thread thread m
+      (λ o threads commands capacity is. rw (upd-id threads t thread (sym is), known))
+
+  -- a worker that enters, in either of the states from which it does
+  enters : (thread entered r : Thread) (locked′ : List Bool) → ((o : Setup) (s : State) → workerStep o t thread s ≡ enter t entered s)
+      → Entered thread entered (m .locked) r locked′ → Within entered → Ready list kinds itemKeys itemChutes m thread
+      → Steps list t thread m kinds itemKeys itemChutes r (withArrays (m .next) (m .seq) (m .executing) locked′ (m .waits) (m .free) m)
+  unfolding setThread
+  enters thread entered r locked′ does steps within ready =
+      worker-steps kinds itemKeys itemChutes thread r (withArrays (m .next) (m .seq) (m .executing) locked′ (m .waits) (m .free) m)
+      (λ o threads commands capacity is. does o (shown m threads) ∙ steps (shown m threads) t refl is)
+      (graph-ready list kinds itemKeys itemChutes m thread ready r (m .next) (m .executing) locked′ (m .waits) (ready .nodes)
+      (⊎-elim (λ e. rw e (ready .within)) (λ e. rw e within) (entered-cases m thread entered r locked′ steps)))
+
+  -- an idle worker, and one that has written, try to enter as the model's do
+  pub idle-enters : (r : Thread) (locked′ : List Bool) → Entered Idle (Searching (node 0)) (m .locked) r locked′ → Ready list kinds itemKeys itemChutes m Idle
+      → Steps list t Idle m kinds itemKeys itemChutes r (withArrays (m .next) (m .seq) (m .executing) locked′ (m .waits) (m .free) m)
+  unfolding workerStep
+  idle-enters r locked′ steps ready = enters Idle (Searching (node 0)) r locked′ (λ o s. refl) steps (omega arith) ready
+
+  module _ (own : Node) where
+    pub written-enters : (r : Thread) (locked′ : List Bool) → Entered (Written own) (Walking (node 0) own) (m .locked) r locked′
+        → Ready list kinds itemKeys itemChutes m (Written own)
+        → Steps list t (Written own) m kinds itemKeys itemChutes r (withArrays (m .next) (m .seq) (m .executing) locked′ (m .waits) (m .free) m)
+    unfolding workerStep
+    written-enters r locked′ steps ready =
+        enters (Written own) (Walking (node 0) own) r locked′ (λ o s. refl) steps (omega arith, ready .within) ready
+
+    -- the command of a ready node is the one kept for it
+    command-kept : (thread : Thread) (o : Setup) (threads : ℕ → Thread) → Ready list kinds itemKeys itemChutes m thread → own .0 ≤ 150 → o .commands ≡ commandsIn list
+        → commandOf o (shown m threads) (own .0) ≡ keptAt kinds itemKeys itemChutes (own .0)
+    unfolding commandOf
+    command-kept thread o threads ready small commands = rw commands (sym (ready .kept (own .0) small))
+
+    module _ (item : Option Command) (item-is : item ≡ keptAt kinds itemKeys itemChutes (own .0)) where
+      -- a holding worker finds what the model's lookup of that command finds
+      pub holding-looks-up : (found : ℕ) → found ≡ foundFor item (storeOf (m .keys) (m .chutes) (m .used))
+          → Ready list kinds itemKeys itemChutes m (Holding own) → Steps list t (Holding own) m kinds itemKeys itemChutes (LookedUp own found) m
+      unfolding workerStep holding setThread
+      holding-looks-up found found-is ready =
+          worker-steps kinds itemKeys itemChutes (Holding own) (LookedUp own found) m
+          (λ o threads commands capacity is. rw (found-is, item-is, command-kept (Holding own) o threads ready (ready .within) commands))
+          (store-ready list kinds itemKeys itemChutes m (Holding own) ready (LookedUp own found) (m .keys) (m .chutes) (m .answers) (m .used) refl (ready .within))
+
+      -- and one that has looked up writes what the model writes for that command
+      pub looked-up-writes : (place : ℕ) → place ≡ numbers (m .seq) (own .0) → (found : ℕ) (keys′ chutes′ answers′ : List ℕ) (used′ : ℕ)
+          → Writes item place found (m .keys) (m .chutes) (m .answers) (m .used) keys′ chutes′ answers′ used′
+          → length answers′ ≡ length (m .answers) → Ready list kinds itemKeys itemChutes m (LookedUp own found)
+          → Steps list t (LookedUp own found) m kinds itemKeys itemChutes (Written own) (withStore keys′ chutes′ answers′ used′ m)
+      unfolding workerStep lookedUp setThread
+      looked-up-writes place place-is found keys′ chutes′ answers′ used′ writes count ready =
+          worker-steps kinds itemKeys itemChutes (LookedUp own found) (Written own) (withStore keys′ chutes′ answers′ used′ m)
+          (λ o threads commands capacity is.
+          rw (command-kept (LookedUp own found) o threads ready (ready .within) commands, ← item-is, ← place-is, writes o (shown m threads) capacity refl refl))
+          (store-ready list kinds itemKeys itemChutes m (LookedUp own found) ready (Written own) keys′ chutes′ answers′ used′ count (ready .within))
+
+  module _ (at : Node) where
+    -- searching, walking and clearing are the model's: the functions along the chain ensure it of every state that the arrays show
+    pub searching-steps : (r : Thread) (executing′ locked′ : List Bool) → Searches at (m .next) (m .executing) (m .locked) (m .waits) r executing′ locked′
+        → Within r → Ready list kinds itemKeys itemChutes m (Searching at)
+        → Steps list t (Searching at) m kinds itemKeys itemChutes r (withArrays (m .next) (m .seq) executing′ locked′ (m .waits) (m .free) m)
+    unfolding workerStep setThread
+    searching-steps r executing′ locked′ steps within ready =
+        worker-steps kinds itemKeys itemChutes (Searching at) r (withArrays (m .next) (m .seq) executing′ locked′ (m .waits) (m .free) m)
+        (λ o threads commands capacity is. steps (shown m threads) t refl refl refl refl is)
+        (graph-ready list kinds itemKeys itemChutes m (Searching at) ready r (m .next) executing′ locked′ (m .waits) (ready .nodes) within)
+
+    module _ (own : Node) where
+      pub walking-steps : (r : Thread) (next′ : List ℕ) (locked′ : List Bool) → Walks at own (m .next) (m .locked) r next′ locked′
+          → Within r → Nodes next′ → Ready list kinds itemKeys itemChutes m (Walking at own)
+          → Steps list t (Walking at own) m kinds itemKeys itemChutes r (withArrays next′ (m .seq) (m .executing) locked′ (m .waits) (m .free) m)
+      unfolding workerStep setThread
+      walking-steps r next′ locked′ steps within nodes ready =
+          worker-steps kinds itemKeys itemChutes (Walking at own) r (withArrays next′ (m .seq) (m .executing) locked′ (m .waits) (m .free) m)
+          (λ o threads commands capacity is. steps (shown m threads) t refl refl is)
+          (graph-ready list kinds itemKeys itemChutes m (Walking at own) ready r next′ (m .executing) locked′ (m .waits) nodes within)
+
+      pub clearing-steps : (r : Thread) (free′ : ℕ) (next′ seq′ : List ℕ) (executing′ locked′ : List Bool) (waits′ : List (List ℕ)) (kinds′ : List ℕ)
+          → ClearsOn at own (m .free) (m .next) (m .seq) (m .executing) (m .locked) (m .waits) r free′ next′ seq′ executing′ locked′ waits′
+          → Within r → free′ ≤ 150 → Nodes next′ → Kept (commandsIn list) (numbers seq′) kinds′ itemKeys itemChutes
+          → Ready list kinds itemKeys itemChutes m (Clearing at own)
+          → Steps list t (Clearing at own) m kinds′ itemKeys itemChutes r (withArrays next′ seq′ executing′ locked′ waits′ free′ m)
+      unfolding workerStep setThread
+      clearing-steps r free′ next′ seq′ executing′ locked′ waits′ kinds′ steps within small nodes kept ready =
+          worker-steps kinds′ itemKeys itemChutes (Clearing at own) r (withArrays next′ seq′ executing′ locked′ waits′ free′ m)
+          (λ o threads commands capacity is.
+          steps (shown m threads) t (record { next-is = refl; seq-is = refl; executing-is = refl; locked-is = refl; waits-is = refl }) refl is)
+          (record { nodes = nodes; free = small; within = within; kept = kept; whole = ready .whole; few = ready .few })

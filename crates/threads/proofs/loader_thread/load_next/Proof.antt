@@ -1,0 +1,67 @@
+-- `graph::loader_thread::load_next` meets its contract: each way to a wait is one on which the model's loader waits, and else the stores
+-- are the model's load. Assumes nothing.
+use mathlib.Core.Path.{refl}
+use mathlib.Core.Bool.{true, false}
+use mathlib.Core.Logic.{⊎-elim}
+use lib.ListN.{length}
+use borrow.Author.Tests.{le-leb, lt-leb}
+use borrow.Author.Needs.{needs}
+use Rattle.threads.proofs.LoaderSteps.{blocked-if, load-waits, load-takes}
+use Rattle.threads.proofs.Readiness.{ready-beside}
+use Rattle.threads.proofs.loader_thread.load_next.Statement.{statement}
+use Rattle.threads.proofs.loader_thread.load_next.Tie as tie
+
+element-copy-out-if3 : tie.Need-element-copy-out-if3
+element-copy-out-if3 c = search needs
+
+returns : tie.Need-returns
+returns c =
+    let start = c .before .before .before .before in
+    let a = start .args in
+    let tests = blocked-if (length (a .answers .now)) (a .counters .loaded) (a .counters .free .0) (a .locked .now) in
+    λ executing waits keys chutes. load-waits _ _ _ _ _
+    (⊎-elim
+    (λ w. tests true _ _ (le-leb _ _ (w .taken)) refl refl)
+    (⊎-elim
+    (λ w. tests false true _ (lt-leb _ _ (w .0 .left)) (w .2 .taken) refl)
+    (λ w. tests false false true (lt-leb _ _ (w .0 .left)) (w .2 .left) (w .4 .taken)))
+    (c .if1 .came))
+    (ready-beside _ _ _ _ _ _ (start .pre) executing waits keys chutes)
+
+command-at-requires : tie.Need-command-at-requires
+command-at-requires c κs = search needs
+
+keep-requires : tie.Need-keep-requires
+keep-requires c κs = search needs
+
+add-loaded : tie.Need-add-loaded
+add-loaded c = search needs
+
+load-requires : tie.Need-load-requires
+load-requires c κs = search needs
+
+returns-2 : tie.Need-returns-2
+returns-2 c =
+    let start = c .before .before .before .before .before .before .before .before .before .before .before .before .before .before .before .before .before in
+    let a = start .args in
+    let kept = c .before .before .before .before in
+    let test3 = kept .before .before .before .before .before in
+    let test2 = test3 .before .before in
+    let test1 = test2 .before .before in
+    let free = blocked-if (length (a .answers .now)) (a .counters .loaded) (a .counters .free .0) (a .locked .now) false false false
+    (lt-leb _ _ (test1 .if1 .left)) (test2 .if2 .left) (test3 .if3 .left) in
+    λ executing waits keys chutes. load-takes _ _ _ _ _ _ _ _ _ _ _ _ _
+    free (test1 .if1 .left) (c .load .ensures) (kept .before .before .before .before .command-at .ensures) (kept .keep .ensures)
+    (ready-beside _ _ _ _ _ _ (start .pre) executing waits keys chutes)
+
+pub load-next-spec : {M : Type 1} → statement M
+load-next-spec =
+    tie.close
+    (tie.spec
+    element-copy-out-if3
+    returns
+    command-at-requires
+    keep-requires
+    add-loaded
+    load-requires
+    returns-2)

@@ -1,0 +1,61 @@
+-- `graph::step` meets its contract: thread 0 takes the loader's step, any other a worker's. Assumes nothing.
+use mathlib.Core.List.{[]}
+use borrow.Author.Needs.{needs}
+use lib.ListN.{length}
+use Rattle.command.specs.Read.{commandsIn}
+use Rattle.graph.proofs.Commands.{commands-length, kept-placed}
+use Rattle.threads.proofs.Readiness.{of-loader, ready-beside}
+use Rattle.threads.proofs.step.Statement.{statement}
+use Rattle.threads.proofs.step.Tie as tie
+
+loader-step-requires : tie.Need-loader-step-requires
+loader-step-requires c κs =
+    let start = c .before .before .before .before .before .before .before .before .before .before .before .before .before .before in
+    ready-beside _ _ _ _ _ _ (start .pre) _ _ [] []
+
+same-length : tie.Need-same-length
+same-length c = search needs
+
+returns : tie.Need-returns
+returns c =
+    let start = c .before .before .before .before .before .before .before .before .before .before .before .before .before .before .before in
+    of-loader (c .before .before .before .before .before .before .before .before .before .before .if1 .taken) (c .loader-step .ensures (start .args .keys .now) (start .args .chutes .now))
+
+worker-step-requires : tie.Need-worker-step-requires
+worker-step-requires c κs =
+    let start = c .before .before .before .before .before .before .before .before .before .before .before .before .before .before .before .before in
+    let a = start .args in
+    record {
+      nodes = start .pre .nodes;
+      free = start .pre .free;
+      within = start .pre .within;
+      placed = kept-placed (commandsIn (a .list .now)) (a .seq .now) (a .kinds .now) (a .item-keys .now) (a .item-chutes .now) (a .answers .now)
+          (commands-length (a .list .now) (length (a .answers .now)) (start .pre .whole)) (start .pre .kept);
+    }
+
+same-length-2 : tie.Need-same-length-2
+same-length-2 c = search needs
+
+same-length-3 : tie.Need-same-length-3
+same-length-3 c = search needs
+
+same-length-4 : tie.Need-same-length-4
+same-length-4 c = search needs
+
+returns-2 : tie.Need-returns-2
+returns-2 c =
+    let start = c .before .before .before .before .before .before .before .before .before .before .before .before .before .before .before .before .before .before .before .before .before .before .before in
+    c .before .before .before .before .before .before .worker-step .ensures (start .args .list .now) (start .args .t) (c .before .before .before .before .before .before .before .before .before .before .before .before .before .before .before .before .before .before .if1 .left) (start .pre)
+
+pub step-spec : {M : Type 1} → statement M
+step-spec =
+    tie.close
+    (tie.spec
+    loader-step-requires
+    same-length
+    returns
+    worker-step-requires
+    same-length-2
+    same-length-3
+    same-length-4
+    returns-2)

@@ -1,0 +1,206 @@
+-- `graph::worker_thread::worker_step` meets its contract, by the worker's state. Assumes nothing.
+use Prim.Native.Nat.{_≤_}
+use mathlib.Core.Path.{sym, _∙_}
+use native.Mathlib.Omega.{arith}
+use borrow.Author.Needs.{needs}
+use Rattle.threads.proofs.Readiness.{from-known}
+use Rattle.threads.proofs.WorkerSteps.{worker-waits, idle-enters, written-enters, holding-looks-up, looked-up-writes, searching-steps, walking-steps, clearing-steps}
+use Rattle.threads.proofs.worker_thread.worker_step.Statement.{statement}
+use Rattle.threads.proofs.worker_thread.worker_step.Tie as tie
+
+enum-told : tie.Need-enum-told
+enum-told c = search needs
+
+enter-requires : tie.Need-enter-requires
+enter-requires c κs = search needs
+
+enum-told-2 : tie.Need-enum-told-2
+enum-told-2 c = search needs
+
+enum-known-thread : tie.Need-enum-known-thread
+enum-known-thread c = search needs
+
+search-requires : tie.Need-search-requires
+search-requires c κs =
+    let known = c .before .before .before .before .before in
+    let start = known .before .before .before .before .before .before in
+    (start .pre .nodes, rw (known .thread .given .1) at (start .pre .within))
+
+enum-known-thread-2 : tie.Need-enum-known-thread-2
+enum-known-thread-2 c = search needs
+
+item-of-requires : tie.Need-item-of-requires
+item-of-requires c κs =
+    let known = c .before .before in
+    rw (known .thread2 .given .1) at (known .before .before .before .before .before .before .pre .within)
+
+look-up-requires : tie.Need-look-up-requires
+look-up-requires c κs = search needs
+
+enum-known-thread-3 : tie.Need-enum-known-thread-3
+enum-known-thread-3 c = search needs
+
+item-of-requires-2 : tie.Need-item-of-requires-2
+item-of-requires-2 c κs =
+    let known = c .before .before in
+    rw (known .thread3 .given .1) at (known .before .before .before .before .before .before .pre .within)
+
+cast-place-of : tie.Need-cast-place-of
+cast-place-of c = search needs
+
+mul-place-of : tie.Need-mul-place-of
+mul-place-of c = search needs
+
+element-copy-out-place-of : tie.Need-element-copy-out-place-of
+element-copy-out-place-of c =
+    let known = c .before .before .before .before in
+    let within : known .thread3 .given .0 .0 .0 ≤ 150 = rw (known .thread3 .given .1) at (known .before .before .before .before .before .before .pre .within) in
+    omega arith
+
+place-of-requires : tie.Need-place-of-requires
+place-of-requires c κs = search needs
+
+write-requires : tie.Need-write-requires
+write-requires c κs =
+    λ command e.
+    let placed = c .before .before .before in
+    let item = placed .before .before .before in
+    let known = item .before .before .before in
+    let start = known .before .before .before .before .before .before in
+    let within : known .thread3 .given .0 .0 .0 ≤ 150 = rw (known .thread3 .given .1) at (start .pre .within) in
+    rw (placed .place-of .ensures) (start .pre .placed (known .thread3 .given .0 .0 .0) command within (sym (item .item-of2 .ensures) ∙ e))
+
+same-length : tie.Need-same-length
+same-length c = search needs
+
+same-length-2 : tie.Need-same-length-2
+same-length-2 c = search needs
+
+same-length-3 : tie.Need-same-length-3
+same-length-3 c = search needs
+
+returns : tie.Need-returns
+returns c =
+    let written = c .before .before .before .before .before .before in
+    let placed = written .before .before .before .before in
+    let item = placed .before .before .before in
+    let known = item .before .before .before in
+    let fields = known .thread3 .given .0 in
+    λ list t other. from-known (known .thread3 .given .1)
+    (looked-up-writes _ _ _ _ _ other _ (fields .0) _ (item .item-of2 .ensures) _ (placed .place-of .ensures) (fields .1 .0) _ _ _ _
+    (written .write .ensures) (written .write .kept .1 .1 .1 .1 .1 .0))
+
+enum-known-thread-4 : tie.Need-enum-known-thread-4
+enum-known-thread-4 c = search needs
+
+enter-requires-2 : tie.Need-enter-requires-2
+enter-requires-2 c κs = search needs
+
+enum-known-thread-5 : tie.Need-enum-known-thread-5
+enum-known-thread-5 c = search needs
+
+walk-requires : tie.Need-walk-requires
+walk-requires c κs =
+    let known = c .before .before .before in
+    let start = known .before .before .before .before .before .before in
+    let within = rw (known .thread5 .given .1) at (start .pre .within) in
+    (start .pre .nodes, within .0, within .1)
+
+enum-known-thread-6 : tie.Need-enum-known-thread-6
+enum-known-thread-6 c = search needs
+
+clear-own-requires : tie.Need-clear-own-requires
+clear-own-requires c κs =
+    let known = c .before .before .before .before .before .before .before in
+    let start = known .before .before .before .before .before .before in
+    let within = rw (known .thread6 .given .1) at (start .pre .within) in
+    (start .pre .nodes, within .0, within .1, start .pre .free)
+
+returns-2 : tie.Need-returns-2
+returns-2 c =
+    let cleared = c .before in
+    let known = cleared .before .before .before .before .before .before .before .before in
+    let fields = known .thread6 .given .0 in
+    let does = cleared .clear-own .ensures in
+    λ list t other. from-known (known .thread6 .given .1) (λ ready.
+    clearing-steps _ _ _ _ _ other _ (fields .0) (fields .1 .0) _ _ _ _ _ _ _ _ (does .1 .0) (does .0 .0) (does .0 .1) (does .0 .2) (does .1 .1 _ _ _ (ready .kept)) ready)
+
+returns-3 : tie.Need-returns-3
+returns-3 c =
+    let known = c .before .before in
+    λ list t other. from-known (known .enum-told .given .1) (idle-enters _ _ _ _ _ other _ _ _ (rw (known .enum-told .given .1) at (c .enter .ensures)))
+
+returns-4 : tie.Need-returns-4
+returns-4 c =
+    let fields = c .enum-told2 .given .0 in
+    λ list t other. worker-waits _ _ _ _ _ other _ (fields .0) (fields .1 .0) _ (c .enum-told2 .given .1)
+
+returns-5 : tie.Need-returns-5
+returns-5 c =
+    let known = c .before .before .before .before .before .before in
+    λ list t other. from-known (known .thread .given .1)
+    (searching-steps _ _ _ _ _ other _ (known .thread .given .0 .0) _ _ _ (c .search .ensures .1) (c .search .ensures .0))
+
+same-length-4 : tie.Need-same-length-4
+same-length-4 c = search needs
+
+same-length-5 : tie.Need-same-length-5
+same-length-5 c = search needs
+
+returns-6 : tie.Need-returns-6
+returns-6 c =
+    let item = c .before .before .before in
+    let known = item .before .before .before in
+    λ list t other. from-known (known .thread2 .given .1)
+    (holding-looks-up _ _ _ _ _ other _ (known .thread2 .given .0 .0) _ (item .item-of .ensures) _ (c .look-up .ensures))
+
+returns-7 : tie.Need-returns-7
+returns-7 c =
+    let known = c .before .before .before in
+    λ list t other. from-known (known .thread4 .given .1) (written-enters _ _ _ _ _ other _ (known .thread4 .given .0 .0) _ _ (c .enter2 .ensures))
+
+returns-8 : tie.Need-returns-8
+returns-8 c =
+    let known = c .before .before .before .before in
+    let fields = known .thread5 .given .0 in
+    λ list t other. from-known (known .thread5 .given .1)
+    (walking-steps _ _ _ _ _ other _ (fields .0) (fields .1 .0) _ _ _ (c .walk .ensures .1) (c .walk .ensures .0 .0) (c .walk .ensures .0 .1))
+
+pub worker-step-spec : {M : Type 1} → statement M
+worker-step-spec =
+    tie.close
+    (tie.spec
+    enum-told
+    enter-requires
+    enum-told-2
+    enum-known-thread
+    search-requires
+    enum-known-thread-2
+    item-of-requires
+    look-up-requires
+    enum-known-thread-3
+    item-of-requires-2
+    cast-place-of
+    mul-place-of
+    element-copy-out-place-of
+    place-of-requires
+    write-requires
+    same-length
+    same-length-2
+    same-length-3
+    returns
+    enum-known-thread-4
+    enter-requires-2
+    enum-known-thread-5
+    walk-requires
+    enum-known-thread-6
+    clear-own-requires
+    returns-2
+    returns-3
+    returns-4
+    returns-5
+    same-length-4
+    same-length-5
+    returns-6
+    returns-7
+    returns-8)

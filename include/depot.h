@@ -1,0 +1,235 @@
+/* The depot controller for C: opening a list of commands, dealing turns, the panel's two reports and identifiers.
+ * Every call is proved to answer and to leave what is said here, whatever the lists hold, to end, and to stay inside its lists. */
+#ifndef DEPOT_H
+#define DEPOT_H
+
+#include <stddef.h>
+#include <stdint.h>
+
+#ifdef __cplusplus
+extern "C" {
+#endif
+
+/* Words
+ *
+ * The host's words are those of the scope (document 01); the code's stand beside them.
+ *
+ *     party      thread          0 is the loader, 1 and up are the workers
+ *     turn       step            a wait is a turn that changes nothing
+ *     dealing    schedule        party numbers, one byte each, one turn each
+ *     run        state           what the caller keeps between calls, as bytes
+ *     record     node            1 up to the graph size; 0 is the head
+ *     place      sequence number a command's place in its list, from 1
+ *     room       capacity        how many items the store has room for
+ *
+ * Lists
+ *
+ * A list is a pointer and its length in bytes. The caller owns every list and lends it for the time of the call: no call keeps
+ * a pointer, allocates, or frees. Lists are bytes and need no alignment. A number of more than one byte has its high byte first.
+ * A pointer is never null, not even with length 0: pass the address of any object then.
+ * A list that the call writes overlaps no other list of that call. Lists that are only read may overlap each other.
+ * What overlaps, is null or is shorter than its length says is outside what is proved.
+ *
+ *     state      DEPOT_STATE_LENGTH bytes, whatever the settings (layout: docs/STATE-LAYOUT.md)
+ *     keys       8 bytes for each place of the room
+ *     chutes     2 bytes for each place of the room
+ *     answers    2 bytes for each command
+ *     commands   16 bytes for each command: kind (1), identifier (13), chute (2)
+ *
+ * The caller keeps these five between calls and hands them to each call as the last accepted call left them. Keys stand
+ * ascending in the places in use, each with its chute in the same place of chutes; the places after them hold 0 in both. Key 0
+ * is a real item, so a place is in use if its chute is not 0.
+ *
+ * Answers and refusals
+ *
+ * Each call returns 0 for accepted, else the number of a refusal plus 256 times the place of the command refused (place 0: none;
+ * only depot_open names one). The bits from 32 on are kept free: take an answer apart by depot_number and depot_place.
+ * A refusal leaves every byte of every list as it was.
+ *
+ * Threads of the host, and stack
+ *
+ * A call touches the lists lent to it and its own stack, nothing else: there is no global state, and no call waits. Calls from
+ * several threads of the host are safe if none writes a list that another one has at the same time.
+ * A call needs at most DEPOT_STACK_USE bytes of stack (measured by tests/stack.c, not proved).
+ *
+ * Linking
+ *
+ * The archive is libdepot_c.a, for x86-64 and the System V calling convention; of the C library it uses memcpy and memset.
+ * `pkg-config --cflags --libs depot` gives the flags. */
+
+enum {
+    DEPOT_STATE_LENGTH = 4715,
+    DEPOT_COUNTS_LENGTH = 150,
+    DEPOT_STATUS_LENGTH = 128,
+    DEPOT_KEY_LENGTH = 8,
+    DEPOT_CHUTE_LENGTH = 2,
+    DEPOT_ANSWER_LENGTH = 2,
+    DEPOT_COMMAND_LENGTH = 16,
+    DEPOT_IDENTIFIER_LENGTH = 13,
+    DEPOT_MOST_NODES = 150,     /* graph size: 1 to 150 */
+    DEPOT_MOST_WORKERS = 64,    /* workers: 1 to 64 */
+    DEPOT_MOST_CAPACITY = 4096, /* room: 1 to 4,096 */
+    DEPOT_MOST_COMMANDS = 4096, /* commands: 0 to 4,096 */
+    DEPOT_MOST_CHUTE = 512,     /* chute of an insert or update: 1 to 512 */
+    DEPOT_STACK_USE = 131072
+};
+
+#define DEPOT_LARGEST_KEY UINT64_C(45697599999999)
+
+/* Refusals by number. */
+enum depot_refusal {
+    DEPOT_ACCEPTED = 0,
+    DEPOT_WRONG_GRAPH_SIZE = 1,  /* not 1 to 150 */
+    DEPOT_WRONG_WORKERS = 2,     /* not 1 to 64 */
+    DEPOT_WRONG_CAPACITY = 3,    /* room not 1 to 4,096 */
+    DEPOT_WRONG_LIST_LENGTH = 4, /* length of the commands no multiple of 16 */
+    DEPOT_TOO_MANY_COMMANDS = 5, /* over 4,096 */
+    DEPOT_WRONG_LENGTH = 6,      /* another list of a wrong length */
+    DEPOT_UNKNOWN_KIND = 7,      /* kind not 1 to 4 */
+    DEPOT_MALFORMED = 8,         /* identifier: length, letter or digit wrong */
+    DEPOT_WRONG_CHECK_DIGIT = 9, /* identifier: check digit wrong */
+    DEPOT_WRONG_CHUTE = 10,      /* insert, update: not 1 to 512; delete, read: not 0 */
+    DEPOT_UNKNOWN_THREAD = 11,   /* party above the worker count */
+    DEPOT_WRONG_STATE = 12,      /* a handed-back run that breaks its layout, docs/STATE-LAYOUT.md */
+    DEPOT_KEY_TOO_LARGE = 12     /* the same number, of depot_write_identifier: key above DEPOT_LARGEST_KEY */
+};
+
+/* Kinds of command. */
+enum depot_kind { DEPOT_INSERT = 1, DEPOT_DELETE = 2, DEPOT_READ = 3, DEPOT_UPDATE = 4 };
+
+/* Answers to a command; 1 to 512 is the chute that a read found. */
+enum depot_answer {
+    DEPOT_NOT_YET = 0,
+    DEPOT_DONE = 1000,
+    DEPOT_ALREADY_PRESENT = 1001, /* insert */
+    DEPOT_NO_SUCH_ITEM = 1002,    /* delete, read, update */
+    DEPOT_STORE_FULL = 1003       /* insert */
+};
+
+/* States of a party. The loader is idle or loading, a worker anything but loading. */
+enum depot_thread_state {
+    DEPOT_IDLE = 0,
+    DEPOT_LOADING = 1,
+    DEPOT_SEARCHING = 2,
+    DEPOT_HOLDING = 3,
+    DEPOT_LOOKED_UP = 4,
+    DEPOT_WRITTEN = 5,
+    DEPOT_WALKING = 6,
+    DEPOT_CLEARING = 7
+};
+
+/* The number of a call's answer, 0 for accepted. */
+static inline unsigned depot_number(uint64_t answer)
+{
+    return (unsigned)(answer & 255u);
+}
+
+/* The place of the command that a call refused, 0 for none. */
+static inline uint32_t depot_place(uint64_t answer)
+{
+    return (uint32_t)(answer >> 8 & 0xffffffu);
+}
+
+/* The two-byte number of an entry, from 0, of a list of chutes or answers. */
+static inline unsigned depot_short_at(const uint8_t *list, size_t entry)
+{
+    return (unsigned)list[2 * entry] << 8 | list[2 * entry + 1];
+}
+
+/* The key of an entry, from 0, of a list of keys. */
+static inline uint64_t depot_key_at(const uint8_t *keys, size_t entry)
+{
+    uint64_t key = 0;
+    size_t i;
+    for (i = 0; i < 8; i++)
+        key = key << 8 | keys[8 * entry + i];
+    return key;
+}
+
+/* Opens a list of commands: the state's bytes are those of a run with an empty chain and all parties idle; keys, chutes and
+ * answers are set to 0. Their contents before do not matter.
+ *
+ * Writes state, keys, chutes, answers; reads commands. size is the graph size, capacity the room.
+ * Refuses 1 to 6 in this order, then each command in order for 7 to 10, with its place. 6: state is not 4,715 bytes long, keys
+ * not 8 × capacity, chutes not 2 × capacity, or answers not 2 × the number of commands.
+ *
+ *     uint8_t state[DEPOT_STATE_LENGTH], keys[8 * 4], chutes[2 * 4], answers[2 * 1];
+ *     const uint8_t commands[16] = {DEPOT_INSERT, 'A', 'A', '0', '0', '0', '0', '0', '0', '0', '0', '5', 'A', 'A', 0, 7};
+ *     uint64_t answer = depot_open(state, sizeof state, keys, sizeof keys, chutes, sizeof chutes, answers, sizeof answers,
+ *                                  commands, sizeof commands, 2, 1, 4); */
+uint64_t depot_open(uint8_t *state, size_t state_length, uint8_t *keys, size_t keys_length, uint8_t *chutes,
+                    size_t chutes_length, uint8_t *answers, size_t answers_length, const uint8_t *commands,
+                    size_t commands_length, uint64_t size, uint64_t workers, uint64_t capacity);
+
+/* Performs a dealing: one turn for each byte of schedule, in order. It is checked whole before its first turn; an empty one
+ * changes nothing. However turns are dealt, each answer once given, and the store when all is done, are those of the commands
+ * run one after another, and from every run that dealings reach there is a dealing that finishes.
+ *
+ * Writes state, keys, chutes, answers; reads commands (those of the opening) and schedule.
+ * Refuses 6 (a length that is not the opening's, by the state's own settings), then 12 (the state breaks its layout), then 11
+ * (a party above the worker count). A state that passes these tests, though no dealing leads to it, gets a call that ends and
+ * stays inside its lists; what it leaves there is open.
+ *
+ *     const uint8_t schedule[] = {0, 0, 1, 1, 1, 1};  (two turns of the loader, four of worker 1)
+ *     uint64_t answer = depot_advance(state, sizeof state, keys, sizeof keys, chutes, sizeof chutes, answers, sizeof answers,
+ *                                     commands, sizeof commands, schedule, sizeof schedule);
+ *     if (answer == 0 && depot_short_at(answers, 0) == DEPOT_DONE)
+ *         puts("inserted"); */
+uint64_t depot_advance(uint8_t *state, size_t state_length, uint8_t *keys, size_t keys_length, uint8_t *chutes,
+                       size_t chutes_length, uint8_t *answers, size_t answers_length, const uint8_t *commands,
+                       size_t commands_length, const uint8_t *schedule, size_t schedule_length);
+
+/* The panel report (pending counts): for each record in the chain, in chain order, how many records it waits for, one byte each;
+ * 0 after the last. A record that waits for none is 0 too, so the counts do not say how long the chain is.
+ *
+ * Writes counts, DEPOT_COUNTS_LENGTH bytes; reads the rest.
+ * Refuses 6 (as depot_advance, and for the length of counts), then 12.
+ *
+ *     uint8_t counts[DEPOT_COUNTS_LENGTH];
+ *     uint64_t answer = depot_pending_counts(state, sizeof state, keys, sizeof keys, chutes, sizeof chutes,
+ *                                            answers, sizeof answers, commands, sizeof commands, counts, sizeof counts);
+ *     if (answer == 0)
+ *         printf("the second in the chain waits for %u\n", counts[1]); */
+uint64_t depot_pending_counts(const uint8_t *state, size_t state_length, const uint8_t *keys, size_t keys_length,
+                              const uint8_t *chutes, size_t chutes_length, const uint8_t *answers, size_t answers_length,
+                              const uint8_t *commands, size_t commands_length, uint8_t *counts, size_t counts_length);
+
+/* The standing of each worker (worker status): for worker 1 to 64 two bytes, its state (enum depot_thread_state) and its own
+ * record, 0 where it has none. Workers past the worker count are idle.
+ *
+ * Writes status, DEPOT_STATUS_LENGTH bytes; reads the rest.
+ * Refuses 6 (as depot_advance, and for the length of status), then 12.
+ *
+ *     uint8_t status[DEPOT_STATUS_LENGTH];
+ *     uint64_t answer = depot_worker_status(state, sizeof state, keys, sizeof keys, chutes, sizeof chutes,
+ *                                           answers, sizeof answers, commands, sizeof commands, status, sizeof status);
+ *     if (answer == 0 && status[2 * (1 - 1)] == DEPOT_HOLDING)
+ *         printf("worker 1 holds record %u\n", status[2 * (1 - 1) + 1]); */
+uint64_t depot_worker_status(const uint8_t *state, size_t state_length, const uint8_t *keys, size_t keys_length,
+                             const uint8_t *chutes, size_t chutes_length, const uint8_t *answers, size_t answers_length,
+                             const uint8_t *commands, size_t commands_length, uint8_t *status, size_t status_length);
+
+/* Reads an identifier of 13 characters (without an ending 0) and writes its key, 8 bytes.
+ *
+ * Refuses 6 (key is not 8 bytes long), then 8 (length, letter or digit of text wrong), then 9 (check digit wrong).
+ *
+ *     uint8_t key[DEPOT_KEY_LENGTH];
+ *     uint64_t answer = depot_read_identifier((const uint8_t *)"RR473124829GB", DEPOT_IDENTIFIER_LENGTH, key, sizeof key);
+ *     if (answer == 0)
+ *         printf("key %llu\n", (unsigned long long)depot_key_at(key, 0)); */
+uint64_t depot_read_identifier(const uint8_t *text, size_t text_length, uint8_t *key, size_t key_length);
+
+/* Writes the identifier of a key, 13 characters without an ending 0.
+ *
+ * Refuses 6 (text is not 13 bytes long), then 12 (key above DEPOT_LARGEST_KEY).
+ *
+ *     uint8_t text[DEPOT_IDENTIFIER_LENGTH];
+ *     if (depot_write_identifier(0, text, sizeof text) == 0)
+ *         printf("%.13s\n", (const char *)text);  (prints AA000000005AA) */
+uint64_t depot_write_identifier(uint64_t key, uint8_t *text, size_t text_length);
+
+#ifdef __cplusplus
+}
+#endif
+
+#endif

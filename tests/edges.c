@@ -1,0 +1,497 @@
+/* The C entry points at their limits and beyond: every list is a heap block of exactly its length, so that a memory checker sees
+ * any step outside, and every refused call is held to leave all bytes as they were. Prints what fails; the last line is
+ * 'edges: N checks, M failed'. */
+#include <depot.h>
+
+#include <stdio.h>
+#include <stdlib.h>
+#include <string.h>
+
+struct list {
+    uint8_t *bytes;
+    size_t length;
+};
+
+/* A call's lists: the five that the caller keeps, and one more that is the call's own (schedule, counts or status). */
+enum { STATE, KEYS, CHUTES, ANSWERS, COMMANDS, OWN, LISTS };
+
+struct lists {
+    struct list at[LISTS];
+};
+
+struct settings {
+    uint64_t size, workers, capacity;
+};
+
+enum call { OPEN, ADVANCE, COUNTS, STATUS, CALLS };
+
+static const char *const call_names[] = {"depot_open", "depot_advance", "depot_pending_counts", "depot_worker_status"};
+static unsigned long checks, failures;
+
+static void check(int holds, const char *call, const char *what, unsigned long number)
+{
+    checks++;
+    if (holds)
+        return;
+    failures++;
+    if (failures <= 20)
+        printf("%s: %s (%lu)\n", call, what, number);
+}
+
+/* ---- lists */
+
+static struct list make(size_t length)
+{
+    struct list l = {malloc(length), length};
+    if (l.bytes == NULL) { /* with length 0 too: a null pointer is not for the calls */
+        fprintf(stderr, "edges: no memory\n");
+        exit(EXIT_FAILURE);
+    }
+    if (length > 0)
+        memset(l.bytes, 0xa5, length);
+    return l;
+}
+
+static struct list copy(struct list from, size_t length)
+{
+    struct list l = make(length);
+    size_t shared = length < from.length ? length : from.length;
+    if (shared > 0)
+        memcpy(l.bytes, from.bytes, shared);
+    return l;
+}
+
+static int same(struct list a, struct list b)
+{
+    return a.length == b.length && (a.length == 0 || memcmp(a.bytes, b.bytes, a.length) == 0);
+}
+
+static void resize(struct lists *l, int which, size_t length)
+{
+    struct list old = l->at[which];
+    l->at[which] = copy(old, length);
+    free(old.bytes);
+}
+
+static struct lists make_all(size_t count, size_t capacity)
+{
+    struct lists l;
+    l.at[STATE] = make(DEPOT_STATE_LENGTH);
+    l.at[KEYS] = make(DEPOT_KEY_LENGTH * capacity);
+    l.at[CHUTES] = make(DEPOT_CHUTE_LENGTH * capacity);
+    l.at[ANSWERS] = make(DEPOT_ANSWER_LENGTH * count);
+    l.at[COMMANDS] = make(DEPOT_COMMAND_LENGTH * count);
+    l.at[OWN] = make(0);
+    return l;
+}
+
+static struct lists copy_all(const struct lists *from)
+{
+    struct lists l;
+    for (int i = 0; i < LISTS; i++)
+        l.at[i] = copy(from->at[i], from->at[i].length);
+    return l;
+}
+
+static void free_all(struct lists *l)
+{
+    for (int i = 0; i < LISTS; i++)
+        free(l->at[i].bytes);
+}
+
+/* ---- calls */
+
+#define PASS(l, i) (l)->at[i].bytes, (l)->at[i].length
+#define PASS_KEPT(l) PASS(l, STATE), PASS(l, KEYS), PASS(l, CHUTES), PASS(l, ANSWERS), PASS(l, COMMANDS)
+
+static uint64_t pass(enum call c, struct lists *l, struct settings s)
+{
+    switch (c) {
+    case OPEN:
+        return depot_open(PASS_KEPT(l), s.size, s.workers, s.capacity);
+    case ADVANCE:
+        return depot_advance(PASS_KEPT(l), PASS(l, OWN));
+    case COUNTS:
+        return depot_pending_counts(PASS_KEPT(l), PASS(l, OWN));
+    default:
+        return depot_worker_status(PASS_KEPT(l), PASS(l, OWN));
+    }
+}
+
+/* Makes a call and checks that it leaves what it may not write: everything on a refusal, else what it only reads. */
+static uint64_t call(enum call c, struct lists *l, struct settings s)
+{
+    struct lists old = copy_all(l);
+    uint64_t answer = pass(c, l, s);
+    for (int i = 0; i < LISTS; i++) {
+        int writes = c == COUNTS || c == STATUS ? i == OWN : i < COMMANDS;
+        if (answer != 0 || !writes)
+            check(same(old.at[i], l->at[i]), call_names[c], "changed a list that it may not write", (unsigned long)i);
+    }
+    free_all(&old);
+    return answer;
+}
+
+static void expect(enum call c, struct lists *l, struct settings s, uint64_t wanted, const char *what)
+{
+    uint64_t answer = call(c, l, s);
+    check(answer == wanted, call_names[c], what, (unsigned long)answer);
+}
+
+static const struct settings none = {0, 0, 0};
+
+static void advance(struct lists *l, const uint8_t *schedule, size_t length, uint64_t wanted, const char *what)
+{
+    resize(l, OWN, length);
+    if (length > 0)
+        memcpy(l->at[OWN].bytes, schedule, length);
+    expect(ADVANCE, l, none, wanted, what);
+}
+
+static void report(struct lists *l, enum call c, size_t length, uint64_t wanted, const char *what)
+{
+    resize(l, OWN, length);
+    expect(c, l, none, wanted, what);
+}
+
+/* ---- commands */
+
+static void put_command(struct lists *l, size_t i, enum depot_kind kind, uint64_t key, unsigned chute)
+{
+    uint8_t *c = l->at[COMMANDS].bytes + DEPOT_COMMAND_LENGTH * i;
+    struct list text = make(DEPOT_IDENTIFIER_LENGTH);
+    check(depot_write_identifier(key, text.bytes, text.length) == 0, "depot_write_identifier", "refused", (unsigned long)key);
+    c[0] = (uint8_t)kind;
+    memcpy(c + 1, text.bytes, text.length);
+    c[14] = (uint8_t)(chute / 256);
+    c[15] = (uint8_t)(chute % 256);
+    free(text.bytes);
+}
+
+/* The chute that command i carries, 1 to 512. */
+static unsigned chute_of(size_t i)
+{
+    return (unsigned)(1 + (i + 1) % 512);
+}
+
+/* Opened lists of inserts of keys 0, 1 and on; of other kinds too where mixed. */
+static struct lists opened(size_t count, struct settings s, int mixed)
+{
+    struct lists l = make_all(count, (size_t)s.capacity);
+    for (size_t i = 0; i < count; i++) {
+        enum depot_kind kind = mixed ? (enum depot_kind)(1 + (i % 7) % 4) : DEPOT_INSERT;
+        put_command(&l, i, kind, mixed ? i % 3 : i, kind == DEPOT_INSERT || kind == DEPOT_UPDATE ? chute_of(i) : 0);
+    }
+    expect(OPEN, &l, s, 0, "refused a proper list");
+    return l;
+}
+
+/* ---- the tests */
+
+static void test_empty_lists(void)
+{
+    const struct settings s = {1, 1, 1};
+    const uint8_t schedule[] = {0, 1, 1, 0, 0, 1};
+    struct lists l = opened(0, s, 0), nothing = {{{0, 0}}};
+    advance(&l, schedule, 0, 0, "empty list, empty dealing");
+    advance(&l, schedule, sizeof schedule, 0, "empty list, dealing");
+    report(&l, COUNTS, DEPOT_COUNTS_LENGTH, 0, "empty list");
+    report(&l, STATUS, DEPOT_STATUS_LENGTH, 0, "empty list");
+    free_all(&l);
+    for (int i = 0; i < LISTS; i++)
+        nothing.at[i] = make(0);
+    expect(OPEN, &nothing, s, DEPOT_WRONG_LENGTH, "all lists empty");
+    expect(OPEN, &nothing, none, DEPOT_WRONG_GRAPH_SIZE, "all lists empty, size 0");
+    for (int c = ADVANCE; c < CALLS; c++)
+        expect((enum call)c, &nothing, none, DEPOT_WRONG_LENGTH, "all lists empty");
+    free_all(&nothing);
+}
+
+/* Document 01's example, whole and cut after nine turns. */
+static void test_example(void)
+{
+    const struct settings s = {2, 1, 4};
+    const uint8_t schedule[20] = {0, 0, 0, 0, 0, 1, 1, 1, 1, 1, 1, 1, 1, 1, 1, 1, 1, 1, 1, 1};
+    struct lists l = make_all(2, 4);
+    put_command(&l, 0, DEPOT_INSERT, 0, 7);
+    put_command(&l, 1, DEPOT_READ, 0, 0);
+    expect(OPEN, &l, s, 0, "refused the example");
+    advance(&l, schedule, 9, 0, "nine turns");
+    check(depot_short_at(l.at[ANSWERS].bytes, 0) == DEPOT_DONE, "example", "first answer after nine turns", 0);
+    check(depot_short_at(l.at[ANSWERS].bytes, 1) == DEPOT_NOT_YET, "example", "second answer after nine turns", 0);
+    report(&l, COUNTS, DEPOT_COUNTS_LENGTH, 0, "counts after nine turns");
+    check(l.at[OWN].bytes[0] == 0 && l.at[OWN].bytes[1] == 1 && l.at[OWN].bytes[2] == 0, "example", "counts", 0);
+    report(&l, STATUS, DEPOT_STATUS_LENGTH, 0, "status after nine turns");
+    check(l.at[OWN].bytes[0] == DEPOT_WRITTEN && l.at[OWN].bytes[1] == 1, "example", "status", 0);
+    advance(&l, schedule + 9, 11, 0, "the other turns");
+    check(depot_short_at(l.at[ANSWERS].bytes, 1) == 7, "example", "second answer", 0);
+    check(depot_key_at(l.at[KEYS].bytes, 0) == 0 && depot_short_at(l.at[CHUTES].bytes, 0) == 7, "example", "table", 0);
+    free_all(&l);
+}
+
+/* A dealing that loads as many commands as the graph holds, then has worker 1 remove them one by one from the chain's front. */
+static struct list filling_and_emptying(size_t nodes)
+{
+    struct list d = make(nodes * (nodes + 3) / 2 + nodes * (nodes + 13) / 2);
+    size_t at = 0;
+    for (size_t n = 0; n < nodes; n++)
+        for (size_t i = 0; i < n + 2; i++)
+            d.bytes[at++] = 0;
+    for (size_t left = nodes; left > 0; left--)
+        for (size_t i = 0; i < left + 6; i++)
+            d.bytes[at++] = 1;
+    d.length = at;
+    return d;
+}
+
+static void test_largest(void)
+{
+    const struct settings s = {DEPOT_MOST_NODES, DEPOT_MOST_WORKERS, DEPOT_MOST_CAPACITY};
+    struct lists l = opened(DEPOT_MOST_COMMANDS, s, 0);
+    struct list d = filling_and_emptying(DEPOT_MOST_NODES);
+    for (size_t done = 0; done < DEPOT_MOST_COMMANDS; done += DEPOT_MOST_NODES)
+        advance(&l, d.bytes, d.length, 0, "the largest settings");
+    for (size_t i = 0; i < DEPOT_MOST_COMMANDS; i++) {
+        check(depot_short_at(l.at[ANSWERS].bytes, i) == DEPOT_DONE, "largest", "answer", (unsigned long)i);
+        check(depot_key_at(l.at[KEYS].bytes, i) == i, "largest", "key", (unsigned long)i);
+        check(depot_short_at(l.at[CHUTES].bytes, i) == chute_of(i), "largest", "chute", (unsigned long)i);
+    }
+    report(&l, COUNTS, DEPOT_COUNTS_LENGTH, 0, "the largest settings");
+    report(&l, STATUS, DEPOT_STATUS_LENGTH, 0, "the largest settings");
+    free(d.bytes);
+    free_all(&l);
+}
+
+/* All 65 parties at the largest settings, in a mixed order, with reports between. */
+static void test_all_parties(void)
+{
+    const struct settings s = {DEPOT_MOST_NODES, DEPOT_MOST_WORKERS, DEPOT_MOST_CAPACITY};
+    struct lists l = opened(DEPOT_MOST_COMMANDS, s, 1);
+    uint32_t drawn = 1;
+    for (int calls = 0; calls < 10; calls++) {
+        uint8_t schedule[4000];
+        for (size_t i = 0; i < sizeof schedule; i++) {
+            drawn = drawn * 1664525u + 1013904223u;
+            schedule[i] = (uint8_t)(drawn >> 16 & 1 ? 0 : (drawn >> 17) % 65);
+        }
+        advance(&l, schedule, sizeof schedule, 0, "all parties");
+        report(&l, COUNTS, DEPOT_COUNTS_LENGTH, 0, "all parties");
+        report(&l, STATUS, DEPOT_STATUS_LENGTH, 0, "all parties");
+    }
+    check(depot_short_at(l.at[ANSWERS].bytes, 0) == DEPOT_DONE, "all parties", "first answer", 0);
+    free_all(&l);
+}
+
+static void test_settings(void)
+{
+    static const struct {
+        struct settings s;
+        unsigned wanted;
+    } cases[] = {
+        {{0, 0, 0}, 1},       {{151, 65, 4097}, 1}, {{UINT64_MAX, 1, 1}, 1}, {{256 + 2, 1, 1}, 1}, {{1, 0, 0}, 2},
+        {{150, 65, 4097}, 2}, {{1, 256 + 1, 1}, 2}, {{1, 1, 0}, 3},          {{150, 64, 4097}, 3}, {{1, 1, 65536 + 1}, 3},
+        {{1, 1, 4096}, 6},    {{150, 64, 1}, 0},    {{1, 1, 1}, 0},
+    };
+    struct lists l = make_all(1, 1);
+    put_command(&l, 0, DEPOT_READ, DEPOT_LARGEST_KEY, 0);
+    for (size_t i = 0; i < sizeof cases / sizeof *cases; i++)
+        expect(OPEN, &l, cases[i].s, cases[i].wanted, "settings");
+    free_all(&l);
+}
+
+/* Refusals 7 to 10 with the place of the command, first and last. */
+static void test_places(void)
+{
+    static const struct {
+        size_t offset;
+        uint8_t value;
+        unsigned wanted;
+    } cases[] = {{0, 0, 7},  {0, 5, 7},    {0, 255, 7}, {2, 'a', 8}, {3, ':', 8},
+                 {13, 0, 8}, {11, '4', 9}, {14, 2, 10}, {15, 0, 10}};
+    const struct settings s = {1, 1, 1};
+    struct lists l = opened(DEPOT_MOST_COMMANDS, s, 0);
+    for (size_t i = 0; i < sizeof cases / sizeof *cases; i++)
+        for (size_t place = 1; place <= DEPOT_MOST_COMMANDS; place += DEPOT_MOST_COMMANDS - 1) {
+            uint8_t *b = l.at[COMMANDS].bytes + DEPOT_COMMAND_LENGTH * (place - 1) + cases[i].offset, old = *b;
+            uint64_t answer;
+            *b = cases[i].value;
+            answer = call(OPEN, &l, s);
+            check(depot_number(answer) == cases[i].wanted, "depot_open", "number", (unsigned long)answer);
+            check(depot_place(answer) == place, "depot_open", "place", (unsigned long)answer);
+            *b = old;
+        }
+    free_all(&l);
+}
+
+/* Lists of 4,097 entries: too many commands; and a handed-back state that asks for them, or does not. */
+static void test_too_long(void)
+{
+    const struct settings s = {1, 1, DEPOT_MOST_CAPACITY};
+    struct lists l = opened(DEPOT_MOST_COMMANDS, s, 0);
+    uint8_t *state = l.at[STATE].bytes;
+    resize(&l, KEYS, DEPOT_KEY_LENGTH * 4097);
+    resize(&l, CHUTES, DEPOT_CHUTE_LENGTH * 4097);
+    expect(OPEN, &l, s, DEPOT_WRONG_LENGTH, "a key and chute too many");
+    expect(ADVANCE, &l, none, DEPOT_WRONG_LENGTH, "a key and chute too many");
+    state[3] = 1; /* capacity 4,097 */
+    expect(ADVANCE, &l, none, DEPOT_WRONG_STATE, "capacity 4,097");
+    report(&l, COUNTS, DEPOT_COUNTS_LENGTH, DEPOT_WRONG_STATE, "capacity 4,097");
+    report(&l, STATUS, DEPOT_STATUS_LENGTH, DEPOT_WRONG_STATE, "capacity 4,097");
+    resize(&l, ANSWERS, DEPOT_ANSWER_LENGTH * 4097);
+    resize(&l, COMMANDS, DEPOT_COMMAND_LENGTH * 4097);
+    expect(OPEN, &l, s, DEPOT_TOO_MANY_COMMANDS, "4,097 commands");
+    expect(ADVANCE, &l, none, DEPOT_WRONG_LENGTH, "an answer and a command too many");
+    state[5] = 1; /* 4,097 commands */
+    expect(ADVANCE, &l, none, DEPOT_WRONG_STATE, "4,097 commands");
+    free_all(&l);
+}
+
+/* Each list of each call one byte, and one entry, longer and shorter than it should be. */
+static void test_lengths(void)
+{
+    static const size_t entry[LISTS] = {1, DEPOT_KEY_LENGTH, DEPOT_CHUTE_LENGTH, DEPOT_ANSWER_LENGTH, DEPOT_COMMAND_LENGTH, 1};
+    static const size_t own[CALLS] = {0, 3, DEPOT_COUNTS_LENGTH, DEPOT_STATUS_LENGTH};
+    const struct settings s = {3, 2, 4};
+    struct lists base = opened(5, s, 1);
+    for (int c = 0; c < CALLS; c++)
+        for (int i = 0; i < (c == OPEN || c == ADVANCE ? OWN : LISTS); i++)
+            for (int way = 0; way < 4; way++) {
+                struct lists l = copy_all(&base);
+                size_t by = way < 2 ? 1 : entry[i];
+                resize(&l, OWN, own[c]);
+                if (own[c] == 3)
+                    memset(l.at[OWN].bytes, 1, 3);
+                resize(&l, i, way % 2 ? l.at[i].length + by : l.at[i].length - by);
+                expect((enum call)c, &l, s,
+                       c == OPEN && i == COMMANDS && by == 1 ? DEPOT_WRONG_LIST_LENGTH : DEPOT_WRONG_LENGTH,
+                       "a list of a wrong length");
+                free_all(&l);
+            }
+    free_all(&base);
+}
+
+static void test_parties(void)
+{
+    const struct settings s = {3, 2, 4};
+    struct lists l = opened(5, s, 1);
+    const uint8_t good[] = {0, 1, 2}, bad[][3] = {{3, 0, 0}, {0, 0, 3}, {0, 1, 255}};
+    advance(&l, good, sizeof good, 0, "parties 0 to 2");
+    for (size_t i = 0; i < 3; i++)
+        advance(&l, bad[i], 3, DEPOT_UNKNOWN_THREAD, "a party above the worker count");
+    l.at[STATE].bytes[10] = 4; /* first free node above the graph size */
+    advance(&l, bad[0], 3, DEPOT_WRONG_STATE, "12 is tested before 11");
+    resize(&l, KEYS, 0);
+    advance(&l, bad[0], 3, DEPOT_WRONG_LENGTH, "6 is tested before 12");
+    free_all(&l);
+}
+
+/* How often a changed byte got each number. */
+static unsigned long got[13];
+
+/* Lists with one byte changed, handed to every call: the answers agree, and an accepted state is stepped on. */
+static void try_changed(const struct lists *base, int which, size_t offset, uint8_t value)
+{
+    static const uint8_t schedule[] = {0, 1, 2, 1, 2, 0, 2, 1};
+    struct lists l = copy_all(base);
+    uint64_t answer;
+    l.at[which].bytes[offset] = value;
+    resize(&l, OWN, DEPOT_COUNTS_LENGTH);
+    answer = call(COUNTS, &l, none);
+    check(answer == 0 || answer == 6 || answer == 12, "a changed byte", "answer, at offset", (unsigned long)offset);
+    got[depot_number(answer) % 13]++;
+    report(&l, STATUS, DEPOT_STATUS_LENGTH, answer, "a changed byte");
+    if (answer == 0 && l.at[STATE].bytes[1] == 1)
+        answer = DEPOT_UNKNOWN_THREAD; /* one worker, and a turn of party 2 */
+    advance(&l, schedule, sizeof schedule, answer, "a changed byte");
+    free_all(&l);
+}
+
+/* Every byte of a run in the middle of its work, with small values, the graph size, one more, and the largest. */
+static void test_changed_bytes(struct settings s, size_t count, size_t turns)
+{
+    const uint8_t values[] = {0, 1, (uint8_t)s.size, (uint8_t)(s.size + 1), 255};
+    struct lists base = opened(count, s, 1);
+    struct list d = make(turns);
+    for (size_t i = 0; i < turns; i++)
+        d.bytes[i] = (uint8_t)(i < turns / 2 ? 0 : i * 7 % (size_t)(s.workers + 1));
+    advance(&base, d.bytes, turns, 0, "the way to the run");
+    memset(got, 0, sizeof got);
+    for (int which = 0; which < OWN; which++)
+        for (size_t offset = 0; offset < base.at[which].length; offset++)
+            for (size_t v = 0; v < sizeof values; v++)
+                if (base.at[which].bytes[offset] != values[v])
+                    try_changed(&base, which, offset, values[v]);
+    check(got[0] > 0 && got[6] > 0 && got[12] > 0, "changed bytes", "no run was accepted, refused 6 or refused 12", 0);
+    free(d.bytes);
+    free_all(&base);
+}
+
+static void read_as(const char *text, size_t length, size_t key_length, uint64_t wanted, uint64_t wanted_key)
+{
+    struct list t = make(length), key = make(key_length), old = copy(key, key_length);
+    uint64_t answer;
+    if (length > 0)
+        memcpy(t.bytes, text, length);
+    answer = depot_read_identifier(t.bytes, t.length, key.bytes, key.length);
+    check(answer == wanted, "depot_read_identifier", text, (unsigned long)answer);
+    if (wanted == 0)
+        check(depot_key_at(key.bytes, 0) == wanted_key, "depot_read_identifier", "key", 0);
+    else
+        check(same(old, key), "depot_read_identifier", "a refusal changed the key", (unsigned long)answer);
+    free(t.bytes);
+    free(key.bytes);
+    free(old.bytes);
+}
+
+static void write_as(uint64_t key, size_t length, uint64_t wanted, const char *wanted_text)
+{
+    struct list text = make(length), old = copy(text, length);
+    uint64_t answer = depot_write_identifier(key, text.bytes, text.length);
+    check(answer == wanted, "depot_write_identifier", "answer", (unsigned long)answer);
+    if (wanted == 0)
+        check(memcmp(text.bytes, wanted_text, length) == 0, "depot_write_identifier", wanted_text, 0);
+    else
+        check(same(old, text), "depot_write_identifier", "a refusal changed the text", (unsigned long)answer);
+    free(text.bytes);
+    free(old.bytes);
+}
+
+static void test_identifiers(void)
+{
+    read_as("AA000000005AA", 13, 8, 0, 0);
+    read_as("ZZ999999995ZZ", 13, 8, 0, DEPOT_LARGEST_KEY);
+    read_as("Aa000000005AA", 13, 8, DEPOT_MALFORMED, 0);
+    read_as("AA000000004AA", 13, 8, DEPOT_WRONG_CHECK_DIGIT, 0);
+    read_as("AA000000005A", 12, 8, DEPOT_MALFORMED, 0);
+    read_as("AA000000005AAA", 14, 8, DEPOT_MALFORMED, 0);
+    read_as("", 0, 8, DEPOT_MALFORMED, 0);
+    read_as("AA000000005AA", 13, 7, DEPOT_WRONG_LENGTH, 0);
+    read_as("AA000000005AA", 13, 9, DEPOT_WRONG_LENGTH, 0);
+    read_as("", 0, 0, DEPOT_WRONG_LENGTH, 0);
+    write_as(0, 13, 0, "AA000000005AA");
+    write_as(DEPOT_LARGEST_KEY, 13, 0, "ZZ999999995ZZ");
+    write_as(DEPOT_LARGEST_KEY + 1, 13, DEPOT_KEY_TOO_LARGE, "");
+    write_as(UINT64_MAX, 13, DEPOT_KEY_TOO_LARGE, "");
+    write_as(0, 12, DEPOT_WRONG_LENGTH, "");
+    write_as(UINT64_MAX, 14, DEPOT_WRONG_LENGTH, "");
+    write_as(0, 0, DEPOT_WRONG_LENGTH, "");
+}
+
+int main(void)
+{
+    const struct settings small = {5, 3, 4}, large = {DEPOT_MOST_NODES, DEPOT_MOST_WORKERS, 4};
+    test_empty_lists();
+    test_example();
+    test_largest();
+    test_all_parties();
+    test_settings();
+    test_places();
+    test_too_long();
+    test_lengths();
+    test_parties();
+    test_changed_bytes(small, 9, 60);
+    test_changed_bytes(large, 40, 1200);
+    test_identifiers();
+    printf("edges: %lu checks, %lu failed\n", checks, failures);
+    return failures == 0 ? EXIT_SUCCESS : EXIT_FAILURE;
+}

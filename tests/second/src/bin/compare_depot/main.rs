@@ -1,0 +1,33 @@
+//! Compares the calls of the proved code, in the archive that the build linked, and the program
+//! with the second program. Built and run by
+//!
+//!     DEPOT_LIB_DIR=FOLDER cargo run --offline --release --bin compare_depot -- [OPTION...]
+//!
+//! where the folder has the archive `libdepot_c.a`. The options are
+//!
+//!     --seed N         other inputs
+//!     --runs N         as many runs that the seed makes, besides all that is always compared
+//!     --replay FILE    nothing but the input in a file
+//!     --program PATH   the program; without it, that of DEPOT_PROGRAM, else target/bin/depot
+//!
+//! The first input that differs is written to target/failing-case, which --replay takes. The last
+//! two lines say how many inputs of each sort there were, and how many in all. It ends with 0
+//! where nothing differs, 1 where something does, and 2 where it cannot compare.
+
+use std::process::ExitCode;
+
+#[cfg(depot_linked)]
+mod archive;
+#[cfg(depot_linked)]
+mod compare;
+
+#[cfg(depot_linked)]
+fn main() -> ExitCode {
+    compare::main()
+}
+
+#[cfg(not(depot_linked))]
+fn main() -> ExitCode {
+    eprintln!("compare_depot: built without DEPOT_LIB_DIR, so there is nothing to compare");
+    ExitCode::from(2)
+}

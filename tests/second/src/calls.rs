@@ -1,0 +1,347 @@
+//! The public calls on numbers and byte lists, as C makes them: the answer is the refusal number
+//! plus 256 times the place of the refused command, 0 where the call is accepted. A refused call
+//! writes nothing.
+
+use crate::bytes::{self, Lists, MOST_COMMANDS};
+use crate::command::{self, ListRefusal};
+use crate::identifier;
+use crate::refusal::Refusal;
+use crate::run::{Run, Settings};
+
+/// Entries of the pending counts, a byte each.
+pub const COUNTS: usize = 150;
+/// Entries of the worker status, two bytes each.
+pub const STATUSES: usize = 64;
+const STATUS_BYTES: usize = 2;
+
+/// Settings as they are asked for, right or not: graph size, workers and room.
+pub type Asked = [u64; 3];
+
+/// What a call writes of a run.
+pub struct LentLists<'a> {
+    pub state: &'a mut [u8],
+    pub keys: &'a mut [u8],
+    pub chutes: &'a mut [u8],
+    pub answers: &'a mut [u8],
+}
+
+impl LentLists<'_> {
+    /// The lists as they were handed over, with the commands.
+    fn handed<'a>(&'a self, commands: &'a [u8]) -> Lists<'a> {
+        Lists {
+            state: self.state,
+            keys: self.keys,
+            chutes: self.chutes,
+            answers: self.answers,
+            commands,
+        }
+    }
+
+    fn write(&mut self, run: &Run) {
+        bytes::write_state(run, self.state);
+        bytes::write_words(&run.store.keys, self.keys);
+        bytes::write_numbers(&run.store.chutes, self.chutes);
+        bytes::write_numbers(&run.answers, self.answers);
+    }
+}
+
+pub fn open(lent: &mut LentLists, commands: &[u8], settings: Asked) -> u64 {
+    let opened = open_settings(commands, settings)
+        .and_then(|settings| lengths_fit(lent, commands, settings).map(|()| settings))
+        .map_err(outside)
+        .and_then(|settings| {
+            let commands = command::read_list(commands)?;
+            Ok(Run::open(settings, commands))
+        });
+    match opened {
+        Ok(run) => {
+            lent.write(&run);
+            0
+        }
+        Err(refused) => refused.refusal.number() + 256 * refused.seq as u64,
+    }
+}
+
+pub fn advance(lent: &mut LentLists, commands: &[u8], schedule: &[u8]) -> u64 {
+    answer(bytes::read(lent.handed(commands)).and_then(|mut run| {
+        check_schedule(schedule, run.settings.workers)?;
+        run.advance(schedule);
+        lent.write(&run);
+        Ok(())
+    }))
+}
+
+/// How many records each record of the chain waits for, in chain order.
+pub fn pending_counts(lists: Lists, counts: &mut [u8]) -> u64 {
+    answer(report(lists, counts.len() == COUNTS).map(|run| {
+        counts.fill(0);
+        for (count, record) in counts.iter_mut().zip(run.chain()) {
+            let set = run.records.set[usize::from(record)];
+            *count = set.iter().map(|word| word.count_ones() as u8).sum();
+        }
+    }))
+}
+
+/// The state's number and the own record of each worker; those past the worker count are idle.
+pub fn worker_status(lists: Lists, status: &mut [u8]) -> u64 {
+    let fits = status.len() == STATUSES * STATUS_BYTES;
+    answer(report(lists, fits).map(|run| {
+        status.fill(0);
+        let workers = &run.parties[1..=usize::from(run.settings.workers)];
+        for (worker, entry) in workers.iter().zip(status.chunks_mut(STATUS_BYTES)) {
+            entry.copy_from_slice(&bytes::standing(*worker));
+        }
+    }))
+}
+
+pub fn read_identifier(text: &[u8], key: &mut [u8]) -> u64 {
+    if key.len() != bytes::KEY {
+        return Refusal::Length.number();
+    }
+    answer(identifier::read(text).map(|read| key.copy_from_slice(&read.to_be_bytes())))
+}
+
+pub fn write_identifier(key: u64, text: &mut [u8]) -> u64 {
+    answer(identifier::write(key, text))
+}
+
+/// Refusals 1 to 5, in order.
+pub fn open_settings(commands: &[u8], [size, workers, room]: Asked) -> Result<Settings, Refusal> {
+    let settings = bytes::settings(size, workers, room)?;
+    if !commands.len().is_multiple_of(command::LENGTH) {
+        return Err(Refusal::ListLength);
+    }
+    if commands.len() / command::LENGTH > MOST_COMMANDS {
+        return Err(Refusal::TooManyCommands);
+    }
+    Ok(settings)
+}
+
+/// Refusal 11.
+pub fn check_schedule(schedule: &[u8], workers: u8) -> Result<(), Refusal> {
+    if schedule.iter().any(|party| *party > workers) {
+        return Err(Refusal::Party);
+    }
+    Ok(())
+}
+
+/// Refusal 6 of an opening.
+fn lengths_fit(lent: &LentLists, commands: &[u8], settings: Settings) -> Result<(), Refusal> {
+    let room = usize::from(settings.room);
+    let fits = lent.state.len() == bytes::STATE
+        && lent.keys.len() == room * bytes::KEY
+        && lent.chutes.len() == room * bytes::NUMBER
+        && lent.answers.len() == commands.len() / command::LENGTH * bytes::NUMBER;
+    fits.then_some(()).ok_or(Refusal::Length)
+}
+
+/// The run that a report is made of, where the report's list has its length.
+fn report(lists: Lists, fits: bool) -> Result<Run, Refusal> {
+    if !fits {
+        return Err(Refusal::Length);
+    }
+    bytes::read(lists)
+}
+
+/// A refusal of no command: its place is 0.
+fn outside(refusal: Refusal) -> ListRefusal {
+    ListRefusal { seq: 0, refusal }
+}
+
+fn answer(outcome: Result<(), Refusal>) -> u64 {
+    outcome.map_or_else(Refusal::number, |()| 0)
+}
+
+#[cfg(test)]
+mod tests {
+    use super::*;
+    use crate::bytes::STATE;
+
+    const FIRST: &[u8; 13] = b"AA000000005AA";
+
+    /// The lists of document 01's example: size 2, 1 worker, room 4, an insert and a read.
+    struct Caller {
+        state: Vec<u8>,
+        keys: Vec<u8>,
+        chutes: Vec<u8>,
+        answers: Vec<u8>,
+        commands: Vec<u8>,
+    }
+
+    impl Caller {
+        fn new() -> Caller {
+            Caller {
+                state: vec![9; STATE],
+                keys: vec![9; 32],
+                chutes: vec![9; 8],
+                answers: vec![9; 4],
+                commands: [&[1], &FIRST[..], &[0, 7], &[3], FIRST, &[0, 0]].concat(),
+            }
+        }
+
+        fn opened() -> Caller {
+            let mut caller = Caller::new();
+            assert_eq!(caller.open(2, 1, 4), 0);
+            caller
+        }
+
+        fn lend(&mut self) -> (LentLists<'_>, &[u8]) {
+            let lent = LentLists {
+                state: &mut self.state,
+                keys: &mut self.keys,
+                chutes: &mut self.chutes,
+                answers: &mut self.answers,
+            };
+            (lent, &self.commands)
+        }
+
+        fn open(&mut self, size: u64, workers: u64, room: u64) -> u64 {
+            let (mut lent, commands) = self.lend();
+            open(&mut lent, commands, [size, workers, room])
+        }
+
+        fn advance(&mut self, schedule: &[u8]) -> u64 {
+            let (mut lent, commands) = self.lend();
+            advance(&mut lent, commands, schedule)
+        }
+
+        fn report(&mut self, call: fn(Lists, &mut [u8]) -> u64, out: &mut [u8]) -> u64 {
+            let (lent, commands) = self.lend();
+            call(lent.handed(commands), out)
+        }
+    }
+
+    /// docs/STATE-LAYOUT.md: the fields of a fresh opening; all other bytes are 0.
+    #[test]
+    fn opening_lays_the_first_state_out() {
+        let caller = Caller::opened();
+        assert_eq!(
+            caller.state[..14],
+            [2, 1, 0, 4, 0, 2, 0, 0, 0, 0, 1, 0, 2, 0]
+        );
+        assert!(caller.state[14..].iter().all(|byte| *byte == 0));
+        assert_eq!((caller.keys, caller.chutes), (vec![0; 32], vec![0; 8]));
+        assert_eq!(caller.answers, [0; 4]);
+    }
+
+    /// Document 01, marked case (l), in bytes: the worker has written the insert, the read waits.
+    #[test]
+    fn the_example_after_9_turns_in_bytes() {
+        let mut caller = Caller::opened();
+        assert_eq!(caller.advance(&[0, 0, 0, 0, 0, 1, 1, 1, 1]), 0);
+        assert_eq!(caller.answers, [3, 232, 0, 0]);
+        assert_eq!(caller.chutes, [0, 7, 0, 0, 0, 0, 0, 0]);
+        assert_eq!(
+            caller.state[..14],
+            [2, 1, 0, 4, 0, 2, 0, 2, 0, 1, 0, 1, 2, 0]
+        );
+        assert_eq!(caller.state[162..168], [0, 0, 0, 1, 0, 2]);
+        assert_eq!(caller.state[464..467], [0, 1, 0]);
+        assert_eq!(caller.state[766 + 48..][..8], [0, 0, 0, 0, 0, 0, 0, 2]);
+        assert_eq!(caller.state[4395..4400], [5, 0, 1, 0, 0]);
+        let mut counts = [9; COUNTS];
+        assert_eq!(caller.report(pending_counts, &mut counts), 0);
+        assert_eq!(counts[..3], [0, 1, 0]);
+        let mut status = [9; 128];
+        assert_eq!(caller.report(worker_status, &mut status), 0);
+        assert_eq!(status[..4], [5, 1, 0, 0]);
+    }
+
+    /// Document 01, "Numbers of refusal": opening tests 1 to 6 in order, then the commands.
+    #[test]
+    fn opening_tests_in_order_and_writes_nothing() {
+        let mut caller = Caller::new();
+        caller.commands[16] = 5;
+        assert_eq!(caller.open(2, 1, 4), 7 + 256 * 2);
+        caller.answers.push(9);
+        assert_eq!(caller.open(2, 1, 4), 6);
+        caller.commands = vec![0; 65_552];
+        assert_eq!(caller.open(2, 1, 4), 5);
+        caller.commands.push(0);
+        assert_eq!(caller.open(2, 1, 4), 4);
+        assert_eq!(caller.open(2, 1, 4097), 3);
+        assert_eq!(caller.open(2, 65, 4097), 2);
+        assert_eq!(caller.open(151, 65, 4097), 1);
+        let lists = [caller.state, caller.keys, caller.chutes, caller.answers];
+        assert!(lists.concat().iter().all(|byte| *byte == 9));
+    }
+
+    /// Document 01, "Numbers of refusal": a call on a handed-back run tests 6, then 12, then 11.
+    #[test]
+    fn advancing_tests_in_order() {
+        let mut caller = Caller::opened();
+        assert_eq!(caller.advance(&[0, 1, 2]), 11);
+        caller.state[12] = 3;
+        assert_eq!(caller.advance(&[0, 1, 2]), 12);
+        caller.answers.push(0);
+        assert_eq!(caller.advance(&[0, 1, 2]), 6);
+        assert_eq!(
+            caller.state[..14],
+            [2, 1, 0, 4, 0, 2, 0, 0, 0, 0, 1, 0, 3, 0]
+        );
+    }
+
+    /// docs/STATE-LAYOUT.md, last column: one value beyond what each field may hold.
+    #[test]
+    fn a_state_out_of_range_is_refused() {
+        let cases = [
+            (0, 0),
+            (0, 151),
+            (1, 0),
+            (1, 65),
+            (7, 3),
+            (9, 5),
+            (10, 3),
+            (11, 3),
+            (161, 3),
+            (163, 3),
+            (464, 2),
+            (765, 2),
+            (766 + 7, 8),
+            (766, 1),
+            (766 + 23, 1),
+            (4390, 2),
+            (4390, 8),
+            (4391, 1),
+            (4393, 1),
+            (4395, 1),
+            (4395, 8),
+            (4714, 1),
+        ];
+        for (offset, value) in cases {
+            let mut caller = Caller::opened();
+            caller.state[offset] = value;
+            assert_eq!(caller.advance(&[]), 12, "byte {offset} is {value}");
+        }
+    }
+
+    /// Room and count above 4,096 with lists as long as they say are 12, with others 6.
+    #[test]
+    fn lists_are_measured_by_the_state_s_own_settings() {
+        let mut caller = Caller::opened();
+        caller.state[2..4].copy_from_slice(&4097_u16.to_be_bytes());
+        assert_eq!(caller.advance(&[]), 6);
+        caller.keys.resize(4097 * 8, 0);
+        caller.chutes.resize(4097 * 2, 0);
+        assert_eq!(caller.advance(&[]), 12);
+    }
+
+    #[test]
+    fn a_store_that_does_not_ascend_is_refused() {
+        let mut caller = Caller::opened();
+        caller.state[9] = 2;
+        assert_eq!(caller.advance(&[]), 12);
+        caller.keys[15] = 1;
+        assert_eq!(caller.advance(&[]), 0);
+    }
+
+    #[test]
+    fn an_identifier_is_read_into_eight_bytes() {
+        let mut key = [9; 8];
+        assert_eq!(read_identifier(b"AA000000014AA", &mut key[..7]), 6);
+        assert_eq!(read_identifier(b"AA000000015AA", &mut key), 9);
+        assert_eq!(key, [9; 8]);
+        assert_eq!(read_identifier(b"AA000000014AA", &mut key), 0);
+        assert_eq!(u64::from_be_bytes(key), 676);
+    }
+}

@@ -1,0 +1,57 @@
+//! The calls of the proved code that are compared, on numbers and byte lists as C makes them.
+
+use crate::bytes::Lists;
+use crate::calls::{self, Asked, LentLists};
+use crate::program;
+
+/// The compared calls; the proved code and the second program each give them. Each answers its
+/// refusal number plus 256 times the place, 0 for accepted.
+pub trait Depot {
+    fn open(&self, lent: &mut LentLists, commands: &[u8], settings: Asked) -> u64;
+
+    fn advance(&self, lent: &mut LentLists, commands: &[u8], schedule: &[u8]) -> u64;
+
+    fn pending_counts(&self, lists: Lists, counts: &mut [u8]) -> u64;
+
+    fn worker_status(&self, lists: Lists, status: &mut [u8]) -> u64;
+
+    fn read_identifier(&self, text: &[u8], key: &mut [u8]) -> u64;
+
+    fn write_identifier(&self, key: u64, text: &mut [u8]) -> u64;
+
+    /// What the program prints for this input.
+    fn program(&self, input: &[u8]) -> Vec<u8>;
+}
+
+/// The second program's own calls.
+pub struct Second;
+
+impl Depot for Second {
+    fn open(&self, lent: &mut LentLists, commands: &[u8], settings: Asked) -> u64 {
+        calls::open(lent, commands, settings)
+    }
+
+    fn advance(&self, lent: &mut LentLists, commands: &[u8], schedule: &[u8]) -> u64 {
+        calls::advance(lent, commands, schedule)
+    }
+
+    fn pending_counts(&self, lists: Lists, counts: &mut [u8]) -> u64 {
+        calls::pending_counts(lists, counts)
+    }
+
+    fn worker_status(&self, lists: Lists, status: &mut [u8]) -> u64 {
+        calls::worker_status(lists, status)
+    }
+
+    fn read_identifier(&self, text: &[u8], key: &mut [u8]) -> u64 {
+        calls::read_identifier(text, key)
+    }
+
+    fn write_identifier(&self, key: u64, text: &mut [u8]) -> u64 {
+        calls::write_identifier(key, text)
+    }
+
+    fn program(&self, input: &[u8]) -> Vec<u8> {
+        program::output(input).into_bytes()
+    }
+}

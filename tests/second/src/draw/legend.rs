@@ -1,0 +1,98 @@
+//! The legend: each sign of the picture with its meaning, in lines as wide as the page.
+
+use super::rows::{draw_arrow, draw_block, draw_cross, draw_diamond, draw_freed};
+use super::svg::Svg;
+use super::{LINE, Page, RIGHT, notes, width};
+
+/// Where the legend begins if there is no note.
+pub const TOP: f64 = 68.0;
+/// Room for a sign, and between two entries.
+const SIGN: f64 = 26.0;
+const SPACE: f64 = 20.0;
+
+/// A sign of the picture.
+#[derive(Clone, Copy)]
+enum Sign {
+    Bar(&'static str),
+    Lock,
+    Block,
+    Turn,
+    Writing,
+    Wait,
+    Arrow,
+    Freed,
+}
+
+const ENTRIES: [(Sign, &str); 13] = [
+    (Sign::Bar("loading"), "being loaded"),
+    (
+        Sign::Bar("waiting"),
+        "in the chain, waits for other commands",
+    ),
+    (Sign::Bar("ready"), "in the chain, may be taken"),
+    (Sign::Bar("executing"), "a worker has it (its colour below)"),
+    (
+        Sign::Bar("clearing"),
+        "out of the chain, its worker takes it out of the others' sets",
+    ),
+    (Sign::Bar("searching"), "a worker searches the chain"),
+    (Sign::Lock, "locked, by the party named (L: the loader)"),
+    (Sign::Turn, "a turn of this party"),
+    (Sign::Writing, "the writing turn, with the answer"),
+    (
+        Sign::Wait,
+        "a wait, and why: number of the locked record, H head locked, F no record free, \
+         E every command loaded",
+    ),
+    (Sign::Block, "a turn waited for this lock"),
+    (Sign::Arrow, "begins to wait for the command it points at"),
+    (Sign::Freed, "that wait ends"),
+];
+
+/// The height of the legend on a page of this width.
+pub fn height(page: f64) -> f64 {
+    places(page).last().map_or(0.0, |(_, y)| y + LINE)
+}
+
+impl Page<'_> {
+    pub fn draw_legend(&self, svg: &mut Svg) {
+        let top = TOP + LINE * notes(self.input, &self.trace).len() as f64;
+        for ((sign, words), (x, y)) in ENTRIES.iter().zip(places(self.width)) {
+            draw_sign(svg, *sign, x, top + y + LINE / 2.0);
+            svg.text("cell", x + SIGN, top + y + LINE / 2.0 + 4.0, words);
+        }
+    }
+}
+
+/// Where each entry stands, from the legend's top left.
+fn places(page: f64) -> Vec<(f64, f64)> {
+    let [mut x, mut y] = [RIGHT, 0.0];
+    let mut places = Vec::new();
+    for (_, words) in ENTRIES {
+        let length = SIGN + width(words, 11.0) + SPACE;
+        if x + length > page && x > RIGHT {
+            [x, y] = [RIGHT, y + LINE];
+        }
+        places.push((x, y));
+        x += length;
+    }
+    places
+}
+
+/// Draws a sign whose middle line is at `y`.
+fn draw_sign(svg: &mut Svg, sign: Sign, x: f64, y: f64) {
+    let middle = x + 10.0;
+    match sign {
+        Sign::Bar(class) => svg.rect(class, [x, y - 6.0, 20.0, 12.0]),
+        Sign::Lock => {
+            svg.rect("p1", [x, y - 5.0, 20.0, 10.0]);
+            svg.text("onlock", middle, y + 3.0, "1");
+        }
+        Sign::Block => draw_block(svg, middle, y + 3.0),
+        Sign::Turn => svg.circle("p1", middle, y, 3.5),
+        Sign::Writing => draw_diamond(svg, middle, y),
+        Sign::Wait => draw_cross(svg, middle, y),
+        Sign::Arrow => draw_arrow(svg, middle, y + 7.0, y - 7.0),
+        Sign::Freed => draw_freed(svg, middle, y - 7.0, y + 4.0),
+    }
+}

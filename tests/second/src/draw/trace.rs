@@ -1,0 +1,409 @@
+//! What happened in a run, turn by turn: who had each turn and what became of it, how things stood
+//! after it, and the life of each command.
+
+use crate::run::{HEAD, Party, Records, Run};
+use crate::text::input::Input;
+
+/// How records and parties stand after a turn.
+#[derive(Clone, Debug)]
+pub struct Frame {
+    pub loaded: u16,
+    pub records: Records,
+    pub parties: Vec<Party>,
+}
+
+/// One turn.
+#[derive(Clone, Copy, Debug, PartialEq, Eq)]
+pub struct Turn {
+    pub party: u8,
+    pub outcome: Outcome,
+}
+
+#[derive(Clone, Copy, Debug, PartialEq, Eq)]
+pub enum Outcome {
+    Step,
+    /// The writing turn of a record's command, with the answer.
+    Wrote {
+        record: u8,
+        answer: u16,
+    },
+    Wait(Reason),
+}
+
+/// Why a turn was a wait.
+#[derive(Clone, Copy, Debug, PartialEq, Eq)]
+pub enum Reason {
+    Locked(u8),
+    NoRecordFree,
+    EveryCommandLoaded,
+}
+
+/// Where a record is in its life; executing and clearing are a worker's doing.
+#[derive(Clone, Copy, Debug, PartialEq, Eq)]
+pub enum Phase {
+    Unused,
+    Loading,
+    /// Linked, with records that it waits for.
+    Waiting,
+    /// Linked, and may be taken.
+    Ready,
+    Executing(u8),
+    Clearing(u8),
+}
+
+/// The turns at which things happened to a command.
+#[derive(Clone, Debug, Default, PartialEq, Eq)]
+pub struct Life {
+    pub record: u8,
+    pub loaded: usize,
+    pub linked: Option<usize>,
+    /// The commands waited for, by place, with the turn at which each wait began and ended.
+    pub waits: Vec<Wait>,
+    pub taken: Option<(usize, u8)>,
+    pub written: Option<(usize, u16)>,
+    pub removed: Option<usize>,
+}
+
+#[derive(Clone, Copy, Debug, PartialEq, Eq)]
+pub struct Wait {
+    pub place: u16,
+    pub record: u8,
+    pub from: usize,
+    pub until: Option<usize>,
+}
+
+/// A value that stays the same from one turn to another, both included.
+#[derive(Clone, Debug, PartialEq, Eq)]
+pub struct Span<T> {
+    pub value: T,
+    pub first: usize,
+    pub last: usize,
+}
+
+/// The first turns of a run. `frames[t]` is how things stand after turn t, from 1 on.
+pub struct Trace {
+    pub frames: Vec<Frame>,
+    pub turns: Vec<Turn>,
+    /// One for each command that was loaded, in order.
+    pub lives: Vec<Life>,
+}
+
+impl Trace {
+    /// Runs an input for at most so many turns.
+    pub fn of(input: &Input, most: usize) -> Trace {
+        let mut run = Run::open(input.settings, input.commands.clone());
+        let mut frames = vec![Frame::of(&run)];
+        let mut turns = Vec::new();
+        for party in input.schedule.iter().take(most) {
+            let outcome = take_turn(&mut run, *party);
+            turns.push(Turn {
+                party: *party,
+                outcome,
+            });
+            frames.push(Frame::of(&run));
+        }
+        let mut trace = Trace {
+            frames,
+            turns,
+            lives: Vec::new(),
+        };
+        for turn in 1..trace.frames.len() {
+            trace.follow(turn);
+        }
+        trace
+    }
+
+    /// The stretches of turns over which a value of the frame stays the same.
+    pub fn spans<T: PartialEq>(&self, value: impl Fn(&Frame) -> T) -> Vec<Span<T>> {
+        let mut spans: Vec<Span<T>> = Vec::new();
+        for (turn, frame) in self.frames.iter().enumerate().skip(1) {
+            let value = value(frame);
+            match spans.last_mut() {
+                Some(span) if span.value == value => span.last = turn,
+                _ => spans.push(Span {
+                    value,
+                    first: turn,
+                    last: turn,
+                }),
+            }
+        }
+        spans
+    }
+
+    /// The records that are ever used, in order.
+    pub fn records_used(&self) -> Vec<u8> {
+        let used = |record: &u8| self.lives.iter().any(|life| life.record == *record);
+        (1..=150).filter(used).collect()
+    }
+
+    /// Enters into the lives what a turn changed.
+    fn follow(&mut self, turn: usize) {
+        let [before, after] = [&self.frames[turn - 1], &self.frames[turn]];
+        if after.loaded > before.loaded {
+            let record = before.records.free;
+            self.lives.push(Life {
+                record,
+                loaded: turn,
+                ..Life::default()
+            });
+        }
+        for life in self.lives.iter_mut().filter(|life| life.removed.is_none()) {
+            follow_life(life, turn, before, after);
+            match self.turns[turn - 1].outcome {
+                Outcome::Wrote { record, answer } if record == life.record => {
+                    life.written = Some((turn, answer));
+                }
+                _ => {}
+            }
+        }
+    }
+}
+
+impl Frame {
+    fn of(run: &Run) -> Frame {
+        Frame {
+            loaded: run.loaded,
+            records: run.records.clone(),
+            parties: run.parties.to_vec(),
+        }
+    }
+
+    pub fn place(&self, record: u8) -> u16 {
+        self.records.place[usize::from(record)]
+    }
+
+    /// The party that stands on a record and has it locked.
+    pub fn locked_by(&self, record: u8) -> Option<u8> {
+        let stands = |party: &Party| stands_on(*party) == Some(record);
+        self.parties
+            .iter()
+            .position(stands)
+            .map(|party| party as u8)
+    }
+
+    /// The records that a record waits for.
+    pub fn waits_for(&self, record: u8) -> Vec<u8> {
+        let set = self.records.set[usize::from(record)];
+        let member = |other: &u8| set[usize::from(other / 64)] >> (other % 64) & 1 == 1;
+        (1..=150).filter(member).collect()
+    }
+
+    pub fn phase(&self, record: u8) -> Phase {
+        let owner = self
+            .parties
+            .iter()
+            .position(|party| own(*party) == Some(record));
+        match owner {
+            Some(0) => Phase::Loading,
+            Some(owner) => match self.parties[owner] {
+                Party::Clearing { .. } => Phase::Clearing(owner as u8),
+                _ => Phase::Executing(owner as u8),
+            },
+            None if self.place(record) == 0 => Phase::Unused,
+            None if self.waits_for(record).is_empty() => Phase::Ready,
+            None => Phase::Waiting,
+        }
+    }
+}
+
+fn take_turn(run: &mut Run, party: u8) -> Outcome {
+    let before = run.parties[usize::from(party)];
+    if !run.turn(party) {
+        return Outcome::Wait(reason(run, party));
+    }
+    match before {
+        Party::LookedUp { own, .. } => {
+            let place = usize::from(run.records.place[usize::from(own)]);
+            Outcome::Wrote {
+                record: own,
+                answer: run.answers[place - 1],
+            }
+        }
+        _ => Outcome::Step,
+    }
+}
+
+/// Why a party's turn was a wait, which changed nothing.
+fn reason(run: &Run, party: u8) -> Reason {
+    let now = run.parties[usize::from(party)];
+    match stands_on(now) {
+        Some(at) => Reason::Locked(run.records.next[usize::from(at)]),
+        None if party > 0 => Reason::Locked(HEAD),
+        None if usize::from(run.loaded) == run.commands.len() => Reason::EveryCommandLoaded,
+        None if run.records.free == 0 => Reason::NoRecordFree,
+        None => Reason::Locked(HEAD),
+    }
+}
+
+fn follow_life(life: &mut Life, turn: usize, before: &Frame, after: &Frame) {
+    let phase = after.phase(life.record);
+    if life.linked.is_none() && phase != Phase::Loading {
+        life.linked = Some(turn);
+    }
+    match phase {
+        Phase::Executing(worker) if life.taken.is_none() => life.taken = Some((turn, worker)),
+        Phase::Unused => life.removed = Some(turn),
+        _ => {}
+    }
+    let now = after.waits_for(life.record);
+    for wait in life.waits.iter_mut().filter(|wait| wait.until.is_none()) {
+        if !now.contains(&wait.record) {
+            wait.until = Some(turn);
+        }
+    }
+    let earlier = before.waits_for(life.record);
+    for record in now.into_iter().filter(|record| !earlier.contains(record)) {
+        let place = after.place(record);
+        life.waits.push(Wait {
+            place,
+            record,
+            from: turn,
+            until: None,
+        });
+    }
+}
+
+fn stands_on(party: Party) -> Option<u8> {
+    match party {
+        Party::Loading { at, .. }
+        | Party::Searching { at }
+        | Party::Walking { at, .. }
+        | Party::Clearing { at, .. } => Some(at),
+        Party::Idle | Party::Holding { .. } | Party::LookedUp { .. } | Party::Written { .. } => {
+            None
+        }
+    }
+}
+
+fn own(party: Party) -> Option<u8> {
+    match party {
+        Party::Loading { own, .. }
+        | Party::Holding { own }
+        | Party::LookedUp { own, .. }
+        | Party::Written { own }
+        | Party::Walking { own, .. }
+        | Party::Clearing { own, .. } => Some(own),
+        Party::Idle | Party::Searching { .. } => None,
+    }
+}
+
+#[cfg(test)]
+mod tests {
+    use super::*;
+    use crate::command::{Command, Kind};
+    use crate::run::Settings;
+
+    fn command(kind: Kind, chute: u16) -> Command {
+        Command {
+            kind,
+            key: 0,
+            chute,
+        }
+    }
+
+    fn trace(size: u8, workers: u8, commands: Vec<Command>, schedule: &[u8]) -> Trace {
+        let settings = Settings {
+            size,
+            workers,
+            room: 4,
+        };
+        let schedule = schedule.to_vec();
+        Trace::of(
+            &Input {
+                settings,
+                commands,
+                schedule,
+            },
+            1000,
+        )
+    }
+
+    /// Document 01, the program's example.
+    fn example() -> Trace {
+        let commands = vec![command(Kind::Insert, 7), command(Kind::Read, 0)];
+        trace(2, 1, commands, &[[0; 5].as_slice(), &[1; 15]].concat())
+    }
+
+    #[test]
+    fn the_lives_of_the_example_are_those_of_its_turns() {
+        let wait = Wait {
+            place: 1,
+            record: 1,
+            from: 4,
+            until: Some(12),
+        };
+        let first = Life {
+            record: 1,
+            loaded: 1,
+            linked: Some(2),
+            waits: vec![],
+            taken: Some((7, 1)),
+            written: Some((9, 1000)),
+            removed: Some(13),
+        };
+        let second = Life {
+            record: 2,
+            loaded: 3,
+            linked: Some(5),
+            waits: vec![wait],
+            taken: Some((15, 1)),
+            written: Some((17, 7)),
+            removed: Some(20),
+        };
+        assert_eq!(example().lives, [first, second]);
+    }
+
+    #[test]
+    fn the_phases_of_a_record_follow_one_another() {
+        let spans = example().spans(|frame| frame.phase(2));
+        let phases: Vec<(Phase, usize)> =
+            spans.iter().map(|span| (span.value, span.first)).collect();
+        let expected = [
+            (Phase::Unused, 1),
+            (Phase::Loading, 3),
+            (Phase::Waiting, 5),
+            (Phase::Ready, 12),
+            (Phase::Executing(1), 15),
+            (Phase::Clearing(1), 19),
+            (Phase::Unused, 20),
+        ];
+        assert_eq!(phases, expected);
+        assert!(
+            spans
+                .windows(2)
+                .all(|pair| pair[0].last + 1 == pair[1].first)
+        );
+    }
+
+    /// Each reason for a wait, in the order of the turns.
+    #[test]
+    fn each_wait_has_its_reason() {
+        let commands = vec![command(Kind::Insert, 7), command(Kind::Read, 0)];
+        let reasons = |size, schedule: &[u8]| -> Vec<Reason> {
+            let turns = trace(size, 2, commands.clone(), schedule).turns;
+            let reason = |turn: Turn| match turn.outcome {
+                Outcome::Wait(reason) => Some(reason),
+                _ => None,
+            };
+            turns.into_iter().filter_map(reason).collect()
+        };
+        assert_eq!(
+            reasons(1, &[0, 1, 0, 0]),
+            [Reason::Locked(0), Reason::NoRecordFree]
+        );
+        assert_eq!(reasons(2, &[0, 0, 1, 0]), [Reason::Locked(0)]);
+        assert_eq!(
+            reasons(2, &[0, 0, 0, 0, 1, 1, 0, 0]),
+            [Reason::Locked(1), Reason::EveryCommandLoaded]
+        );
+    }
+
+    #[test]
+    fn a_lock_names_the_party_that_stands_there() {
+        let trace = example();
+        assert_eq!(trace.frames[4].locked_by(1), Some(0));
+        assert_eq!(trace.frames[4].locked_by(0), None);
+        assert_eq!(trace.frames[12].locked_by(2), Some(1));
+        assert_eq!(trace.frames[4].waits_for(2), [1]);
+    }
+}

@@ -1,0 +1,182 @@
+//! Handed-back lists that were changed: single bytes at every offset, and settings with lists that
+//! fit them or do not. What is accepted is stepped on.
+
+use super::openings::Opening;
+use super::{apart, reports, schedules};
+use crate::bytes::{KEY, NUMBER, STATE};
+use crate::command::LENGTH;
+use crate::play::{Difference, Play};
+use crate::random::Random;
+use crate::script::{List, Step};
+
+/// Offsets that one run changes.
+const OFFSETS: u64 = 24;
+/// Values at and next to bounds of the state's fields.
+const VALUES: [u8; 14] = [0, 1, 2, 3, 4, 5, 6, 7, 8, 64, 65, 150, 151, 255];
+
+/// Changes some bytes of the state, each alone; one run after the other goes over every offset.
+pub fn bytes(number: u64, random: &mut Random, play: &mut Play) -> Result<(), Difference> {
+    middle(random, play)?;
+    for offset in number * OFFSETS..(number + 1) * OFFSETS {
+        let offset = offset as usize % STATE;
+        let value = value(random, play, offset);
+        apart(play, |play| {
+            set(play, List::State, offset, value)?;
+            step_on(random, play)
+        })?;
+    }
+    for _ in 0..4 {
+        apart(play, |play| one_byte(random, play))?;
+    }
+    Ok(())
+}
+
+/// Changes any byte of any list.
+pub fn one_byte(random: &mut Random, play: &mut Play) -> Result<(), Difference> {
+    let list = random.pick(&List::ALL[..5]);
+    let length = play.host().list(list).len() as u64;
+    if length > 0 {
+        play.take(Step::Change {
+            list,
+            offset: random.below(length) as usize,
+            bits: 1 + random.below(255) as u8,
+        })?;
+    }
+    step_on(random, play)
+}
+
+/// Changes settings, counts and keys, with lists of the length that they ask for and of others.
+pub fn settings(random: &mut Random, play: &mut Play) -> Result<(), Difference> {
+    middle(random, play)?;
+    for _ in 0..6 {
+        apart(play, |play| {
+            match random.below(6) {
+                0 | 1 => change_room(random, play)?,
+                2 | 3 => change_count(random, play)?,
+                4 => change_used(random, play)?,
+                _ => change_key(random, play)?,
+            }
+            step_on(random, play)
+        })?;
+    }
+    Ok(())
+}
+
+/// A run that was opened and is somewhere in its middle.
+fn middle(random: &mut Random, play: &mut Play) -> Result<(), Difference> {
+    Opening::any(random).open(play)?;
+    let mut schedule = schedules::any(random, play.host());
+    schedule.truncate(random.below(schedule.len() as u64 + 1) as usize);
+    play.take(Step::Advance(schedule))?;
+    Ok(())
+}
+
+/// Turns and reports on whatever state there is now.
+fn step_on(random: &mut Random, play: &mut Play) -> Result<(), Difference> {
+    let workers = play.host().list(List::State).get(1).copied().unwrap_or(1);
+    let schedule = schedules::some(random, workers.min(64), 60);
+    play.take(Step::Advance(schedule))?;
+    reports(play)?;
+    let schedule = schedules::some(random, workers.min(64), 400);
+    play.take(Step::Advance(schedule))?;
+    Ok(())
+}
+
+/// Another room, in most cases with keys and chutes of its length.
+fn change_room(random: &mut Random, play: &mut Play) -> Result<(), Difference> {
+    let room = another(random, number(play, 2));
+    set_number(play, 2, room)?;
+    for (list, bytes) in [(List::Keys, KEY), (List::Chutes, NUMBER)] {
+        if random.below(8) != 0 {
+            play.take(Step::Resize(list, usize::from(room) * bytes))?;
+        }
+    }
+    Ok(())
+}
+
+/// Another command count, in most cases with commands and answers of its length.
+fn change_count(random: &mut Random, play: &mut Play) -> Result<(), Difference> {
+    let count = another(random, number(play, 4));
+    set_number(play, 4, count)?;
+    for (list, bytes) in [(List::Commands, LENGTH), (List::Answers, NUMBER)] {
+        if random.below(8) != 0 {
+            play.take(Step::Resize(list, usize::from(count) * bytes))?;
+        }
+    }
+    Ok(())
+}
+
+/// Another number of commands loaded or of places used.
+fn change_used(random: &mut Random, play: &mut Play) -> Result<(), Difference> {
+    let offset = random.pick(&[6, 8]);
+    let used = another(
+        random,
+        number(play, offset - 4).min(number(play, offset) + 1),
+    );
+    set_number(play, offset, used)
+}
+
+/// A key of the store made that of its neighbour, or another.
+fn change_key(random: &mut Random, play: &mut Play) -> Result<(), Difference> {
+    let keys = play.host().list(List::Keys);
+    let places = (keys.len() / KEY) as u64;
+    let used = u64::from(number(play, 8)).clamp(1, places);
+    let from = random.below(used) as usize * KEY;
+    let to = random.below(used) as usize * KEY;
+    let key = keys[from..from + KEY].to_vec();
+    for (index, byte) in key.into_iter().enumerate() {
+        set(play, List::Keys, to + index, byte)?;
+    }
+    Ok(())
+}
+
+/// A number at the ends of what is accepted, or next to this one.
+fn another(random: &mut Random, number: u16) -> u16 {
+    let near = [
+        number.saturating_sub(1),
+        number.saturating_add(1),
+        number.saturating_add(20),
+    ];
+    match random.below(4) {
+        0 => random.pick(&[0, 1, 4095, 4096, 4097, 4098]),
+        _ => random.pick(&near),
+    }
+}
+
+/// A value for a byte of the state that it does not have now.
+fn value(random: &mut Random, play: &Play, offset: usize) -> u8 {
+    let state = play.host().list(List::State);
+    let now = state[offset];
+    let value = match random.below(5) {
+        0 => random.pick(&VALUES),
+        1 => random.pick(&[
+            state[0],
+            state[0] + 1,
+            state[1],
+            state[5],
+            state[5].wrapping_add(1),
+        ]),
+        2 => random.pick(&[now.wrapping_add(1), now.wrapping_sub(1)]),
+        3 => now ^ (1 << random.below(8)),
+        _ => random.below(u64::from(state[0]) + 2) as u8,
+    };
+    if value == now { now ^ 1 } else { value }
+}
+
+/// Gives a byte of a list a value.
+fn set(play: &mut Play, list: List, offset: usize, value: u8) -> Result<(), Difference> {
+    let bits = value ^ play.host().list(list)[offset];
+    play.take(Step::Change { list, offset, bits })?;
+    Ok(())
+}
+
+fn number(play: &Play, offset: usize) -> u16 {
+    let state = play.host().list(List::State);
+    u16::from_be_bytes([state[offset], state[offset + 1]])
+}
+
+fn set_number(play: &mut Play, offset: usize, number: u16) -> Result<(), Difference> {
+    let [high, low] = number.to_be_bytes();
+    set(play, List::State, offset, high)?;
+    set(play, List::State, offset + 1, low)
+}

@@ -1,0 +1,149 @@
+//! Schedules of every sort, made by running the second program along.
+
+use crate::host::Host;
+use crate::random::Random;
+use crate::run::{Party, Run};
+
+/// Turns with which a run is brought to its end, at the most.
+const MOST: usize = 20_000;
+
+/// Who gets the next turn.
+enum Policy {
+    Random,
+    /// One party for several turns, then another.
+    Bursty {
+        party: u8,
+        left: u64,
+    },
+    /// All but one.
+    Starving(u8),
+    RoundRobin(u8),
+    /// The loader every other turn.
+    Loading,
+}
+
+impl Policy {
+    fn any(random: &mut Random, workers: u8) -> Policy {
+        match random.below(5) {
+            0 => Policy::Random,
+            1 => Policy::Bursty { party: 0, left: 0 },
+            2 => Policy::Starving(any_party(random, workers)),
+            3 => Policy::RoundRobin(workers),
+            _ => Policy::Loading,
+        }
+    }
+
+    /// One that leaves nobody out.
+    fn fair(random: &mut Random, workers: u8) -> Policy {
+        match random.below(4) {
+            0 => Policy::Random,
+            1 => Policy::Bursty { party: 0, left: 0 },
+            2 => Policy::Loading,
+            _ => Policy::RoundRobin(workers),
+        }
+    }
+
+    fn next(&mut self, random: &mut Random, workers: u8) -> u8 {
+        match self {
+            Policy::Random => any_party(random, workers),
+            Policy::Bursty { party, left: 0 } => {
+                *party = any_party(random, workers);
+                *self = Policy::Bursty {
+                    party: *party,
+                    left: random.below(40),
+                };
+                self.next(random, workers)
+            }
+            Policy::Bursty { party, left } => {
+                *left -= 1;
+                *party
+            }
+            Policy::Starving(party) => {
+                let other = any_party(random, workers);
+                if other == *party {
+                    (other + 1) % (workers + 1)
+                } else {
+                    other
+                }
+            }
+            Policy::RoundRobin(party) => {
+                *party = (*party + 1) % (workers + 1);
+                *party
+            }
+            Policy::Loading => any_party(random, workers) * random.below(2) as u8,
+        }
+    }
+}
+
+/// Turns of one sort, and in most cases on to the end.
+pub fn any(random: &mut Random, host: &Host) -> Vec<u8> {
+    let Some(mut run) = host.run() else {
+        return Vec::new();
+    };
+    let workers = run.settings.workers;
+    let turns = random.below(30 * run.commands.len() as u64 + 50) as usize;
+    let mut policy = Policy::any(random, workers);
+    let mut schedule = deal(random, &mut run, &mut policy, turns);
+    if random.below(4) != 0 {
+        let mut policy = Policy::fair(random, workers);
+        schedule.extend(deal(random, &mut run, &mut policy, MOST));
+    }
+    schedule
+}
+
+/// The loader's turns until no record is free, then turns of one sort.
+pub fn filled(random: &mut Random, host: &Host) -> Vec<u8> {
+    let Some(mut run) = host.run() else {
+        return Vec::new();
+    };
+    let mut schedule = Vec::new();
+    while run.turn(0) {
+        schedule.push(0);
+    }
+    let mut policy = Policy::any(random, run.settings.workers);
+    let turns = random.below(MOST as u64) as usize;
+    schedule.extend(deal(random, &mut run, &mut policy, turns));
+    schedule
+}
+
+/// Turns to the end of the run, or as many as are allowed.
+pub fn to_the_end(random: &mut Random, host: &Host, most: usize) -> Vec<u8> {
+    let Some(mut run) = host.run() else {
+        return Vec::new();
+    };
+    let mut policy = Policy::fair(random, run.settings.workers);
+    deal(random, &mut run, &mut policy, most)
+}
+
+/// Some turns, and who gets them is no matter; few enough for any state.
+pub fn some(random: &mut Random, workers: u8, most: u64) -> Vec<u8> {
+    let turns = random.below(most);
+    (0..turns).map(|_| any_party(random, workers)).collect()
+}
+
+/// Turns one of which goes to a party that is not there.
+pub fn refused(random: &mut Random, host: &Host) -> Vec<u8> {
+    let workers = host.run().map_or(0, |run| run.settings.workers);
+    let mut schedule = some(random, workers, 10);
+    let at = random.below(schedule.len() as u64 + 1) as usize;
+    schedule.insert(at, random.pick(&[workers + 1, workers + 1, 65, 128, 255]));
+    schedule
+}
+
+/// Deals turns until all is done, or as many as are allowed.
+fn deal(random: &mut Random, run: &mut Run, policy: &mut Policy, most: usize) -> Vec<u8> {
+    let mut schedule = Vec::new();
+    let mut finished = run.is_finished();
+    while schedule.len() < most && !finished {
+        let party = policy.next(random, run.settings.workers);
+        // Nothing but a turn after which its party is idle can be the last.
+        let moved = run.turn(party);
+        finished = moved && run.parties[usize::from(party)] == Party::Idle && run.is_finished();
+        schedule.push(party);
+    }
+    schedule
+}
+
+fn any_party(random: &mut Random, workers: u8) -> u8 {
+    random.below(u64::from(workers) + 1) as u8
+}

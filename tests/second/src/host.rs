@@ -1,0 +1,161 @@
+//! A caller: the lists that it keeps between calls, each between guards.
+
+use crate::bytes::{self, Lists};
+use crate::calls::LentLists;
+use crate::depot::Depot;
+use crate::run::Run;
+use crate::script::{List, Step};
+
+/// Stands on both sides of a list, so that a write past its ends is seen.
+pub const GUARD: [u8; 16] = *b"guard lent list.";
+
+/// The lists in the order of `List::ALL`, with their guards.
+pub type Memory = [Vec<u8>; List::ALL.len()];
+
+pub struct Host {
+    memory: Memory,
+    kept: Memory,
+}
+
+impl Default for Host {
+    fn default() -> Host {
+        let memory = List::ALL.map(|_| guarded(&[]));
+        Host {
+            kept: memory.clone(),
+            memory,
+        }
+    }
+}
+
+impl Host {
+    /// All lists with their guards.
+    pub fn memory(&self) -> &Memory {
+        &self.memory
+    }
+
+    pub fn list(&self, list: List) -> &[u8] {
+        within(&self.memory[list as usize])
+    }
+
+    /// The lists of the run.
+    pub fn lists(&self) -> Lists<'_> {
+        let [state, keys, chutes, answers, commands, _] =
+            self.memory.each_ref().map(|it| within(it));
+        Lists {
+            state,
+            keys,
+            chutes,
+            answers,
+            commands,
+        }
+    }
+
+    /// The run that the lists hold, if they hold one.
+    pub fn run(&self) -> Option<Run> {
+        bytes::read(self.lists()).ok()
+    }
+
+    /// Takes a step; the answer of a call, 0 of another step.
+    pub fn take(&mut self, depot: &dyn Depot, step: &Step) -> u64 {
+        match step {
+            Step::Lend(lengths) => {
+                for (list, length) in List::ALL.into_iter().zip(lengths) {
+                    self.put(list, &filling(*length));
+                }
+            }
+            Step::Change { list, offset, bits } => {
+                if let Some(byte) = within_mut(&mut self.memory[*list as usize]).get_mut(*offset) {
+                    *byte ^= bits;
+                }
+            }
+            Step::Resize(list, length) => {
+                let rest = filling(length.saturating_sub(self.list(*list).len()));
+                let longer = [self.list(*list), &rest].concat();
+                self.put(*list, &longer[..*length]);
+            }
+            Step::Keep => self.kept.clone_from(&self.memory),
+            Step::Restore => self.memory.clone_from(&self.kept),
+            Step::Serial => {}
+            Step::Program(input) => self.put(List::Out, &depot.program(input)),
+            call => return self.call(depot, call),
+        }
+        0
+    }
+
+    fn call(&mut self, depot: &dyn Depot, step: &Step) -> u64 {
+        match step {
+            Step::Open {
+                size,
+                workers,
+                room,
+                commands,
+            } => {
+                self.put(List::Commands, commands);
+                let (mut lent, commands) = self.lend();
+                depot.open(&mut lent, commands, [*size, *workers, *room])
+            }
+            Step::Advance(schedule) => {
+                let (mut lent, commands) = self.lend();
+                depot.advance(&mut lent, commands, schedule)
+            }
+            Step::PendingCounts(length) => {
+                self.write_out(*length, |lists, out| depot.pending_counts(lists, out))
+            }
+            Step::WorkerStatus(length) => {
+                self.write_out(*length, |lists, out| depot.worker_status(lists, out))
+            }
+            Step::ReadIdentifier(text, length) => {
+                self.write_out(*length, |_, out| depot.read_identifier(text, out))
+            }
+            Step::WriteIdentifier(key, length) => {
+                self.write_out(*length, |_, out| depot.write_identifier(*key, out))
+            }
+            _ => 0,
+        }
+    }
+
+    /// Makes a call that is lent a list of this length to write.
+    fn write_out(&mut self, length: usize, call: impl Fn(Lists, &mut [u8]) -> u64) -> u64 {
+        let mut out = guarded(&filling(length));
+        let answer = call(self.lists(), within_mut(&mut out));
+        self.memory[List::Out as usize] = out;
+        answer
+    }
+
+    fn put(&mut self, list: List, bytes: &[u8]) {
+        self.memory[list as usize] = guarded(bytes);
+    }
+
+    fn lend(&mut self) -> (LentLists<'_>, &[u8]) {
+        let [state, keys, chutes, answers, commands, _] =
+            self.memory.each_mut().map(|it| within_mut(it));
+        let lent = LentLists {
+            state,
+            keys,
+            chutes,
+            answers,
+        };
+        (lent, commands)
+    }
+}
+
+fn guarded(bytes: &[u8]) -> Vec<u8> {
+    [&GUARD, bytes, &GUARD].concat()
+}
+
+fn within(memory: &[u8]) -> &[u8] {
+    &memory[GUARD.len()..memory.len() - GUARD.len()]
+}
+
+fn within_mut(memory: &mut [u8]) -> &mut [u8] {
+    let end = memory.len() - GUARD.len();
+    &mut memory[GUARD.len()..end]
+}
+
+/// Bytes none of which is 0, so that an untouched list is told from a cleared one.
+fn filling(length: usize) -> Vec<u8> {
+    let block: Vec<u8> = (1..=u8::MAX).collect();
+    let mut bytes = block.repeat(length / block.len() + 1);
+    bytes.truncate(length);
+    bytes
+}

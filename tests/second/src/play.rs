@@ -1,0 +1,179 @@
+//! Takes each step of a run with the second program and with the code that it judges, and tells
+//! the first difference in words.
+
+use crate::bytes::{EXECUTING, FREE, KEY, LOCKED, NEXT, NUMBER, PARTY, PARTY_BYTES, PLACE, SETS};
+use crate::depot::{Depot, Second};
+use crate::host::{GUARD, Host};
+use crate::script::{List, Step};
+use crate::serial;
+
+/// What differs, in words.
+pub type Difference = String;
+
+/// Two callers, one of each side, that take the same steps.
+pub struct Play<'a> {
+    judged: &'a dyn Depot,
+    expected: Host,
+    found: Host,
+    /// The steps so far.
+    pub steps: Vec<Step>,
+}
+
+impl<'a> Play<'a> {
+    pub fn new(judged: &'a dyn Depot) -> Play<'a> {
+        Play {
+            judged,
+            expected: Host::default(),
+            found: Host::default(),
+            steps: Vec::new(),
+        }
+    }
+
+    /// The second program's caller.
+    pub fn host(&self) -> &Host {
+        &self.expected
+    }
+
+    /// Takes a step on both sides; the answer, if nothing differs.
+    pub fn take(&mut self, step: Step) -> Result<u64, Difference> {
+        let expected = self.expected.take(&Second, &step);
+        let found = self.found.take(self.judged, &step);
+        let serial = step == Step::Serial;
+        self.steps.push(step);
+        let different = if expected != found {
+            Some(answers_differ(expected, found))
+        } else if self.expected.memory() != self.found.memory() {
+            Some(self.lists_differ())
+        } else if serial {
+            self.serial_differs()
+        } else {
+            None
+        };
+        match different {
+            None => Ok(expected),
+            Some(words) => Err(format!("step {}: {words}", self.steps.len())),
+        }
+    }
+
+    /// Takes all steps up to the first that differs; the last answer, if none does.
+    pub fn take_all(&mut self, steps: impl IntoIterator<Item = Step>) -> Result<u64, Difference> {
+        let mut steps = steps.into_iter();
+        steps.try_fold(0, |_, step| self.take(step))
+    }
+
+    fn lists_differ(&self) -> Difference {
+        let pairs = self.expected.memory().iter().zip(self.found.memory());
+        for (list, (expected, found)) in List::ALL.into_iter().zip(pairs) {
+            if list == List::Out && expected != found && self.printed() {
+                return format!(
+                    "the program prints {:?}, the second program {:?}",
+                    String::from_utf8_lossy(self.found.list(list)),
+                    String::from_utf8_lossy(self.expected.list(list))
+                );
+            }
+            let differing = (0..found.len()).find(|index| found[*index] != expected[*index]);
+            if let Some(index) = differing {
+                return bytes_differ(list, index, expected, found);
+            }
+        }
+        "the lists differ in length".to_string()
+    }
+
+    fn printed(&self) -> bool {
+        matches!(self.steps.last(), Some(Step::Program(_)))
+    }
+
+    /// How the judged side's lists differ from what the serial run gives, if they do.
+    fn serial_differs(&self) -> Option<Difference> {
+        let Some(run) = self.found.run() else {
+            return Some("the lists are no run".to_string());
+        };
+        let room = run.settings.room.into();
+        let outcome = serial::run(room, &run.commands);
+        let finished = run.is_finished();
+        let pairs = run.answers.iter().zip(&outcome.answers);
+        for (index, (answer, right)) in pairs.enumerate() {
+            if answer != right && (finished || *answer != 0) {
+                let place = index + 1;
+                return Some(format!(
+                    "answer {place} is {answer}, of the serial run {right}"
+                ));
+            }
+        }
+        let table = serial::table(room, &outcome.entries);
+        let same = run.store.keys == table.keys
+            && run.store.chutes == table.chutes
+            && usize::from(run.store.used) == table.used;
+        (finished && !same).then(|| "the table is not the serial run's".to_string())
+    }
+}
+
+fn answers_differ(expected: u64, found: u64) -> Difference {
+    let words = |answer: u64| match (answer % 256, answer / 256) {
+        (0, 0) => "accepted".to_string(),
+        (number, 0) => format!("refused {number}"),
+        (number, place) => format!("refused {number} at place {place}"),
+    };
+    format!(
+        "{}, by the second program {}",
+        words(found),
+        words(expected)
+    )
+}
+
+/// How the memory of a list differs, first at an index.
+fn bytes_differ(list: List, index: usize, expected: &[u8], found: &[u8]) -> Difference {
+    let name = list.name();
+    let end = expected.len() - GUARD.len();
+    let (what, from, width) = match index.checked_sub(GUARD.len()) {
+        None => (format!("byte {index} of the guard before {name}"), index, 1),
+        Some(_) if index >= end => {
+            let beyond = index - end;
+            (format!("byte {beyond} of the guard after {name}"), index, 1)
+        }
+        Some(offset) => {
+            let width = entry_width(list);
+            let what = match list {
+                List::State => format!("state byte {offset} ({})", field(offset)),
+                _ => format!("entry {} of {name}", offset / width + 1),
+            };
+            (what, index - offset % width, width)
+        }
+    };
+    let number = |bytes: &[u8]| {
+        let bytes = &bytes[from..from + width];
+        bytes
+            .iter()
+            .fold(0, |number, byte| number * 256 + u64::from(*byte))
+    };
+    let (expected, found) = (number(expected), number(found));
+    format!("{what} is {found}, of the second program {expected}")
+}
+
+/// Bytes of an entry.
+fn entry_width(list: List) -> usize {
+    match list {
+        List::Keys => KEY,
+        List::Chutes | List::Answers => NUMBER,
+        List::State | List::Commands | List::Out => 1,
+    }
+}
+
+/// Which field a byte of the state belongs to.
+fn field(offset: usize) -> String {
+    match offset {
+        0 => "graph size".to_string(),
+        1 => "workers".to_string(),
+        2..4 => "room".to_string(),
+        4..6 => "command count".to_string(),
+        6..8 => "commands loaded".to_string(),
+        8..10 => "store places used".to_string(),
+        FREE => "first unused record".to_string(),
+        NEXT..PLACE => format!("next of record {}", offset - NEXT),
+        PLACE..EXECUTING => format!("place of record {}", (offset - PLACE) / 2),
+        EXECUTING..LOCKED => format!("state of record {}", offset - EXECUTING),
+        LOCKED..SETS => format!("lock of record {}", offset - LOCKED),
+        SETS..PARTY => format!("set of record {}", (offset - SETS) / 24),
+        _ => format!("party {}", (offset - PARTY) / PARTY_BYTES),
+    }
+}

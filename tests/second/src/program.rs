@@ -1,0 +1,78 @@
+//! What the program `depot` prints, as a function of the bytes that it reads.
+
+use std::fmt::Write;
+
+use crate::run::Run;
+use crate::text::input::Input;
+use crate::text::{identifier_text, kind_name};
+
+pub fn output(input: &[u8]) -> String {
+    match Input::read(input) {
+        Ok(input) => report(&run(input)),
+        Err(refused) => format!("refused {}\n", refused.refusal.number()),
+    }
+}
+
+fn run(input: Input) -> Run {
+    let mut run = Run::open(input.settings, input.commands);
+    run.advance(&input.schedule);
+    run
+}
+
+fn report(run: &Run) -> String {
+    let mut lines = String::new();
+    for (index, (command, answer)) in run.commands.iter().zip(&run.answers).enumerate() {
+        let kind = kind_name(command.kind);
+        let text = identifier_text(command.key);
+        writeln!(lines, "{} {kind} {text} {answer}", index + 1).expect("a string takes all");
+    }
+    writeln!(
+        lines,
+        "store {} chain {}",
+        run.store.used,
+        run.chain().count()
+    )
+    .expect("a string takes all");
+    lines
+}
+
+#[cfg(test)]
+mod tests {
+    use super::*;
+    use crate::text::input::EXAMPLE;
+
+    /// Document 01, marked case (k).
+    #[test]
+    fn the_example_s_output_is_whole() {
+        assert_eq!(
+            output(EXAMPLE),
+            "1 insert AA000000005AA 1000\n2 read AA000000005AA 7\nstore 1 chain 0\n"
+        );
+    }
+
+    /// Document 01, marked case (l).
+    #[test]
+    fn the_example_s_output_after_9_turns() {
+        assert_eq!(
+            output(&EXAMPLE[..47]),
+            "1 insert AA000000005AA 1000\n2 read AA000000005AA 0\nstore 1 chain 2\n"
+        );
+    }
+
+    /// Document 01, "The program `depot`": the order of its tests.
+    #[test]
+    fn refusals_are_tested_in_order() {
+        let mut input = EXAMPLE.to_vec();
+        input.push(2);
+        assert_eq!(output(&input), "refused 11\n");
+        input[6] = 5;
+        assert_eq!(output(&input), "refused 7\n");
+        input[0] = 151;
+        assert_eq!(output(&input), "refused 1\n");
+        assert_eq!(output(&input[..37]), "refused 4\n");
+        assert_eq!(output(&input[..5]), "refused 4\n");
+        input.resize(65_537, 0);
+        assert_eq!(output(&input), "refused 5\n");
+        assert_eq!(output(&input[..65_536]), "refused 1\n");
+    }
+}

@@ -1,0 +1,414 @@
+//! A run: records, parties, store and answers, and what each turn does to them.
+//!
+//! It is written as document 01's "Records and turns" says it, on arrays, with no allocation and
+//! no reading of text in a turn, so that it is also the plain program that speed is measured
+//! against. Where a state that no dealing reaches leaves the outcome open, it does what
+//! docs/DECISIONS.md chose.
+
+use crate::command::{Command, Kind, dependent};
+use crate::serial::{ALREADY_PRESENT, DONE, NO_SUCH_ITEM, STORE_FULL};
+use crate::store::Store;
+
+/// Records of the table, the head among them.
+pub const RECORDS: usize = 151;
+/// Parties of the table, the loader among them.
+pub const PARTIES: usize = 65;
+/// The record at which every walk begins.
+pub const HEAD: u8 = 0;
+/// As a next index, the end of a chain.
+const END: u8 = 0;
+
+/// What an opening is given besides its commands, each within the bounds that opening tests.
+#[derive(Clone, Copy, Debug, PartialEq, Eq)]
+pub struct Settings {
+    pub size: u8,
+    pub workers: u8,
+    pub room: u16,
+}
+
+/// A set of records: record n is bit n % 64 of word n / 64.
+pub type Set = [u64; 3];
+
+/// The table of records, a list for each thing that a record has.
+#[derive(Clone, Debug, PartialEq, Eq, Hash)]
+pub struct Records {
+    pub next: [u8; RECORDS],
+    /// The place of the record's command, from 1; 0 for none.
+    pub place: [u16; RECORDS],
+    pub executing: [bool; RECORDS],
+    pub locked: [bool; RECORDS],
+    /// The records that the record waits for.
+    pub set: [Set; RECORDS],
+    /// The first unused record, 0 for none.
+    pub free: u8,
+}
+
+/// What a party is doing. `at` is the record it stands on and has locked, `own` the record it
+/// loads or removes, `found` the chute that its look-up found, 0 for none.
+#[derive(Clone, Copy, Debug, PartialEq, Eq, Hash)]
+pub enum Party {
+    Idle,
+    /// The loader's walking.
+    Loading {
+        at: u8,
+        own: u8,
+    },
+    Searching {
+        at: u8,
+    },
+    Holding {
+        own: u8,
+    },
+    LookedUp {
+        own: u8,
+        found: u16,
+    },
+    Written {
+        own: u8,
+    },
+    Walking {
+        at: u8,
+        own: u8,
+    },
+    Clearing {
+        at: u8,
+        own: u8,
+    },
+}
+
+#[derive(Clone, Debug, PartialEq, Eq)]
+pub struct Run {
+    pub settings: Settings,
+    pub commands: Vec<Command>,
+    /// How many commands are loaded.
+    pub loaded: u16,
+    pub records: Records,
+    pub parties: [Party; PARTIES],
+    pub store: Store,
+    /// One a command, 0 where not yet given.
+    pub answers: Vec<u16>,
+}
+
+impl Run {
+    /// A run at its beginning. Settings and command count are those that opening accepts.
+    pub fn open(settings: Settings, commands: Vec<Command>) -> Run {
+        Run {
+            settings,
+            loaded: 0,
+            records: Records::new(settings.size),
+            parties: [Party::Idle; PARTIES],
+            store: Store::new(settings.room),
+            answers: vec![0; commands.len()],
+            commands,
+        }
+    }
+
+    /// Deals turns to these parties, each at most the worker count.
+    pub fn advance(&mut self, dealing: &[u8]) {
+        for party in dealing {
+            self.turn(*party);
+        }
+    }
+
+    /// One turn of a party that is at most the worker count; whether it was more than a wait.
+    #[inline]
+    pub fn turn(&mut self, party: u8) -> bool {
+        let now = self.parties[usize::from(party)];
+        let after = match now {
+            Party::Idle if party == 0 => self.load(),
+            Party::Idle => self.lock_head().map(|at| Party::Searching { at }),
+            Party::Loading { at, own } => self.walk_loading(at, own),
+            Party::Searching { at } => self.search(at),
+            Party::Holding { own } => Some(self.look_up(own)),
+            Party::LookedUp { own, found } => Some(self.write(own, found)),
+            Party::Written { own } => self.lock_head().map(|at| Party::Walking { at, own }),
+            Party::Walking { at, own } => self.walk_to_own(at, own),
+            Party::Clearing { at, own } => self.clear(at, own),
+        };
+        if let Some(after) = after {
+            self.parties[usize::from(party)] = after;
+        }
+        after.is_some()
+    }
+
+    /// Whether every command is removed and every party idle.
+    pub fn is_finished(&self) -> bool {
+        usize::from(self.loaded) == self.commands.len()
+            && self.records.next[usize::from(HEAD)] == END
+            && self.parties.iter().all(|party| *party == Party::Idle)
+    }
+
+    /// The records of the chain in order, cut after as many as can be in it.
+    pub fn chain(&self) -> impl Iterator<Item = u8> {
+        let next = |record: u8| self.records.next[usize::from(record)];
+        std::iter::successors(Some(next(HEAD)), move |record| Some(next(*record)))
+            .take_while(|record| *record != END)
+            .take(RECORDS - 1)
+    }
+
+    /// The loader, idle: takes a record for the next command and stands on the head.
+    fn load(&mut self) -> Option<Party> {
+        if usize::from(self.loaded) == self.commands.len() || self.records.free == END {
+            return None;
+        }
+        let at = self.lock_head()?;
+        self.loaded += 1;
+        let own = self.records.take(self.loaded);
+        Some(Party::Loading { at, own })
+    }
+
+    fn walk_loading(&mut self, at: u8, own: u8) -> Option<Party> {
+        if self.records.next[usize::from(at)] == END {
+            self.records.next[usize::from(at)] = own;
+            self.records.executing[usize::from(own)] = false;
+            self.records.locked[usize::from(at)] = false;
+            return Some(Party::Idle);
+        }
+        let at = self.records.step_on(at)?;
+        if self.dependent(at, own) {
+            add(&mut self.records.set[usize::from(own)], at);
+        }
+        Some(Party::Loading { at, own })
+    }
+
+    fn search(&mut self, at: u8) -> Option<Party> {
+        if self.records.next[usize::from(at)] == END {
+            self.records.locked[usize::from(at)] = false;
+            return Some(Party::Idle);
+        }
+        let at = self.records.step_on(at)?;
+        let index = usize::from(at);
+        if self.records.executing[index] || self.records.set[index] != [0; 3] {
+            return Some(Party::Searching { at });
+        }
+        self.records.executing[index] = true;
+        self.records.locked[index] = false;
+        Some(Party::Holding { own: at })
+    }
+
+    fn look_up(&self, own: u8) -> Party {
+        let found = self.command(own).map_or(0, |it| self.store.chute(it.key));
+        Party::LookedUp { own, found }
+    }
+
+    /// Writes store and answer, by what the look-up found.
+    fn write(&mut self, own: u8, found: u16) -> Party {
+        if let Some(Command { kind, key, chute }) = self.command(own) {
+            let answer = match (kind, found) {
+                (Kind::Insert, 0) if self.store.is_full() => STORE_FULL,
+                (Kind::Insert, 0) => {
+                    self.store.insert(key, chute);
+                    DONE
+                }
+                (Kind::Insert, _) => ALREADY_PRESENT,
+                (Kind::Delete | Kind::Read | Kind::Update, 0) => NO_SUCH_ITEM,
+                (Kind::Read, chute) => chute,
+                (Kind::Delete, _) => {
+                    self.store.remove(key);
+                    DONE
+                }
+                (Kind::Update, _) => {
+                    self.store.replace(key, chute);
+                    DONE
+                }
+            };
+            let place = self.records.place[usize::from(own)];
+            self.answers[usize::from(place) - 1] = answer;
+        }
+        Party::Written { own }
+    }
+
+    /// Walks to the own record and bypasses it. The end of the chain, which no dealing meets
+    /// here, is a wait.
+    fn walk_to_own(&mut self, at: u8, own: u8) -> Option<Party> {
+        let next = self.records.next[usize::from(at)];
+        if next == END || self.records.locked[usize::from(next)] {
+            return None;
+        }
+        if next == own {
+            self.records.next[usize::from(at)] = self.records.next[usize::from(own)];
+            return Some(Party::Clearing { at, own });
+        }
+        let at = self.records.step_on(at)?;
+        Some(Party::Walking { at, own })
+    }
+
+    fn clear(&mut self, at: u8, own: u8) -> Option<Party> {
+        if self.records.next[usize::from(at)] == END {
+            self.records.locked[usize::from(at)] = false;
+            self.records.give_back(own);
+            return Some(Party::Idle);
+        }
+        let at = self.records.step_on(at)?;
+        take_out(&mut self.records.set[usize::from(at)], own);
+        Some(Party::Clearing { at, own })
+    }
+
+    /// Locks the head, unless it is locked.
+    fn lock_head(&mut self) -> Option<u8> {
+        let locked = &mut self.records.locked[usize::from(HEAD)];
+        let free = !*locked;
+        *locked = true;
+        free.then_some(HEAD)
+    }
+
+    fn dependent(&self, first: u8, second: u8) -> bool {
+        match (self.command(first), self.command(second)) {
+            (Some(first), Some(second)) => dependent(&first, &second),
+            _ => false,
+        }
+    }
+
+    /// The command of a record, if it has one.
+    fn command(&self, record: u8) -> Option<Command> {
+        let place = usize::from(self.records.place[usize::from(record)]);
+        self.commands.get(place.checked_sub(1)?).copied()
+    }
+}
+
+impl Records {
+    /// All unused, those up to the graph size linked in order.
+    fn new(size: u8) -> Records {
+        let mut next = [END; RECORDS];
+        for record in 1..size {
+            next[usize::from(record)] = record + 1;
+        }
+        Records {
+            next,
+            place: [0; RECORDS],
+            executing: [false; RECORDS],
+            locked: [false; RECORDS],
+            set: [[0; 3]; RECORDS],
+            free: 1,
+        }
+    }
+
+    /// Takes the first unused record, which there is, for the command of a place.
+    fn take(&mut self, place: u16) -> u8 {
+        let record = self.free;
+        let index = usize::from(record);
+        self.free = self.next[index];
+        self.next[index] = END;
+        self.place[index] = place;
+        record
+    }
+
+    /// Returns a record to the front of the unused ones, as clean as they are.
+    fn give_back(&mut self, record: u8) {
+        let index = usize::from(record);
+        self.place[index] = 0;
+        self.executing[index] = false;
+        self.locked[index] = false;
+        self.set[index] = [0; 3];
+        self.next[index] = self.free;
+        self.free = record;
+    }
+
+    /// Locks the next record and unlocks this one, unless the next is locked.
+    fn step_on(&mut self, at: u8) -> Option<u8> {
+        let next = self.next[usize::from(at)];
+        if self.locked[usize::from(next)] {
+            return None;
+        }
+        self.locked[usize::from(next)] = true;
+        self.locked[usize::from(at)] = false;
+        Some(next)
+    }
+}
+
+fn add(set: &mut Set, record: u8) {
+    set[usize::from(record / 64)] |= 1 << (record % 64);
+}
+
+fn take_out(set: &mut Set, record: u8) {
+    set[usize::from(record / 64)] &= !(1 << (record % 64));
+}
+
+#[cfg(test)]
+mod tests {
+    use super::*;
+
+    fn command(kind: Kind, key: u64, chute: u16) -> Command {
+        Command { kind, key, chute }
+    }
+
+    fn settings(size: u8, workers: u8, room: u16) -> Settings {
+        Settings {
+            size,
+            workers,
+            room,
+        }
+    }
+
+    fn example() -> Run {
+        let commands = vec![command(Kind::Insert, 0, 7), command(Kind::Read, 0, 0)];
+        Run::open(settings(2, 1, 4), commands)
+    }
+
+    const EXAMPLE: [u8; 20] = [0, 0, 0, 0, 0, 1, 1, 1, 1, 1, 1, 1, 1, 1, 1, 1, 1, 1, 1, 1];
+
+    /// Document 01, marked case (k).
+    #[test]
+    fn the_example_runs_to_its_end() {
+        let mut run = example();
+        run.advance(&EXAMPLE);
+        assert_eq!(run.answers, [1000, 7]);
+        assert_eq!((run.store.used, run.chain().count()), (1, 0));
+        assert!(run.is_finished());
+    }
+
+    /// Document 01, marked case (l).
+    #[test]
+    fn the_example_stopped_after_9_turns() {
+        let mut run = example();
+        run.advance(&EXAMPLE[..9]);
+        assert_eq!(run.answers, [1000, 0]);
+        assert_eq!((run.store.used, run.chain().count()), (1, 2));
+        assert!(!run.is_finished());
+    }
+
+    /// Document 01, "Records and turns", each turn of the example by name.
+    #[test]
+    fn the_loader_walks_and_links_at_the_end() {
+        let mut run = example();
+        let loading = |at, own| Party::Loading { at, own };
+        let steps = [
+            loading(0, 1),
+            Party::Idle,
+            loading(0, 2),
+            loading(1, 2),
+            Party::Idle,
+        ];
+        for expected in steps {
+            assert!(run.turn(0));
+            assert_eq!(run.parties[0], expected);
+        }
+        assert_eq!(run.records.set[2], [2, 0, 0]);
+        assert_eq!(run.chain().collect::<Vec<u8>>(), [1, 2]);
+        assert!(!run.turn(0), "every command is loaded");
+    }
+
+    /// Document 01, "Records and turns": a locked record is not passed, by anyone.
+    #[test]
+    fn a_walker_waits_before_a_locked_record() {
+        let mut run = example();
+        run.advance(&[0, 0, 0, 0]);
+        assert_eq!(run.parties[0], Party::Loading { at: 1, own: 2 });
+        assert!(run.turn(1));
+        let before = run.clone();
+        assert!(!run.turn(1), "record 1 is locked");
+        assert_eq!(run, before);
+    }
+
+    /// Document 01, "Records and turns": the loader waits while no record is free.
+    #[test]
+    fn the_loader_waits_for_a_free_record() {
+        let commands = vec![command(Kind::Read, 0, 0); 2];
+        let mut run = Run::open(settings(1, 1, 1), commands);
+        run.advance(&[0, 0]);
+        assert!(!run.turn(0));
+        run.advance(&[1; 7]);
+        assert_eq!(run.answers, [1002, 0]);
+        assert!(run.turn(0));
+    }
+}

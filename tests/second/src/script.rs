@@ -1,0 +1,199 @@
+//! The steps of one compared run: calls, and what the caller does to its lists between them. A
+//! step is shown as one line of words, so that a file of lines is a run that can be made again.
+
+use std::fmt;
+
+use crate::hex::{from_hex, hex};
+
+/// The lists that a caller keeps; `Out` is what a report or an identifier call writes.
+#[derive(Clone, Copy, Debug, PartialEq, Eq)]
+pub enum List {
+    State,
+    Keys,
+    Chutes,
+    Answers,
+    Commands,
+    Out,
+}
+
+impl List {
+    pub const ALL: [List; 6] = [
+        List::State,
+        List::Keys,
+        List::Chutes,
+        List::Answers,
+        List::Commands,
+        List::Out,
+    ];
+
+    pub fn name(self) -> &'static str {
+        match self {
+            List::State => "state",
+            List::Keys => "keys",
+            List::Chutes => "chutes",
+            List::Answers => "answers",
+            List::Commands => "commands",
+            List::Out => "out",
+        }
+    }
+
+    fn parse(word: &str) -> Option<List> {
+        List::ALL.into_iter().find(|list| list.name() == word)
+    }
+}
+
+#[derive(Clone, Debug, PartialEq, Eq)]
+pub enum Step {
+    /// Lends state, keys, chutes and answers of these lengths in bytes, with any contents.
+    Lend([usize; 4]),
+    Open {
+        size: u64,
+        workers: u64,
+        room: u64,
+        commands: Vec<u8>,
+    },
+    Advance(Vec<u8>),
+    /// With a list of this length, as the next three.
+    PendingCounts(usize),
+    WorkerStatus(usize),
+    ReadIdentifier(Vec<u8>, usize),
+    WriteIdentifier(u64, usize),
+    /// Changes the bits of one byte.
+    Change {
+        list: List,
+        offset: usize,
+        bits: u8,
+    },
+    /// Cuts or lengthens a list.
+    Resize(List, usize),
+    /// Keeps a copy of all lists.
+    Keep,
+    /// Takes the copy back.
+    Restore,
+    /// Holds the answers, and the table of a finished run, against the serial run.
+    Serial,
+    /// Runs the program on this input.
+    Program(Vec<u8>),
+}
+
+impl Step {
+    /// Reads a step from the line that shows it.
+    pub fn parse(line: &str) -> Option<Step> {
+        let words: Vec<&str> = line.split(' ').collect();
+        match *words.as_slice() {
+            ["lend", a, b, c, d] => Some(Step::Lend([
+                a.parse().ok()?,
+                b.parse().ok()?,
+                c.parse().ok()?,
+                d.parse().ok()?,
+            ])),
+            ["open", size, workers, room, commands] => Some(Step::Open {
+                size: size.parse().ok()?,
+                workers: workers.parse().ok()?,
+                room: room.parse().ok()?,
+                commands: from_hex(commands)?,
+            }),
+            ["change", list, offset, bits] => Some(Step::Change {
+                list: List::parse(list)?,
+                offset: offset.parse().ok()?,
+                bits: bits.parse().ok()?,
+            }),
+            _ => Step::parse_short(&words),
+        }
+    }
+
+    fn parse_short(words: &[&str]) -> Option<Step> {
+        match *words {
+            ["advance", schedule] => Some(Step::Advance(from_hex(schedule)?)),
+            ["pending_counts", length] => Some(Step::PendingCounts(length.parse().ok()?)),
+            ["worker_status", length] => Some(Step::WorkerStatus(length.parse().ok()?)),
+            ["read_identifier", text, length] => {
+                Some(Step::ReadIdentifier(from_hex(text)?, length.parse().ok()?))
+            }
+            ["write_identifier", key, length] => Some(Step::WriteIdentifier(
+                key.parse().ok()?,
+                length.parse().ok()?,
+            )),
+            ["resize", list, length] => {
+                Some(Step::Resize(List::parse(list)?, length.parse().ok()?))
+            }
+            ["keep"] => Some(Step::Keep),
+            ["restore"] => Some(Step::Restore),
+            ["serial"] => Some(Step::Serial),
+            ["program", input] => Some(Step::Program(from_hex(input)?)),
+            _ => None,
+        }
+    }
+}
+
+impl fmt::Display for Step {
+    fn fmt(&self, f: &mut fmt::Formatter) -> fmt::Result {
+        match self {
+            Step::Lend([a, b, c, d]) => write!(f, "lend {a} {b} {c} {d}"),
+            Step::Open {
+                size,
+                workers,
+                room,
+                commands,
+            } => write!(f, "open {size} {workers} {room} {}", hex(commands)),
+            Step::Advance(schedule) => write!(f, "advance {}", hex(schedule)),
+            Step::PendingCounts(length) => write!(f, "pending_counts {length}"),
+            Step::WorkerStatus(length) => write!(f, "worker_status {length}"),
+            Step::ReadIdentifier(text, length) => {
+                write!(f, "read_identifier {} {length}", hex(text))
+            }
+            Step::WriteIdentifier(key, length) => write!(f, "write_identifier {key} {length}"),
+            Step::Change { list, offset, bits } => {
+                write!(f, "change {} {offset} {bits}", list.name())
+            }
+            Step::Resize(list, length) => write!(f, "resize {} {length}", list.name()),
+            Step::Keep => write!(f, "keep"),
+            Step::Restore => write!(f, "restore"),
+            Step::Serial => write!(f, "serial"),
+            Step::Program(input) => write!(f, "program {}", hex(input)),
+        }
+    }
+}
+
+#[cfg(test)]
+mod tests {
+    use super::*;
+
+    #[test]
+    fn a_step_is_read_from_the_line_that_shows_it() {
+        let steps = [
+            Step::Lend([1, 2, 3, 4]),
+            Step::Open {
+                size: u64::MAX,
+                workers: 2,
+                room: 3,
+                commands: vec![],
+            },
+            Step::Advance(vec![0, 255]),
+            Step::PendingCounts(150),
+            Step::WorkerStatus(128),
+            Step::ReadIdentifier(vec![65], 8),
+            Step::WriteIdentifier(7, 13),
+            Step::Change {
+                list: List::Commands,
+                offset: 5,
+                bits: 255,
+            },
+            Step::Resize(List::Out, 0),
+            Step::Keep,
+            Step::Restore,
+            Step::Serial,
+            Step::Program(vec![1, 2]),
+        ];
+        for step in steps {
+            assert_eq!(Step::parse(&step.to_string()), Some(step));
+        }
+    }
+
+    #[test]
+    fn other_lines_are_no_step() {
+        for line in ["", "open", "advance", "advance 0", "change nothing 1 1"] {
+            assert_eq!(Step::parse(line), None, "{line}");
+        }
+    }
+}

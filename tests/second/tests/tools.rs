@@ -1,0 +1,92 @@
+//! Runs `depot_text` and `depot_draw` as a person does: exit statuses, what is written to the
+//! output and what is said on the error output.
+
+use std::io::Write;
+use std::process::{Command, Stdio};
+
+use second::text::input::EXAMPLE;
+
+const TEXT: &str = env!("CARGO_BIN_EXE_depot_text");
+const DRAW: &str = env!("CARGO_BIN_EXE_depot_draw");
+const LIST: &str = "insert AA000000005AA 7\nread AA000000005AA\n";
+const SETTINGS: [&str; 7] = ["pack", "--size", "2", "--workers", "1", "--room", "4"];
+
+/// The exit status, the output and the error output of a program.
+fn run(program: &str, options: &[&str], input: &[u8]) -> (Option<i32>, Vec<u8>, String) {
+    let mut child = Command::new(program)
+        .args(options)
+        .stdin(Stdio::piped())
+        .stdout(Stdio::piped())
+        .stderr(Stdio::piped())
+        .spawn()
+        .expect("the program starts");
+    // A program that refuses its options ends before it reads.
+    let _ = child.stdin.take().expect("a pipe").write_all(input);
+    let output = child.wait_with_output().expect("the program ends");
+    let words = String::from_utf8(output.stderr).expect("words");
+    (output.status.code(), output.stdout, words)
+}
+
+#[test]
+fn the_example_is_packed_unpacked_and_drawn() {
+    let turns = ["--turns", "0 0 0 0 0 1 1 1 1 1 1 1 1 1 1 1 1 1 1 1"];
+    let packed = run(TEXT, &[&SETTINGS[..], &turns].concat(), LIST.as_bytes());
+    assert_eq!(packed, (Some(0), EXAMPLE.to_vec(), String::new()));
+    let (status, list, words) = run(TEXT, &["unpack"], EXAMPLE);
+    assert_eq!((status, words), (Some(0), String::new()));
+    let list = String::from_utf8(list).unwrap();
+    let commands = "\n1 insert AA000000005AA 7\n2 read AA000000005AA\n";
+    assert!(list.ends_with(commands), "{list}");
+    let (status, picture, words) = run(DRAW, &[], EXAMPLE);
+    assert_eq!((status, words), (Some(0), String::new()));
+    assert!(picture.starts_with(b"<svg ") && picture.ends_with(b"</svg>\n"));
+}
+
+#[test]
+fn what_is_refused_ends_with_1_and_writes_nothing() {
+    let none = Vec::new;
+    let wrong = format!("{LIST}reed AA000000005AA\n");
+    let (status, output, words) = run(TEXT, &SETTINGS, wrong.as_bytes());
+    assert_eq!((status, output), (Some(1), none()));
+    assert!(
+        words.starts_with("depot_text: line 3: unknown kind `reed`"),
+        "{words}"
+    );
+    for (program, options) in [(TEXT, &["unpack"][..]), (DRAW, &[])] {
+        let (status, output, words) = run(program, options, b"12345");
+        assert_eq!((status, output), (Some(1), none()));
+        assert!(
+            words.ends_with(": refused 4: 5 bytes, fewer than 6\n"),
+            "{words}"
+        );
+    }
+}
+
+#[test]
+fn options_that_are_not_understood_end_with_2_and_the_usage() {
+    let cases: [(&str, &[&str]); 6] = [
+        (TEXT, &[]),
+        (TEXT, &["pack"]),
+        (TEXT, &["pack", "--size", "x"]),
+        (TEXT, &["unpack", "--turns", "1"]),
+        (TEXT, &["wrap"]),
+        (DRAW, &["run.svg"]),
+    ];
+    for (program, options) in cases {
+        let (status, output, words) = run(program, options, b"");
+        assert_eq!((status, output), (Some(2), Vec::new()), "{options:?}");
+        assert!(words.contains("usage: depot_"), "{words}");
+    }
+}
+
+#[test]
+fn the_turns_go_through_a_file() {
+    let file = std::env::temp_dir().join(format!("depot-turns-{}", std::process::id()));
+    let file = file.to_str().expect("a path in UTF-8");
+    let (status, list, _) = run(TEXT, &["unpack", "--turns-file", file], EXAMPLE);
+    assert_eq!(status, Some(0));
+    let options = [&SETTINGS[..], &["--turns-file", file]].concat();
+    let packed = run(TEXT, &options, &list);
+    std::fs::remove_file(file).expect("the file was written");
+    assert_eq!(packed, (Some(0), EXAMPLE.to_vec(), String::new()));
+}

@@ -1,0 +1,86 @@
+/* How much stack each call takes, at the largest settings: it is made on a painted stack, and the paint that is left is counted.
+ * Prints the bytes of each, the thread's own start included; ends badly where they are more than the header's DEPOT_STACK_USE. */
+#define _POSIX_C_SOURCE 200809L
+#include <depot.h>
+
+#include <pthread.h>
+#include <stdio.h>
+#include <stdlib.h>
+#include <string.h>
+
+enum { STACK = 1 << 20, PAINT = 0x5a, CALLS = 6 };
+
+static uint8_t state[DEPOT_STATE_LENGTH], keys[DEPOT_KEY_LENGTH * DEPOT_MOST_CAPACITY];
+static uint8_t chutes[DEPOT_CHUTE_LENGTH * DEPOT_MOST_CAPACITY], answers[DEPOT_ANSWER_LENGTH * DEPOT_MOST_COMMANDS];
+static uint8_t commands[DEPOT_COMMAND_LENGTH * DEPOT_MOST_COMMANDS];
+static uint8_t schedule[100000], counts[DEPOT_COUNTS_LENGTH], status[DEPOT_STATUS_LENGTH];
+static uint8_t text[DEPOT_IDENTIFIER_LENGTH], key[DEPOT_KEY_LENGTH];
+
+static const char *const names[CALLS] = {"depot_write_identifier", "depot_read_identifier", "depot_open",
+                                         "depot_advance",          "depot_pending_counts",  "depot_worker_status"};
+
+#define KEPT state, sizeof state, keys, sizeof keys, chutes, sizeof chutes, answers, sizeof answers, commands, sizeof commands
+
+static uint64_t call(int which)
+{
+    switch (which) {
+    case 0:
+        return depot_write_identifier(DEPOT_LARGEST_KEY, text, sizeof text);
+    case 1:
+        return depot_read_identifier(text, sizeof text, key, sizeof key);
+    case 2:
+        return depot_open(KEPT, DEPOT_MOST_NODES, DEPOT_MOST_WORKERS, DEPOT_MOST_CAPACITY);
+    case 3:
+        return depot_advance(KEPT, schedule, sizeof schedule);
+    case 4:
+        return depot_pending_counts(KEPT, counts, sizeof counts);
+    default:
+        return depot_worker_status(KEPT, status, sizeof status);
+    }
+}
+
+static void *call_in_thread(void *which)
+{
+    if (call(*(int *)which) != 0) {
+        printf("stack: %s refused\n", names[*(int *)which]);
+        exit(EXIT_FAILURE);
+    }
+    return NULL;
+}
+
+/* The bytes of a thread's stack that a call has written. */
+static size_t written(int which)
+{
+    pthread_attr_t attributes;
+    pthread_t thread;
+    void *stack = NULL;
+    size_t clean = 0;
+    if (posix_memalign(&stack, 4096, STACK) != 0)
+        exit(EXIT_FAILURE);
+    memset(stack, PAINT, STACK);
+    if (pthread_attr_init(&attributes) != 0 || pthread_attr_setstack(&attributes, stack, STACK) != 0 ||
+        pthread_create(&thread, &attributes, call_in_thread, &which) != 0 || pthread_join(thread, NULL) != 0)
+        exit(EXIT_FAILURE);
+    while (clean < STACK && ((uint8_t *)stack)[clean] == PAINT)
+        clean++;
+    pthread_attr_destroy(&attributes);
+    free(stack);
+    return STACK - clean;
+}
+
+int main(void)
+{
+    int bad = 0;
+    for (size_t i = 0; i < DEPOT_MOST_COMMANDS; i++) {
+        const uint8_t insert[] = {DEPOT_INSERT, 'A', 'A', '0', '0', '0', '0', '0', '0', '0', '0', '5', 'A', 'A', 2, 0};
+        memcpy(commands + i * sizeof insert, insert, sizeof insert);
+    }
+    for (size_t i = 0; i < sizeof schedule; i++)
+        schedule[i] = (uint8_t)(i % 65);
+    for (int i = 0; i < CALLS; i++) {
+        size_t used = written(i);
+        printf("stack: %s at most %lu bytes\n", names[i], (unsigned long)used);
+        bad |= used > DEPOT_STACK_USE;
+    }
+    return bad ? EXIT_FAILURE : EXIT_SUCCESS;
+}
