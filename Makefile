@@ -1,5 +1,5 @@
 # Thin: each target is a command of the toolchain or a script.
-.PHONY: demo test check bench install uninstall clean
+.PHONY: demo test check edits bench install uninstall clean
 
 PREFIX ?= /usr/local
 archive = target/staticlib/libdepot_c.a
@@ -17,6 +17,10 @@ test:
 # The proofs alone, of what changed.
 check:
 	rt check
+
+# The must-fail edits that the gate leaves out for the sake of its time: some forty minutes.
+edits:
+	@tests/edits/run
 
 # Speed beside plain Rust on the same bytes; the figures kept are in docs/PERFORMANCE.md.
 bench: $(archive)
