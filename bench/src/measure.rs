@@ -13,7 +13,7 @@ use crate::input::Input;
 use crate::lists::{Lists, accepted, same};
 
 /// Turns dealt in one call.
-pub const DEALING: usize = 100_000;
+pub const CALL_STEPS: usize = 100_000;
 /// Calls that are timed together where one is short.
 const BATCH: u32 = 100;
 /// A schedule is repeated, from a fresh opening each time, until it has this many turns.
@@ -48,7 +48,7 @@ pub struct Bench {
 }
 
 impl Bench {
-    /// The whole schedule in dealings, each given to one side after the other.
+    /// The whole schedule in parts, each given to one side after the other.
     pub fn steps(&self, input: &Input) -> Result<StepTimes, String> {
         let repeats = LEAST_TURNS.div_ceil(input.schedule.len());
         let mut times = [const { Vec::new() }; 3];
@@ -76,14 +76,14 @@ impl Bench {
         let mut proved = Lists::opened(&self.proved, input)?;
         let mut plain = Lists::opened(&Second, input)?;
         let mut run = input.opened();
-        for dealing in input.schedule.chunks(DEALING) {
-            let (time, answer) = timed(|| proved.advance(&self.proved, input, dealing));
+        for part in input.schedule.chunks(CALL_STEPS) {
+            let (time, answer) = timed(|| proved.advance(&self.proved, input, part));
             accepted("advance, proved", answer)?;
             times[0] += time;
-            let (time, answer) = timed(|| plain.advance(&Second, input, dealing));
+            let (time, answer) = timed(|| plain.advance(&Second, input, part));
             accepted("advance, plain", answer)?;
             times[1] += time;
-            let (time, ()) = timed(|| plain_turns(&mut run, black_box(dealing)));
+            let (time, ()) = timed(|| plain_turns(&mut run, black_box(part)));
             times[2] += time;
         }
         same(&proved, &plain)?;
@@ -139,8 +139,8 @@ impl Bench {
 
 /// The plain turns alone, under a name of their own for callgrind.
 #[inline(never)]
-fn plain_turns(run: &mut Run, dealing: &[u8]) {
-    run.advance(dealing);
+fn plain_turns(run: &mut Run, schedule: &[u8]) {
+    run.advance(schedule);
 }
 
 /// The time of one of many calls.

@@ -5,7 +5,7 @@ use std::time::Duration;
 use second::run::Settings;
 
 use crate::input::{Input, Order};
-use crate::measure::{Bench, DEALING, Times};
+use crate::measure::{Bench, CALL_STEPS, Times};
 
 const MOST_COMMANDS: usize = 4096;
 /// The most turns dealt of a list where many settings are measured.
@@ -44,7 +44,7 @@ pub fn print(bench: &Bench, part: Option<&str>) -> Result<(), String> {
 
 /// Whole lists by random and round-robin turns.
 fn steps(bench: &Bench) -> Result<(), String> {
-    println!("Steps: a list of {MOST_COMMANDS} commands, in dealings of {DEALING}.\n");
+    println!("Steps: a list of {MOST_COMMANDS} commands, in calls of {CALL_STEPS}.\n");
     println!(
         "| Size, workers, room | Schedule | Steps | Waits | Proved, steps/s | Plain, steps/s \
          | Ratio of times | Plain turns alone, steps/s | Ratio |"

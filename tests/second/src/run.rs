@@ -104,8 +104,8 @@ impl Run {
     }
 
     /// Deals turns to these parties, each at most the worker count.
-    pub fn advance(&mut self, dealing: &[u8]) {
-        for party in dealing {
+    pub fn advance(&mut self, schedule: &[u8]) {
+        for party in schedule {
             self.turn(*party);
         }
     }
