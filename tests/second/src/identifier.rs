@@ -115,8 +115,8 @@ mod tests {
         assert_eq!(check_digit(12_345_678), b'5');
     }
 
-    /// The worked example of the check digit on Wikipedia's page "S10 (UPU standard)":
-    /// serial 47312482, sum 200, remainder 2.
+    /// Published with the standard: serial 47312482 has check digit 9 (sum 200, remainder 2).
+    /// The publication itself was not at hand.
     #[test]
     fn serial_47312482_has_check_digit_9() {
         assert_eq!(check_digit(47_312_482), b'9');
