@@ -1,7 +1,7 @@
 -- The laws of `specs/Laws.antt`. Assumes nothing.
 use Prim.Native.Nat.{ℕ, zero, suc, _+_, _/_, _≤_, _<_}
 use mathlib.Core.Path.{_≡_, refl, sym, ap, subst}
-use mathlib.Core.Bool.{Bool, true, false, cond, _&&_, or-comm}
+use mathlib.Core.Bool.{Bool, true, false, cond, _&&_, or-comm, and-eq-true-iff}
 use mathlib.Core.List.{List, [], _∷_}
 use native.Mathlib.Omega.{arith}
 use borrow.Author.Tests.{leb-true, eqb-true, eqb-false, eq-eqb, ne-eqb}
@@ -36,11 +36,6 @@ record Accepted (part : List ℕ) (command : Command) : Type 0 where
   fits : chuteFits (command .kind) (command .chute) ≡ true
   read : readText (take 13 (drop 1 part)) ≡ Identifier.accepted (command .key)
 
--- both tests of a pair that holds hold
-second-true : (a b : Bool) → a && b ≡ true → b ≡ true
-second-true true b e = e
-second-true false b e = cc
-
 -- an outcome is accepted only past every test
 accepted-passed : (part : List ℕ) (command : Command) → readCommand part ≡ accepted command → Accepted part command
 unfolding readCommand withChute
@@ -57,7 +52,7 @@ accepted-passed part command e = cases (isKind (getD part 0 0)) (readText (take 
     chosen key true r f e =
         let read : Command = record { kind = kind; key = key; chute = chuteOf bytes } in
         let same : read ≡ command = cc in
-        subst (λ (c : Command). Accepted part c) same (record { fits = second-true (eqb (length bytes) 2) _ f; read = r })
+        subst (λ (c : Command). Accepted part c) same (record { fits = and-eq-true-iff (eqb (length bytes) 2) _ .0 f .1; read = r })
     chosen key false r f e = let z : _≡_ {A = ℕ} 0 1 = cc in absurd (omega arith)
 
     cases : (k : Bool) (o : Identifier.Outcome) → readText (take 13 (drop 1 part)) ≡ o → cond k (withChute kind o bytes) (refused 7) ≡ accepted command →
@@ -71,12 +66,12 @@ pub accepted-chute-fits : AcceptedChuteFits
 accepted-chute-fits part command e = accepted-passed part command e .fits
 
 -- each kind's rule stays within the bound
-chute-that-fits : (kind : Kind) (chute : ℕ) → chuteFits kind chute ≡ true → chute ≤ 512
+pub chute-that-fits : (kind : Kind) (chute : ℕ) → chuteFits kind chute ≡ true → chute ≤ 512
 unfolding chuteFits
-chute-that-fits Insert chute e = leb-true chute 512 (second-true (leb 1 chute) (leb chute 512) e)
+chute-that-fits Insert chute e = leb-true chute 512 (and-eq-true-iff (leb 1 chute) (leb chute 512) .0 e .1)
 chute-that-fits Delete chute e = omega (arith, eqb-true chute 0 e)
 chute-that-fits Read chute e = omega (arith, eqb-true chute 0 e)
-chute-that-fits Update chute e = leb-true chute 512 (second-true (leb 1 chute) (leb chute 512) e)
+chute-that-fits Update chute e = leb-true chute 512 (and-eq-true-iff (leb 1 chute) (leb chute 512) .0 e .1)
 
 -- a chute that fits is none or one of the 512
 pub accepted-chute-is-at-most-last : AcceptedChuteIsAtMostLast
@@ -102,13 +97,13 @@ no-refusal-is-all-accepted = (each, none)
     none place (refused n ∷ rest) a = absurd a
 
 -- there are as many readings as parts
-length-parts : (n : ℕ) (bytes : List ℕ) → length (parts n bytes) ≡ n
+pub length-parts : (n : ℕ) (bytes : List ℕ) → length (parts n bytes) ≡ n
 unfolding parts
 length-parts zero bytes = refl
 length-parts (suc n) bytes = ap suc (length-parts n (drop 16 bytes))
 
 -- and as many parts as start inside the list
-length-readings : (list : List ℕ) → length (readings list) ≡ (length list + 15) / 16
+pub length-readings : (list : List ℕ) → length (readings list) ≡ (length list + 15) / 16
 unfolding readings partsOf
 length-readings list = rw (length-map, length-parts)
 

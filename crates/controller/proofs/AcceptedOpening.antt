@@ -1,59 +1,25 @@
 -- What an accepted opening has been tested for, and the lists that it leaves. Assumes nothing.
 use Prim.Native.Nat.{ℕ, zero, suc, _+_, _*_, _/_, _%_, _≤_}
 use native.Mathlib.Omega.{arith}
-use mathlib.Core.Path.{_≡_, refl, ap, _∙_, subst}
+use mathlib.Core.Path.{_≡_, refl, ap, _∙_}
 use mathlib.Core.Bool.{Bool, true, false, cond, _&&_, and-eq-true-iff}
 use mathlib.Core.List.{List, [], _∷_, map}
 use mathlib.Core.Option.{some}
-use lib.ListN.{length, getD, take, drop, getElem?, length-map}
+use lib.ListN.{length, getElem?}
 use lib.Dec.{eqb, leb}
 use borrow.Author.Tests.{leb-true, eqb-true}
-use Rattle.s10.specs.Outcome.{readText}
 use Rattle.s10.specs.Outcome as Identifier
-use Rattle.command.specs.declared.Kind.{Kind}
 use Rattle.command.specs.declared.Command.{Command}
-use Rattle.command.specs.Read.{Outcome, accepted, refused, isKind, kindOf, chuteFits, chuteOf, withChute, readCommand, parts, partsOf, readings, ListOutcome, allAccepted, refusedAt, firstRefusal, commandFrom, commandsIn}
+use Rattle.command.specs.Read.{Outcome, accepted, refused, chuteFits, readCommand, partsOf, readings, ListOutcome, allAccepted, refusedAt, firstRefusal, commandFrom, commandsIn}
+use Rattle.command.proofs.Laws.{accepted-chute-fits}
 use Rattle.model.specs.Step.{Setup, opened, commandAt}
 use Rattle.model.specs.Statement.{Accepted}
+use Rattle.graph.proofs.Commands.{commands-length}
 use Rattle.state_bytes.specs.Layout.{Lists, listsOf, lengthsFit}
 use Rattle.controller.specs.Calls as Calls
 use Rattle.controller.specs.Calls.{openedWith, openOn}
 
 -- ---- commands
-
--- there are as many commands as parts, and as many parts as 16 bytes go into the list
-parts-length : (n : ℕ) (bytes : List ℕ) → length (parts n bytes) ≡ n
-unfolding parts
-parts-length zero bytes = refl
-parts-length (suc n) bytes = ap suc (parts-length n (drop 16 bytes))
-
-pub commands-length : (bytes : List ℕ) → length bytes % 16 ≡ 0 → length (commandsIn bytes) ≡ length bytes / 16
-unfolding commandsIn readings partsOf
-commands-length bytes whole = rw (length-map, length-map, parts-length) (omega arith)
-
--- a reading is accepted only where the chute fits
-chute-chosen : (kind : Kind) (found : Identifier.Outcome) (bytes : List ℕ) (command : Command) → withChute kind found bytes ≡ accepted command
-    → chuteFits (command .kind) (command .chute) ≡ true
-unfolding withChute
-chute-chosen kind (Identifier.accepted key) bytes command e = go (eqb (length bytes) 2 && chuteFits kind (chuteOf bytes)) refl e
-  where
-    go : (t : Bool) → (eqb (length bytes) 2 && chuteFits kind (chuteOf bytes)) ≡ t
-        → cond t (accepted (record { kind = kind; key = key; chute = chuteOf bytes })) (refused 10) ≡ accepted command → chuteFits (command .kind) (command .chute) ≡ true
-    go true t e =
-        let same : _≡_ {A = Command} (record { kind = kind; key = key; chute = chuteOf bytes }) command = cc in
-        subst (λ (c : Command). chuteFits (c .kind) (c .chute) ≡ true) same (and-eq-true-iff (eqb (length bytes) 2) (chuteFits kind (chuteOf bytes)) .0 t .1)
-    go false t e = let z : _≡_ {A = ℕ} 0 1 = cc in absurd (omega arith)
-chute-chosen kind (Identifier.refused n) bytes command e = let z : _≡_ {A = ℕ} 0 1 = cc in absurd (omega arith)
-
--- so an accepted command's chute fits its kind
-accepted-chute-fits : (part : List ℕ) (command : Command) → readCommand part ≡ accepted command → chuteFits (command .kind) (command .chute) ≡ true
-unfolding readCommand
-accepted-chute-fits part command e = go (isKind (getD part 0 0)) e
-  where
-    go : (t : Bool) → cond t (withChute (kindOf (getD part 0 0)) (readText (take 13 (drop 1 part))) (drop 14 part)) (refused 7) ≡ accepted command
-        → chuteFits (command .kind) (command .chute) ≡ true
-    go true e = chute-chosen (kindOf (getD part 0 0)) (readText (take 13 (drop 1 part))) (drop 14 part) command e
-    go false e = let z : _≡_ {A = ℕ} 0 1 = cc in absurd (omega arith)
 
 -- where no reading is refused, each command was read so
 abbrev ChutesFit : List (List ℕ) → ℕ → Command → Type 0
@@ -117,7 +83,7 @@ accepted-opening size workers capacity commands lent l e =
     let e6 = passed (lengthsFit capacity (length commands / 16) lent) 6 (e5 .1) in
     let left = opened-lists (firstRefusal 1 (readings commands)) _ l (e6 .1) in
     let whole = eqb-true (length commands % 16) 0 (e4 .0) in
-    let count = commands-length commands whole in
+    let count = commands-length commands (length commands / 16) (omega arith) in
     record {
       setup = record {
         size = range size 150 (e1 .0);

@@ -1,6 +1,6 @@
 -- Demand 3 over calls, proved: the lists kept are always those of the state that the performed schedules reach, so that the three parts of
 -- the model's theorem are read off them. Assumes nothing.
-use Prim.Native.Nat.{ℕ, zero, suc, _+_, _*_, _≤_, _<_}
+use Prim.Native.Nat.{ℕ, zero, suc, _+_, _*_, _<_}
 use native.Mathlib.Numerals.{add-one}
 use native.Mathlib.Omega.{arith}
 use mathlib.Core.Path.{_≡_, refl, sym, ap, _∙_}
@@ -17,12 +17,12 @@ use Rattle.model.specs.Proof.Serial.{Ascending}
 use Rattle.model.specs.Proof.Service.{entries-ascending}
 use Rattle.model.specs.Proof.Finish.Schedule.{steps-append, within-append}
 use Rattle.model.specs.Proof.Theorem.{table-at-any-moment, demand-3}
-use Rattle.model.specs.Proof.Formed.{SetupFormed, Formed}
+use Rattle.model.specs.Proof.Formed.{Formed}
 use Rattle.model.specs.Proof.Formed.Keep.{steps-formed}
 use Rattle.model.specs.Proof.Formed.Opening.{opened-formed, accepted-formed}
 use Rattle.command.specs.Read.{commandsIn}
 use Rattle.state_bytes.specs.Layout.{Lists, listsOf, setupIn, stateIn, ascends, stateFits, handedBackFit}
-use Rattle.controller.specs.Calls.{Outcome, accepted, refused, kept, advanceOn}
+use Rattle.controller.specs.Calls.{Outcome, accepted, refused, kept, openOn, advanceOn}
 use Rattle.controller.specs.Demand3.{Call, callOn, after, ProperCall, Proper, accepts, schedules, HoldsAfter, Demand3}
 use Rattle.state_bytes.proofs.Bytes.{below-or-past, each-all-below}
 use Rattle.state_bytes.proofs.RoundTrip.{lists-state, state-read-back, setup-read-back, lists-fit, state-fits}
@@ -157,3 +157,14 @@ demand-3-over-calls size workers capacity commands lent l e calls proper =
     let is : IsOpened o commands l = accepted-opening size workers capacity commands lent l e in
     let reached = calls-reach o (is .setup) commands refl (is .long) calls l [] (opening-reaches o l (is .lists)) proper in
     holds o (is .setup) commands refl (is .long) (after calls l) (schedules calls) reached
+
+-- an accepted opening, then one call: a schedule of known threads is performed, and what is read of the lists left is the state reached
+pub opening-performs : (size workers capacity : ℕ) (commands : List ℕ) (lent l : Lists) → openOn size workers capacity commands lent ≡ accepted l
+    → (schedule : List ℕ) → allWithin workers schedule ≡ true
+    → let o : Setup = record { size = size; workers = workers; capacity = capacity; commands = commandsIn commands } in
+    let s : State = steps o schedule (opened o) in
+    (advanceOn l commands schedule ≡ accepted (listsOf o s)) × (stateIn (listsOf o s) ≡ s)
+opening-performs size workers capacity commands lent l e schedule within =
+    let o : Setup = record { size = size; workers = workers; capacity = capacity; commands = commandsIn commands } in
+    let is : IsOpened o commands l = accepted-opening size workers capacity commands lent l e in
+    (more-accepted o (is .setup) commands refl (is .long) l [] (opening-reaches o l (is .lists)) schedule within, read-back o (is .setup) schedule within)

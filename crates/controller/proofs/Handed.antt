@@ -1,16 +1,13 @@
 -- What lists that pass the tests of a call show: the facts behind the tests, and memory ready for a step. Assumes nothing.
-use Prim.Native.Nat.{ℕ, zero, suc, _+_, _*_, _%_, _≤_, _<_}
+use Prim.Native.Nat.{ℕ, _+_, _*_, _≤_, _<_}
 use native.Mathlib.Omega.{arith}
-use native.Mathlib.Nat.{zero-add}
 use mathlib.Core.Path.{_≡_, refl, sym, ap, _∙_, fun-ext, subst}
-use mathlib.Core.Bool.{Bool, true, false, cond, not, _&&_, _||_, and-eq-true-iff}
+use mathlib.Core.Bool.{Bool, true, false, cond, not, _||_}
 use mathlib.Core.List.{List, [], _∷_}
 use lib.ListN.{length, getD, replicate, length-replicate, getD-replicate, List·getD-eq-default}
 use lib.Dec.{eqb, leb, ltb}
-use lib.Seq.{drop-cons}
-use borrow.Author.Tests.{leb-true, eqb-true, lt-ltb, le-ltb}
+use borrow.Author.Tests.{leb-true, lt-ltb, le-ltb}
 use Rattle.node_set.specs.Members.{member}
-use Rattle.node_set.proofs.Bits.{bit-of-zero}
 use Rattle.model.specs.declared.Thread.{Thread}
 use Rattle.model.specs.declared.Thread.the-variants.{Idle}
 use Rattle.model.specs.Statement.{allWithin}
@@ -20,33 +17,17 @@ use Rattle.command.specs.Read.{commandsIn}
 use Rattle.graph.specs.Items.{Kept}
 use Rattle.graph.specs.Memory.{Ready, memory, shown}
 use Rattle.graph.proofs.Commands.{commands-length}
-use Rattle.state_bytes.specs.Bytes.{numberOf, numberAt, tabulate, allBelow}
-use Rattle.state_bytes.specs.Layout.{Lists, lists, threadOf, threadAt, setAt, setupIn, countIn, stateIn, stateLength, threadFits, threadFitsAt, setFits, nodeFitsAt, settingsFit, ascends, stateFits, lengthsFit, handedBackFit}
+use Rattle.state_bytes.specs.Bytes.{numberAt, tabulate}
+use Rattle.state_bytes.specs.Layout.{Lists, threadOf, threadAt, setAt, setupIn, countIn, stateIn, stateLength, threadFits, threadFitsAt}
 use Rattle.controller.specs.Performed.{CountersIn}
-use Rattle.state_bytes.proofs.Bytes.{below-or-past, tabulate-at, tabulate-past, all-below-each}
-use Rattle.state_bytes.proofs.RoundTrip.{state-tests, node-tests}
+use Rattle.state_bytes.proofs.Bytes.{below-or-past, tabulate-at, tabulate-past}
+use Rattle.state_bytes.proofs.Fill.{number-one}
+use Rattle.state_bytes.proofs.StateParts.{no-member}
+use Rattle.state_bytes.proofs.Tested.{each-passed}
+use Rattle.state_bytes.proofs.HandedBack.{Long, InRange}
 use Rattle.controller.proofs.Performing.{threadsOf, within-higher}
 
--- ---- tests one after the other
-
-abbrev pub allOf : Bool → List Bool → Bool
-allOf test [] = test
-allOf test (next ∷ tests) = allOf (test && next) tests
-
--- each test of a chain that passes has passed
-pub each-passed : (test : Bool) (tests : List Bool) → allOf test tests ≡ true → (i : ℕ) → getD (test ∷ tests) i true ≡ true
-each-passed test [] h zero = h
-each-passed test [] h (suc i) = refl
-each-passed test (next ∷ tests) h zero = and-eq-true-iff test next .0 (each-passed (test && next) tests h 0) .0
-each-passed test (next ∷ tests) h (suc zero) = and-eq-true-iff test next .0 (each-passed (test && next) tests h 0) .1
-each-passed test (next ∷ tests) h (suc (suc i)) = each-passed (test && next) tests h (suc i)
-
 -- ---- what is read
-
--- a number of one byte is the byte
-pub number-one : (at : ℕ) (b : List ℕ) → at < length b → numberAt 1 at b ≡ getD b at 0
-unfolding numberAt numberOf
-number-one at b h = rw (drop-cons b at 0 h) (zero-add (getD b at 0))
 
 -- a tabulated element, or the default past the end
 tabulate-cond {ℓ} : {A : Type ℓ} (k : ℕ) (f : ℕ → A) (d : A) (n : ℕ) → getD (tabulate k f) n d ≡ cond (ltb n k) (f n) d
@@ -62,11 +43,6 @@ tabulate-all P k f d each last n =
 pub zeros : (k n : ℕ) → _≡_ {A = ℕ} (getD (replicate k 0) n 0) 0
 zeros k n =
     below-or-past n k (λ h. getD-replicate k n 0 0 h) (λ h. List·getD-eq-default (replicate k 0) 0 {n = n} (rw (length-replicate {A = ℕ} k 0) h))
-
--- the set of no words is empty
-no-member : (y : ℕ) → member [] y ≡ false
-unfolding member
-no-member y = bit-of-zero (y % 64)
 
 -- a tabulated set's members
 set-cond : (f : ℕ → List ℕ) (n y : ℕ) → member (getD (tabulate 151 f) n []) y ≡ cond (ltb n 151) (member (f n) y) false
@@ -89,42 +65,7 @@ thread-within tag at own found h j =
 
 -- ---- the facts behind the tests
 
-pub record Fit (l : Lists) (commands : List ℕ) : Type 0 where
-  pub long : length (l .state) ≡ 4715
-  pub answers : length (l .answers) ≡ countIn (l .state)
-  pub keys : length (l .keys) ≡ numberAt 2 2 (l .state)
-  pub whole : length commands ≡ 16 * countIn (l .state)
-  pub workers : numberAt 1 1 (l .state) ≤ 64
-  pub few : countIn (l .state) ≤ 4096
-  pub free : numberAt 1 10 (l .state) ≤ 150
-  pub next : (n : ℕ) → n < 151 → getD (l .state) (11 + n) 0 ≤ 150
-  pub seq : (n : ℕ) → n < 151 → numberAt 2 (162 + 2 * n) (l .state) ≤ countIn (l .state)
-  pub threads : (t : ℕ) → t < 65 → Within (threadAt (l .state) t)
-
 module _ (l : Lists) (commands : List ℕ) where
-  lengths-passed : handedBackFit l commands ≡ true
-      → (length (l .state) ≡ 4715) × (length (l .answers) ≡ countIn (l .state)) × (length (l .keys) ≡ numberAt 2 2 (l .state)) × (length commands ≡ 16 * countIn (l .state))
-  unfolding handedBackFit lengthsFit stateLength setupIn
-  lengths-passed fit =
-      let capacity = numberAt 2 2 (l .state) in
-      let each = each-passed (eqb (length (l .state)) 4715) (eqb (length (l .answers)) (countIn (l .state)) ∷ eqb (length (l .keys)) capacity
-      ∷ eqb (length (l .chutes)) capacity ∷ eqb (length commands) (16 * countIn (l .state)) ∷ []) fit in
-      (eqb-true _ _ (each 0), eqb-true _ _ (each 1), eqb-true _ _ (each 2), eqb-true _ _ (each 4))
-
-  settings-passed : (size workers capacity count : ℕ) → settingsFit size workers capacity count ≡ true → (size ≤ 150) × (workers ≤ 64) × (count ≤ 4096)
-  unfolding settingsFit
-  settings-passed size workers capacity count fit =
-      let each = each-passed (leb 1 size) (leb size 150 ∷ leb 1 workers ∷ leb workers 64 ∷ leb 1 capacity ∷ leb capacity 4096 ∷ leb count 4096 ∷ []) fit in
-      (leb-true _ _ (each 1), leb-true _ _ (each 3), leb-true _ _ (each 6))
-
-  node-passed : (size count n : ℕ) → nodeFitsAt (l .state) size count n ≡ true
-      → (getD (l .state) (11 + n) 0 ≤ size) × (numberAt 2 (162 + 2 * n) (l .state) ≤ count)
-  node-passed size count n fit =
-      let b = l .state in
-      let each = each-passed (leb (getD b (11 + n) 0) size) (leb (numberAt 2 (162 + 2 * n) b) count ∷ leb (getD b (464 + n) 0) 1 ∷ leb (getD b (615 + n) 0) 1
-      ∷ setFits (setAt b n) size ∷ []) (sym (node-tests b size count n) ∙ fit) in
-      (leb-true _ _ (each 0), leb-true _ _ (each 1))
-
   thread-passed : (size t : ℕ) → size ≤ 150 → threadFitsAt (l .state) size t ≡ true → Within (threadAt (l .state) t)
   unfolding threadFitsAt threadFits threadAt
   thread-passed size t small fit =
@@ -138,51 +79,26 @@ module _ (l : Lists) (commands : List ℕ) where
       ∷ (eqb tag 1 || eqb tag 3 || eqb tag 4 || eqb tag 5 || eqb tag 6 || eqb tag 7 || eqb own 0) ∷ (eqb tag 4 || eqb found 0) ∷ []) fit in
       thread-within tag at own found (omega (arith, leb-true at size (each 1))) (omega (arith, leb-true own size (each 2)))
 
-  pub tests-fit : handedBackFit l commands ≡ true → stateFits l ≡ true → Fit l commands
-  tests-fit fit all =
-      let b = l .state in
-      let size = numberAt 1 0 b in
-      let count = countIn b in
-      let lengths = lengths-passed fit in
-      let each = each-passed (settingsFit size (numberAt 1 1 b) (numberAt 2 2 b) count) (leb (numberAt 2 6 b) count ∷ leb (numberAt 1 10 b) size
-      ∷ allBelow 151 (nodeFitsAt b size count) ∷ allBelow 65 (threadFitsAt b size) ∷ leb (numberAt 2 8 b) (numberAt 2 2 b)
-      ∷ ascends (numberAt 2 8 b) (l .keys) ∷ []) (sym (state-tests l) ∙ all) in
-      let settings = settings-passed size (numberAt 1 1 b) (numberAt 2 2 b) count (each 0) in
-      let nodes = all-below-each 151 (nodeFitsAt b size count) (each 3) in
-      record {
-        long = lengths .0;
-        answers = lengths .1;
-        keys = lengths .2;
-        whole = lengths .3;
-        workers = settings .1;
-        few = settings .2;
-        free = omega (arith, leb-true (numberAt 1 10 b) size (each 2), settings .0);
-        next = λ n h. omega (arith, node-passed size count n (nodes n h) .0, settings .0);
-        seq = λ n h. node-passed size count n (nodes n h) .1;
-        threads = λ t h. thread-passed size t (settings .0) (all-below-each 65 (threadFitsAt b size) (each 4) t h);
-      }
+  -- all of them
+  pub threads-within : InRange l → (t : ℕ) → t < 65 → Within (threadAt (l .state) t)
+  threads-within range t h = thread-passed (numberAt 1 0 (l .state)) t (range .size) (range .threads t h)
 
   -- there are as many commands as the state says
-  pub fit-count : Fit l commands → length (commandsIn commands) ≡ countIn (l .state)
-  fit-count f = commands-length commands (countIn (l .state)) (f .whole)
+  pub fit-count : Long l commands → length (commandsIn commands) ≡ countIn (l .state)
+  fit-count long = commands-length commands (countIn (l .state)) (long .commands-are)
 
   -- the schedule's threads are among the 65, and the setup is that of the lists
-  pub fit-named : Fit l commands → (schedule : List ℕ) → allWithin (setupIn (l .state) commands .workers) schedule ≡ true → allWithin 64 schedule ≡ true
+  pub fit-named : InRange l → (schedule : List ℕ) → allWithin (setupIn (l .state) commands .workers) schedule ≡ true → allWithin 64 schedule ≡ true
   unfolding setupIn
-  fit-named f schedule = within-higher (numberAt 1 1 (l .state)) 64 (f .workers) schedule
+  fit-named range schedule = within-higher (numberAt 1 1 (l .state)) 64 (range .workers) schedule
 
-  pub fit-capacity : Fit l commands → setupIn (l .state) commands .capacity ≡ length (l .keys)
+  pub fit-capacity : Long l commands → setupIn (l .state) commands .capacity ≡ length (l .keys)
   unfolding setupIn
-  fit-capacity f = sym (f .keys)
+  fit-capacity long = sym (long .keys)
 
   pub fit-commands : setupIn (l .state) commands .commands ≡ commandsIn commands
   unfolding setupIn
   fit-commands = refl
-
--- the state is as long as the layout
-pub passed-long : (l : Lists) (commands : List ℕ) → handedBackFit l commands ≡ true → length (l .state) ≡ stateLength
-unfolding stateLength
-passed-long l commands fit = lengths-passed l commands fit .0
 
 -- the worker count is byte 1
 pub workers-in : (b commands : List ℕ) → length b ≡ stateLength → setupIn b commands .workers ≡ getD b 1 0
@@ -219,25 +135,25 @@ module _ (l : Lists) {k : Counters} {next seq : List ℕ} {executing locked : Li
     answers = λ c. getD (0 ∷ l .answers) c 0;
   }
 
-  module _ (commands : List ℕ) (f : Fit l commands) where
+  module _ (commands : List ℕ) (long : Long l commands) (range : InRange l) where
     -- each sequence number is that of a command
     pub read-placed : (n : ℕ) → 16 * getD seq n 0 ≤ length commands
     read-placed n =
-        let h = tabulate-all (λ (x : ℕ). x ≤ countIn (l .state)) 151 (λ (n : ℕ). numberAt 2 (162 + 2 * n) (l .state)) 0 (f .seq) (omega arith) n in
+        let h = tabulate-all (λ (x : ℕ). x ≤ countIn (l .state)) 151 (λ (n : ℕ). numberAt 2 (162 + 2 * n) (l .state)) 0 (range .seq) (omega arith) n in
         let e = ap (λ (a : List ℕ). getD a n 0) (r .seq-is) in
-        omega (arith, f .whole, h, e)
+        omega (arith, long .commands-are, h, e)
 
     -- and they are ready for a step of any thread
     pub read-ready : {kinds itemKeys itemChutes : List ℕ} → Kept (commandsIn commands) (numbers seq) kinds itemKeys itemChutes
         → Ready commands kinds itemKeys itemChutes (memory next seq executing locked waits (l .keys) (l .chutes) (l .answers) k) Idle
     read-ready kept = record {
-      nodes = subst (λ (a : List ℕ). (n : ℕ) → getD a n 0 ≤ 150) (sym (r .next-is)) (tabulate-all (λ (x : ℕ). x ≤ 150) 151 _ 0 (f .next) (omega arith));
-      free = omega (arith, r .counters .free-is, f .free);
+      nodes = subst (λ (a : List ℕ). (n : ℕ) → getD a n 0 ≤ 150) (sym (r .next-is)) (tabulate-all (λ (x : ℕ). x ≤ 150) 151 _ 0 (range .next) (omega arith));
+      free = omega (arith, r .counters .free-is, range .free);
       within = tt;
       kept = kept;
-      whole = omega (arith, f .whole, f .answers);
-      few = omega (arith, f .few, f .answers);
+      whole = omega (arith, long .commands-are, long .answers);
+      few = omega (arith, range .count, long .answers);
     }
 
     pub read-within : (t : ℕ) → Within (threadsOf threads t)
-    read-within = subst (λ (a : List Thread). (t : ℕ) → Within (threadsOf a t)) (sym (r .threads-are)) (tabulate-all Within 65 (threadAt (l .state)) Idle (f .threads) tt)
+    read-within = subst (λ (a : List Thread). (t : ℕ) → Within (threadsOf a t)) (sym (r .threads-are)) (tabulate-all Within 65 (threadAt (l .state)) Idle (threads-within l commands range) tt)

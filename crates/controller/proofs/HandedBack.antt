@@ -1,43 +1,31 @@
 -- What a call reads from handed-back lists that pass its tests lays out as these lists, so that an empty schedule changes nothing.
 -- Assumes nothing.
-use Prim.Native.Nat.{ℕ, zero, suc, _+_, _*_, _^_, _≤_, _<_}
+use Prim.Native.Nat.{ℕ, zero, suc, _+_, _*_, _≤_, _<_}
 use native.Mathlib.Omega.{arith}
 use mathlib.Core.Path.{_≡_, refl, sym, ap, _∙_}
-use mathlib.Core.Bool.{Bool, true, false, cond, not, _&&_, _||_, and-eq-true-iff}
+use mathlib.Core.Bool.{Bool, true, false, cond, not, _||_}
 use mathlib.Core.List.{List, [], _∷_}
 use lib.ListN.{length, getD, take, drop}
 use lib.Dec.{eqb, leb, ltb}
 use lib.Seq.{take-all}
 use borrow.Author.Tests.{leb-true, eqb-true, lt-ltb}
 use Rattle.node_set.specs.Members.{bit, member, wordOf}
-use Rattle.node_set.proofs.Bits.{same-bits-same-word}
 use Rattle.node_set.proofs.Words.{member-low, member-high}
-use Rattle.node_set.proofs.Laws.{word-of-is-word-of}
 use Rattle.model.specs.declared.Thread.{Thread}
 use Rattle.model.specs.Step.{steps}
 use Rattle.model.specs.Statement.{allWithin}
 use Rattle.command.specs.Read.{commandsIn}
-use Rattle.state_bytes.specs.Bytes.{bytesOf, numberAt, tabulate, fields, allBelow}
-use Rattle.state_bytes.specs.Layout.{Lists, flagByte, setBytes, threadBytes, stateBytes, listsOf, threadOf, threadAt, setAt, setupIn, countIn, stateIn, stateLength, threadFits, threadFitsAt, setFits, nodeFitsAt, settingsFit, ascends, stateFits, lengthsFit, handedBackFit}
+use Rattle.state_bytes.specs.Bytes.{bytesOf, numberAt, tabulate, fields}
+use Rattle.state_bytes.specs.Layout.{Lists, flagByte, setBytes, threadBytes, stateBytes, listsOf, threadOf, threadAt, setAt, setupIn, countIn, stateIn, stateLength, threadFits, threadFitsAt, stateFits, handedBackFit}
 use Rattle.controller.specs.Calls.{accepted, advanceOn}
-use Rattle.state_bytes.proofs.Bytes.{_▸_, Bytes, number-read-below, number-stands, one-byte, next-stands, parts-of, StandAt, fields-of, tabulate-elements, all-below-each}
+use Rattle.state_bytes.proofs.Bytes.{_▸_, Bytes, number-read-below, number-stands, one-byte, next-stands, parts-of, StandAt, fields-of, tabulate-elements}
 use Rattle.state_bytes.proofs.StateParts.{tagOf, atOf, ownOf, foundOf, thread-parts, setParts, set-parts, partLengths, partsOf, parts-joined}
-use Rattle.state_bytes.proofs.RoundTrip.{lists-state, lists-answers, lists-keys, lists-chutes, state-tests, node-tests}
-use Rattle.controller.proofs.AcceptedOpening.{commands-length}
-
--- ---- tests one after the other
-
-abbrev allOf : Bool → List Bool → Bool
-allOf test [] = test
-allOf test (next ∷ tests) = allOf (test && next) tests
-
--- each test of a chain that passes has passed
-each-passed : (test : Bool) (tests : List Bool) → allOf test tests ≡ true → (i : ℕ) → getD (test ∷ tests) i true ≡ true
-each-passed test [] h zero = h
-each-passed test [] h (suc i) = refl
-each-passed test (next ∷ tests) h zero = and-eq-true-iff test next .0 (each-passed (test && next) tests h 0) .0
-each-passed test (next ∷ tests) h (suc zero) = and-eq-true-iff test next .0 (each-passed (test && next) tests h 0) .1
-each-passed test (next ∷ tests) h (suc (suc i)) = each-passed (test && next) tests h (suc i)
+use Rattle.state_bytes.proofs.RoundTrip.{lists-state, lists-answers, lists-keys, lists-chutes}
+use Rattle.graph.proofs.Commands.{commands-length}
+use Rattle.state_bytes.proofs.Tested.{each-passed}
+use Rattle.state_bytes.proofs.Paste.{word-again}
+use Rattle.state_bytes.proofs.HandedBack.{Long, InRange, lengths-passed, state-passed}
+use Rattle.controller.proofs.Performing.{same-lists}
 
 -- ---- a thread's parts
 
@@ -76,12 +64,7 @@ thread-kept size t tag at own found fit =
 kept-bytes : (thread : Thread) (tag at own found : ℕ) → HasParts thread tag at own found → threadBytes thread ≡ tag ∷ at ∷ own ∷ bytesOf 2 found
 kept-bytes thread tag at own found kept = thread-parts thread ∙ rw (kept .tag-is, kept .at-is, kept .own-is, kept .found-is)
 
--- ---- a set's words
-
--- a word is known by its bits
-word-again : (set : ℕ → Bool) (word : ℕ) → word < 2 ^ 64 → ((b : ℕ) → b < 64 → set b ≡ bit word b) → wordOf 64 set ≡ word
-word-again set word fits same =
-    same-bits-same-word 64 (wordOf 64 set) word (word-of-is-word-of 64 set .fits) fits (λ b h. word-of-is-word-of 64 set .inside b h ∙ same b h)
+-- ---- a flag
 
 -- a byte up to 1 is a flag
 flag-again : (n : ℕ) → n ≤ 1 → flagByte (eqb n 1) ≡ n ∷ []
@@ -99,14 +82,14 @@ module _ (b : List ℕ) (long : length b ≡ 4715) (bytes : Bytes b) where
   byte-here : (at : ℕ) → at < 4715 → bytesOf 1 (getD b at 0) ≡ take 1 (drop at b)
   byte-here at h = one-byte (getD b at 0) (bytes at) ∙ sym (next-stands 0 at (suc at) b refl (omega arith))
 
-  flag-here : (at : ℕ) → at < 4715 → leb (getD b at 0) 1 ≡ true → flagByte (eqb (getD b at 0) 1) ≡ take 1 (drop at b)
-  flag-here at h small = flag-again (getD b at 0) (leb-true (getD b at 0) 1 small) ∙ sym (next-stands 0 at (suc at) b refl (omega arith))
+  flag-here : (at : ℕ) → at < 4715 → getD b at 0 ≤ 1 → flagByte (eqb (getD b at 0) 1) ≡ take 1 (drop at b)
+  flag-here at h small = flag-again (getD b at 0) small ∙ sym (next-stands 0 at (suc at) b refl (omega arith))
 
   -- a word whose bits a set has
   word-here : (set : ℕ → Bool) (at place : ℕ) → at ≡ place → at + 8 ≤ 4715 → ((y : ℕ) → y < 64 → set y ≡ bit (numberAt 8 at b) y)
       → bytesOf 8 (wordOf 64 set) ≡ take 8 (drop place b)
   word-here set at place e h same =
-      ap (bytesOf 8) (word-again set (numberAt 8 at b) (number-read-below 8 at b bytes (omega arith)) same) ∙ number-here 8 at h ∙ ap (λ (p : ℕ). take 8 (drop p b)) e
+      ap (bytesOf 8) (word-again (numberAt 8 at b) set (number-read-below 8 at b bytes (omega arith)) same) ∙ number-here 8 at h ∙ ap (λ (p : ℕ). take 8 (drop p b)) e
 
   -- so are a set's three words
   set-here : (n : ℕ) → n < 151 → setBytes (member (setAt b n)) ≡ take 24 (drop (766 + 24 * n) b)
@@ -145,64 +128,25 @@ module _ (b : List ℕ) (long : length b ≡ 4715) (bytes : Bytes b) where
 
 -- ---- handed-back lists
 
--- what the tests say of them
-record Passed (l : Lists) (commands : List ℕ) : Type 0 where
-  long : length (l .state) ≡ 4715
-  answers : length (l .answers) ≡ countIn (l .state)
-  count : length (commandsIn commands) ≡ countIn (l .state)
-  executing : (n : ℕ) → n < 151 → leb (getD (l .state) (464 + n) 0) 1 ≡ true
-  locked : (n : ℕ) → n < 151 → leb (getD (l .state) (615 + n) 0) 1 ≡ true
-  threads : (t : ℕ) → t < 65 → threadFitsAt (l .state) (numberAt 1 0 (l .state)) t ≡ true
-
 -- what is read below k is what stands there
 at-first {ℓ} : {A : Type ℓ} (f : A → List ℕ) (x d : A) (n k : ℕ) → n < k → f (cond (ltb n k) x d) ≡ f x
 at-first f x d n k h = ap (λ (t : Bool). f (cond t x d)) (lt-ltb n k h)
 
-module _ (l : Lists) (commands : List ℕ) where
-  -- each part of the tests, by its place among them
-  lengths-passed : handedBackFit l commands ≡ true
-      → (length (l .state) ≡ 4715) × (length (l .answers) ≡ countIn (l .state)) × (length commands ≡ 16 * countIn (l .state))
-  unfolding handedBackFit lengthsFit stateLength
-  lengths-passed fit =
-      let capacity = setupIn (l .state) commands .capacity in
-      let each = each-passed (eqb (length (l .state)) 4715) (eqb (length (l .answers)) (countIn (l .state)) ∷ eqb (length (l .keys)) capacity
-      ∷ eqb (length (l .chutes)) capacity ∷ eqb (length commands) (16 * countIn (l .state)) ∷ []) fit in
-      (eqb-true _ _ (each 0), eqb-true _ _ (each 1), eqb-true _ _ (each 4))
+module _ (l : Lists) (commands : List ℕ) (bytes : Bytes (l .state)) (lengths : Long l commands) (range : InRange l) where
+  long : length (l .state) ≡ 4715
+  unfolding stateLength
+  long = lengths .state
 
-  node-passed : (size count n : ℕ) → nodeFitsAt (l .state) size count n ≡ true
-      → (leb (getD (l .state) (464 + n) 0) 1 ≡ true) × (leb (getD (l .state) (615 + n) 0) 1 ≡ true)
-  node-passed size count n fit =
-      let b = l .state in
-      let each = each-passed (leb (getD b (11 + n) 0) size) (leb (numberAt 2 (162 + 2 * n) b) count ∷ leb (getD b (464 + n) 0) 1 ∷ leb (getD b (615 + n) 0) 1
-      ∷ setFits (setAt b n) size ∷ []) (sym (node-tests b size count n) ∙ fit) in
-      (each 2, each 3)
+  -- as many commands as the state says
+  count : length (commandsIn commands) ≡ countIn (l .state)
+  count = commands-length commands (countIn (l .state)) (lengths .commands-are)
 
-  passed : handedBackFit l commands ≡ true → stateFits l ≡ true → Passed l commands
-  passed fit whole =
-      let b = l .state in
-      let size = numberAt 1 0 b in
-      let count = countIn b in
-      let lengths = lengths-passed fit in
-      let each = each-passed (settingsFit size (numberAt 1 1 b) (numberAt 2 2 b) count) (leb (numberAt 2 6 b) count ∷ leb (numberAt 1 10 b) size
-      ∷ allBelow 151 (nodeFitsAt b size count) ∷ allBelow 65 (threadFitsAt b size) ∷ leb (numberAt 2 8 b) (numberAt 2 2 b)
-      ∷ ascends (numberAt 2 8 b) (l .keys) ∷ []) (sym (state-tests l) ∙ whole) in
-      let nodes = all-below-each 151 (nodeFitsAt b size count) (each 3) in
-      record {
-        long = lengths .0;
-        answers = lengths .1;
-        count = commands-length commands (omega (arith, lengths .2)) ∙ omega (arith, lengths .2);
-        executing = λ n h. node-passed size count n (nodes n h) .0;
-        locked = λ n h. node-passed size count n (nodes n h) .1;
-        threads = all-below-each 65 (threadFitsAt b size) (each 4);
-      }
-
-module _ (l : Lists) (commands : List ℕ) (bytes : Bytes (l .state)) (pass : Passed l commands) where
   -- the laws above, for these bytes
   numbers-again : (k at : ℕ) → at + k ≤ 4715 → bytesOf k (numberAt k at (l .state)) ≡ take k (drop at (l .state))
-  numbers-again = number-here (l .state) (pass .long) bytes
+  numbers-again = number-here (l .state) long bytes
 
   run-again : (f : ℕ → List ℕ) (at : ℕ) → ((n : ℕ) → n < 151 → f n ≡ take 1 (drop (at + n) (l .state))) → fields 151 f ≡ take 151 (drop at (l .state))
-  run-again = run-here (l .state) (pass .long) bytes
+  run-again = run-here (l .state) long bytes
 
   -- each part of the bytes is what the parts read make again
   parts-again : StandAt (partsOf (setupIn (l .state) commands) (stateIn l)) partLengths 0 (l .state)
@@ -210,38 +154,34 @@ module _ (l : Lists) (commands : List ℕ) (bytes : Bytes (l .state)) (pass : Pa
   parts-again =
       let b = l .state in
       numbers-again 1 0 (omega arith) ▸ numbers-again 1 1 (omega arith) ▸ numbers-again 2 2 (omega arith)
-      ▸ (ap (bytesOf 2) (pass .count) ∙ numbers-again 2 4 (omega arith))
+      ▸ (ap (bytesOf 2) (count) ∙ numbers-again 2 4 (omega arith))
       ▸ numbers-again 2 6 (omega arith) ▸ numbers-again 2 8 (omega arith) ▸ numbers-again 1 10 (omega arith)
-      ▸ run-again (λ n. bytesOf 1 (stateIn l .next n)) 11 (λ n h. at-first (bytesOf 1) _ _ n 151 h ∙ byte-here b (pass .long) bytes (11 + n) (omega arith))
+      ▸ run-again (λ n. bytesOf 1 (stateIn l .next n)) 11 (λ n h. at-first (bytesOf 1) _ _ n 151 h ∙ byte-here b long bytes (11 + n) (omega arith))
       ▸ fields-of 2 151 (λ n. bytesOf 2 (stateIn l .seq n)) 162 b (λ n h. at-first (bytesOf 2) _ _ n 151 h ∙ numbers-again 2 (162 + 2 * n) (omega arith))
       ▸ run-again (λ n. flagByte (stateIn l .executing n)) 464
-      (λ n h. at-first flagByte _ _ n 151 h ∙ flag-here b (pass .long) bytes (464 + n) (omega arith) (pass .executing n h))
+      (λ n h. at-first flagByte _ _ n 151 h ∙ flag-here b long bytes (464 + n) (omega arith) (range .executing n h))
       ▸ run-again (λ n. flagByte (stateIn l .locked n)) 615
-      (λ n h. at-first flagByte _ _ n 151 h ∙ flag-here b (pass .long) bytes (615 + n) (omega arith) (pass .locked n h))
+      (λ n h. at-first flagByte _ _ n 151 h ∙ flag-here b long bytes (615 + n) (omega arith) (range .locked n h))
       ▸ fields-of 24 151 (λ n. setBytes (stateIn l .waits n)) 766 b
-      (λ n h. ap (λ (t : Bool). setBytes (λ y. cond t (member (setAt b n) y) false)) (lt-ltb n 151 h) ∙ set-here b (pass .long) bytes n h)
+      (λ n h. ap (λ (t : Bool). setBytes (λ y. cond t (member (setAt b n) y) false)) (lt-ltb n 151 h) ∙ set-here b long bytes n h)
       ▸ fields-of 5 65 (λ t. threadBytes (stateIn l .threads t)) 4390 b
-      (λ t h. at-first threadBytes _ _ t 65 h ∙ thread-here b (pass .long) bytes (numberAt 1 0 b) t h (pass .threads t h)) ▸ tt
+      (λ t h. at-first threadBytes _ _ t 65 h ∙ thread-here b long bytes (numberAt 1 0 b) t h (range .threads t h)) ▸ tt
 
   -- all of them are all the bytes
   state-again : stateBytes (setupIn (l .state) commands) (stateIn l) ≡ l .state
   state-again =
       let parts = partsOf (setupIn (l .state) commands) (stateIn l) in
-      parts-joined (setupIn (l .state) commands) (stateIn l) ∙ parts-of parts partLengths 0 (l .state) parts-again ∙ take-all 4715 (l .state) (omega (arith, pass .long))
+      parts-joined (setupIn (l .state) commands) (stateIn l) ∙ parts-of parts partLengths 0 (l .state) parts-again ∙ take-all 4715 (l .state) (omega (arith, long))
 
   -- there are as many answers as commands
   answers-again : tabulate (length (setupIn (l .state) commands .commands)) (λ i. stateIn l .answers (suc i)) ≡ l .answers
   unfolding setupIn stateIn
-  answers-again = tabulate-elements (length (commandsIn commands)) (l .answers) 0 (pass .answers ∙ sym (pass .count))
+  answers-again = tabulate-elements (length (commandsIn commands)) (l .answers) 0 (lengths .answers ∙ sym (count))
 
 -- the store's lists are the caller's
 store-in : (l : Lists) → (stateIn l .store .keys ≡ l .keys) × (stateIn l .store .chutes ≡ l .chutes)
 unfolding stateIn
 store-in l = (refl, refl)
-
--- lists are known by their parts
-same-lists : (l m : Lists) → l .state ≡ m .state → l .answers ≡ m .answers → l .keys ≡ m .keys → l .chutes ≡ m .chutes → l ≡ m
-same-lists l m state answers keys chutes = λ i. record { state = state i; answers = answers i; keys = keys i; chutes = chutes i }
 
 module _ (l : Lists) (commands : List ℕ) (bytes : Bytes (l .state)) (fit : handedBackFit l commands ≡ true) (whole : stateFits l ≡ true) where
   -- what is read lays out as the lists
@@ -249,8 +189,9 @@ module _ (l : Lists) (commands : List ℕ) (bytes : Bytes (l .state)) (fit : han
   lists-again =
       let o = setupIn (l .state) commands in
       let s = stateIn l in
-      let pass = passed l commands fit whole in
-      same-lists (listsOf o s) l (lists-state o s ∙ state-again l commands bytes pass) (lists-answers o s ∙ answers-again l commands bytes pass)
+      let lengths = lengths-passed l commands fit in
+      let range = state-passed l whole in
+      same-lists (listsOf o s) l (lists-state o s ∙ state-again l commands bytes lengths range) (lists-answers o s ∙ answers-again l commands bytes lengths range)
       (lists-keys o s ∙ store-in l .0) (lists-chutes o s ∙ store-in l .1)
 
   -- so no step changes nothing

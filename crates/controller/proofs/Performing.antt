@@ -14,7 +14,8 @@ use Rattle.model.specs.declared.Thread.{Thread}
 use Rattle.model.specs.declared.Thread.the-variants.{Idle}
 use Rattle.model.specs.Step.{Setup, State, upd, step, steps}
 use Rattle.model.specs.Statement.{allWithin}
-use Rattle.model.specs.Proof.Upd.{eqb-cases, upd-at, upd-other}
+use Rattle.model.specs.Proof.Tests.{eqb-cases}
+use Rattle.model.specs.Proof.Upd.{upd-at, upd-other}
 use Rattle.model.specs.Proof.Finish.Schedule.{steps-append}
 use Rattle.model.specs.declared.Counters.{Counters}
 use Rattle.graph.specs.Arrays.{Within}
@@ -136,7 +137,7 @@ along-more {schedule} {m₀} {threads₀} {m} {m′} {threads} {i} thread a h hi
     inside = omega (arith, a .all)
 
 -- lists are known by their parts
-same-lists : (l m : Lists) → l .state ≡ m .state → l .answers ≡ m .answers → l .keys ≡ m .keys → l .chutes ≡ m .chutes → l ≡ m
+pub same-lists : (l m : Lists) → l .state ≡ m .state → l .answers ≡ m .answers → l .keys ≡ m .keys → l .chutes ≡ m .chutes → l ≡ m
 same-lists l m state answers keys chutes = λ i. record { state = state i; answers = answers i; keys = keys i; chutes = chutes i }
 
 -- after the last step, the bytes written and the lists are those of the state that the arrays show

@@ -1,11 +1,11 @@
 -- What the calls answer and leave, in the numbers of document 01, "Numbers of refusal". Assumes nothing.
-use Prim.Native.Nat.{ℕ, _+_, _*_, _/_, _%_}
-use mathlib.Core.Bool.{Bool, true, false, cond, _&&_, _||_}
-use mathlib.Core.List.{List, [], _∷_, _++_}
+use Prim.Native.Nat.{ℕ, _/_, _%_}
+use mathlib.Core.Bool.{cond, _&&_}
+use mathlib.Core.List.{List}
 use lib.ListN.{length}
 use lib.Dec.{eqb, leb}
 use Rattle.command.specs.Read.{ListOutcome, allAccepted, refusedAt, firstRefusal, readings, commandsIn}
-use Rattle.model.specs.Step.{Setup, State, opened, steps}
+use Rattle.model.specs.Step.{Setup, opened, steps}
 use Rattle.model.specs.Statement.{allWithin}
 use Rattle.controller.specs.declared.«open_call».Opening.{Opening}
 use Rattle.controller.specs.declared.«open_call».Opening.the-variants.{Opened, WrongGraphSize, WrongWorkers, WrongCapacity, WrongListLength, TooManyCommands, WrongLength, UnknownKindAt, MalformedAt, WrongCheckDigitAt, WrongChuteAt}

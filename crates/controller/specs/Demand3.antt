@@ -1,13 +1,13 @@
 -- Demand 3 over calls: "a single claim about the whole list of dealing calls, and not one for each call". Assumes nothing.
-use Prim.Native.Nat.{ℕ, suc, _≤_}
+use Prim.Native.Nat.{ℕ, _≤_}
 use mathlib.Core.Path.{_≡_}
-use mathlib.Core.Bool.{Bool, true, false, cond}
+use mathlib.Core.Bool.{true, cond}
 use mathlib.Core.List.{List, [], _∷_, _++_}
-use lib.ListN.{length, getD}
+use lib.ListN.{getD}
 use Rattle.model.specs.declared.Thread.the-variants.{Idle}
 use Rattle.model.specs.Serial.{serialEntries}
 use Rattle.model.specs.Store.{layOut}
-use Rattle.model.specs.Step.{Setup, State, opened, steps}
+use Rattle.model.specs.Step.{Setup, opened}
 use Rattle.model.specs.Statement.{wrote, removed, EachCommand, serialAnswer}
 use Rattle.command.specs.Read.{commandsIn}
 use Rattle.state_bytes.specs.Layout.{Lists, stateIn}

@@ -14,7 +14,7 @@ use Rattle.state_bytes.specs.Bytes.{numberAt}
 use Rattle.depot.specs.Program.{totals, report}
 
 -- nothing is behind a node whose next index is 0
-chain-ends : (k x : ℕ) (s : State) → s .next x ≡ 0 → length (chainFrom k x s) ≡ 0
+pub chain-ends : (k x : ℕ) (s : State) → s .next x ≡ 0 → length (chainFrom k x s) ≡ 0
 unfolding chainFrom
 chain-ends zero x s e = refl
 chain-ends (suc k) x s e = rw (eq-eqb (s .next x) 0 e)

@@ -1,13 +1,12 @@
 -- "Then come opening's tests, and last 11": what an opening leaves passes tests 6 and 12 of the call on it, so that only 11 is left. Assumes nothing.
 use Prim.Native.Nat.{ℕ}
-use mathlib.Core.Path.{_≡_, refl, sym, _∙_}
+use mathlib.Core.Path.{_≡_}
 use mathlib.Core.Bool.{Bool, true, false, cond}
 use mathlib.Core.List.{List, []}
 use native.Mathlib.Omega.{arith}
-use Rattle.model.specs.Step.{steps}
 use Rattle.model.specs.Statement.{allWithin}
-use Rattle.state_bytes.specs.Layout.{Lists, listsOf, setupIn, stateIn, stateFits, handedBackFit}
-use Rattle.controller.specs.Calls.{Outcome, accepted, refused, openOn, advanceOn}
+use Rattle.state_bytes.specs.Layout.{Lists, setupIn, stateFits, handedBackFit}
+use Rattle.controller.specs.Calls.{accepted, refused, openOn, advanceOn}
 use Rattle.controller.specs.Demand3.{after}
 use Rattle.controller.proofs.AcceptedOpening.{passed}
 use Rattle.controller.proofs.Demand3.{demand-3-over-calls}

@@ -5,3 +5,4 @@ pub mod Lines
 pub mod Outcome
 pub mod Output
 pub mod Last
+pub mod Reached

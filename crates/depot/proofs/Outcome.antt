@@ -1,12 +1,12 @@
 -- Laws of a call's outcome: a refusal's number is not 0, so what is printed goes by the number and the lists left; and an opening goes by the
 -- lengths of what is lent. Assumes nothing.
-use Prim.Native.Nat.{ℕ, zero, suc, _+_, _/_, _%_, _<_, min}
+use Prim.Native.Nat.{ℕ, suc, _+_, _/_, _%_, _<_, min}
 use native.Mathlib.Omega.{arith}
 use mathlib.Core.Path.{_≡_, refl, ap, sym, _∙_}
 use mathlib.Core.Bool.{Bool, true, false, cond, _&&_}
 use mathlib.Core.List.{List, [], _∷_, map}
 use borrow.Author.Tests.{le-leb, lt-leb}
-use lib.ListN.{length, getD, take, drop, replicate, length-replicate}
+use lib.ListN.{length, getD, take, drop, length-replicate}
 use lib.Dec.{eqb, leb}
 use Rattle.s10.specs.Text.{isWellFormed, serialDigits, checkDigit}
 use Rattle.s10.specs.Outcome.{readText}
@@ -16,7 +16,7 @@ use Rattle.command.specs.Read.{firstRefusal, partsOf, readings, readCommand, wi
 use Rattle.command.specs.Read as Command
 use Rattle.model.specs.Step.{Setup}
 use Rattle.model.specs.Statement.{allWithin}
-use Rattle.state_bytes.specs.Layout.{Lists, lists, stateLength, setupIn, stateFits, lengthsFit, handedBackFit}
+use Rattle.state_bytes.specs.Layout.{Lists, stateLength, setupIn, stateFits, lengthsFit, handedBackFit}
 use Rattle.controller.specs.Calls.{Outcome, accepted, refused, numberOf, kept, openedWith, openOn, advanceOn}
 use Rattle.state_bytes.proofs.Bytes.{below-or-past}
 use Rattle.depot.specs.Program.{refusal, printed, zeros}

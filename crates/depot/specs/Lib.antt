@@ -1,2 +1,4 @@
+pub mod Text
 pub mod Program
 pub mod Wrote
+pub mod Reached

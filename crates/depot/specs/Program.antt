@@ -1,6 +1,6 @@
 -- What the program writes, from what it reads: document 01, "The program `depot`". Each definition quotes its sentence. Assumes nothing.
 use Prim.Native.Nat.{ℕ, zero, suc, _+_, _*_, _/_, _%_}
-use mathlib.Core.Bool.{Bool, cond, _||_}
+use mathlib.Core.Bool.{cond, _||_}
 use mathlib.Core.List.{List, [], _∷_, _++_}
 use lib.ListN.{length, getD, take, drop, replicate}
 use lib.Dec.{ltb}
@@ -11,8 +11,9 @@ use Rattle.model.specs.Step.{State, chainFrom}
 use Rattle.state_bytes.specs.Bytes.{numberAt, fields}
 use Rattle.state_bytes.specs.Layout.{Lists, lists, stateLength, stateIn}
 use Rattle.controller.specs.Calls.{Outcome, accepted, refused, openOn, advanceOn}
+use Rattle.depot.specs.Text.{ascii}
 
--- ---- text, as ASCII codes
+-- ---- words
 
 -- a number in decimal, without leading zeros: at most k digits, and n + 1 are enough for n
 unfoldable pub decimalWithin : ℕ → ℕ → List ℕ
@@ -23,33 +24,22 @@ unfoldable pub decimal : ℕ → List ℕ
 decimal n = decimalWithin (suc n) n
 
 abbrev pub space : List ℕ
-space = 32 ∷ []
+space = ascii " "
 
 abbrev pub newline : List ℕ
-newline = 10 ∷ []
+newline = ascii "\n"
 
--- insert, delete, read, update
 abbrev pub kindName : Kind → List ℕ
-kindName Insert = 105 ∷ 110 ∷ 115 ∷ 101 ∷ 114 ∷ 116 ∷ []
-kindName Delete = 100 ∷ 101 ∷ 108 ∷ 101 ∷ 116 ∷ 101 ∷ []
-kindName Read = 114 ∷ 101 ∷ 97 ∷ 100 ∷ []
-kindName Update = 117 ∷ 112 ∷ 100 ∷ 97 ∷ 116 ∷ 101 ∷ []
-
--- `refused `, `store ` and ` chain `
-abbrev pub refusedWord : List ℕ
-refusedWord = 114 ∷ 101 ∷ 102 ∷ 117 ∷ 115 ∷ 101 ∷ 100 ∷ 32 ∷ []
-
-abbrev pub storeWord : List ℕ
-storeWord = 115 ∷ 116 ∷ 111 ∷ 114 ∷ 101 ∷ 32 ∷ []
-
-abbrev pub chainWord : List ℕ
-chainWord = 32 ∷ 99 ∷ 104 ∷ 97 ∷ 105 ∷ 110 ∷ 32 ∷ []
+kindName Insert = ascii "insert"
+kindName Delete = ascii "delete"
+kindName Read = ascii "read"
+kindName Update = ascii "update"
 
 -- ---- lines
 
 -- "A refusal prints `refused` and the number."
 unfoldable pub refusal : ℕ → List ℕ
-refusal n = refusedWord ++ decimal n ++ newline
+refusal n = ascii "refused " ++ decimal n ++ newline
 
 -- "Else one line a command: place, kind, identifier, answer": the identifier's 13 characters stand as in the input
 unfoldable pub commandLine : ℕ → List ℕ → ℕ → List ℕ
@@ -63,7 +53,7 @@ commandLines commands answers =
 
 -- "then `store`, entries used, `chain`, records linked"
 unfoldable pub totals : State → List ℕ
-totals s = storeWord ++ decimal (s .store .used) ++ chainWord ++ decimal (length (chainFrom 150 0 s)) ++ newline
+totals s = ascii "store " ++ decimal (s .store .used) ++ ascii " chain " ++ decimal (length (chainFrom 150 0 s)) ++ newline
 
 -- all lines, from the lists that the calls leave
 unfoldable pub report : List ℕ → Lists → List ℕ

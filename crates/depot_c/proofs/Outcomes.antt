@@ -1,24 +1,27 @@
 -- Laws of the calls' outcomes at the boundary: what lists of another length answer, where a refusal stands, and what is left.
 -- Assumes nothing.
-use Prim.Native.Nat.{ℕ, zero, suc, _+_, _*_, _/_, _%_, _≤_, _<_}
+use Prim.Native.Nat.{ℕ, _+_, _*_, _/_, _%_, _≤_, _<_}
 use native.Mathlib.Omega.{arith}
 use mathlib.Core.Path.{_≡_, refl, sym, ap, _∙_}
 use mathlib.Core.Bool.{Bool, true, false, cond, _&&_, and-eq-true-iff, false≢true}
 use mathlib.Core.List.{List, [], _∷_}
-use lib.ListN.{length, getD, drop, length-map}
+use lib.ListN.{length}
 use lib.Dec.{eqb, leb}
 use borrow.Author.Tests.{leb-true, eqb-true, le-leb}
-use Rattle.command.specs.Read.{firstRefusal, readings, parts, partsOf, commandsIn}
+use Rattle.command.specs.Read.{firstRefusal, readings, commandsIn}
 use Rattle.command.specs.Read as Command
+use Rattle.command.proofs.Laws.{length-readings}
 use Rattle.model.specs.Step.{Setup}
 use Rattle.model.specs.Statement.{allWithin}
-use Rattle.state_bytes.specs.Bytes.{numberAt, allBelow}
-use Rattle.state_bytes.specs.Layout.{Lists, lists, stateLength, setupIn, countIn, settingsFit, nodeFitsAt, threadFitsAt, ascends, stateFits, lengthsFit, handedBackFit}
+use Rattle.model.specs.Proof.Tests.{fails}
+use Rattle.state_bytes.specs.Bytes.{numberAt}
+use Rattle.state_bytes.specs.Layout.{Lists, lists, stateLength, setupIn, countIn, stateFits, lengthsFit, handedBackFit}
 use Rattle.controller.specs.Calls.{Outcome, accepted, refused, numberOf, placeOf, kept, openedWith, openOn, advanceOn}
 use Rattle.depot_c.specs.Numbers.{numbersIn, bytesIn}
 use Rattle.depot_c.specs.Boundary.{areWhole, entries, decoded, encoded, answerOf, left}
 use Rattle.state_bytes.proofs.Bytes.{Bytes}
-use Rattle.state_bytes.proofs.RoundTrip.{state-tests}
+use Rattle.state_bytes.proofs.Tested.{each-passed}
+use Rattle.state_bytes.proofs.HandedBack.{InRange, state-passed}
 use Rattle.depot_c.proofs.Entries.{numbers-length, numbers-read-back}
 
 -- ---- tests
@@ -33,34 +36,7 @@ under : (t : Bool) (n : ℕ) {a a′ : Outcome} → (t ≡ true → a ≡ a′) 
 under true n same = same refl
 under false n same = refl
 
--- a test that cannot be true is false
-untrue : (t : Bool) → (t ≡ true → ⊥) → t ≡ false
-untrue true h = absurd (h refl)
-untrue false h = refl
-
--- tests one after the other
-abbrev allOf : Bool → List Bool → Bool
-allOf test [] = test
-allOf test (next ∷ tests) = allOf (test && next) tests
-
--- each test of a chain that passes has passed
-each-passed : (test : Bool) (tests : List Bool) → allOf test tests ≡ true → (i : ℕ) → getD (test ∷ tests) i true ≡ true
-each-passed test [] h zero = h
-each-passed test [] h (suc i) = refl
-each-passed test (next ∷ tests) h zero = and-eq-true-iff test next .0 (each-passed (test && next) tests h 0) .0
-each-passed test (next ∷ tests) h (suc zero) = and-eq-true-iff test next .0 (each-passed (test && next) tests h 0) .1
-each-passed test (next ∷ tests) h (suc (suc i)) = each-passed (test && next) tests h (suc i)
-
 -- ---- places
-
-length-parts : (n : ℕ) (bytes : List ℕ) → length (parts n bytes) ≡ n
-unfolding parts
-length-parts zero bytes = refl
-length-parts (suc n) bytes = ap suc (length-parts n (drop 16 bytes))
-
-length-readings : (bytes : List ℕ) → length (readings bytes) ≡ (length bytes + 15) / 16
-unfolding readings partsOf
-length-readings bytes = rw (length-map, length-parts)
 
 -- a refusal stands at one of the places from the first on
 place-below : (place : ℕ) (rs : List Command.Outcome) (o : Setup) → 0 < place → placeOf (openedWith (firstRefusal place rs) o) < place + length rs
@@ -132,39 +108,25 @@ pub long-opened : (size workers capacity : ℕ) (commands : List ℕ) (b : Lists
 unfolding lengthsFit stateLength
 long-opened size workers capacity commands b long =
     opening-same size workers capacity commands (entries b) (lists [] [] [] [])
-    (λ small few. untrue _ (λ fit. false≢true (sym long ∙ fits-room capacity (length commands / 16) b small few fit)))
+    (λ small few. fails _ (λ fit. false≢true (sym long ∙ fits-room capacity (length commands / 16) b small few fit)))
 
 -- no lists are refused 6 when handed back
 pub nothing-advanced : (commands schedule : List ℕ) → advanceOn (lists [] [] [] []) commands schedule ≡ refused 6 0
 unfolding advanceOn handedBackFit lengthsFit stateLength
 nothing-advanced commands schedule = refl
 
--- a state that fits asks for at most 4,096 entries
-state-small : (l : Lists) → stateFits l ≡ true → (numberAt 2 2 (l .state) ≤ 4096) × (countIn (l .state) ≤ 4096)
-unfolding settingsFit
-state-small l fit =
-    let b = l .state in
-    let size = numberAt 1 0 b in
-    let count = countIn b in
-    let whole = each-passed (settingsFit size (numberAt 1 1 b) (numberAt 2 2 b) count) (leb (numberAt 2 6 b) count ∷ leb (numberAt 1 10 b) size
-    ∷ allBelow 151 (nodeFitsAt b size count) ∷ allBelow 65 (threadFitsAt b size) ∷ leb (numberAt 2 8 b) (numberAt 2 2 b)
-    ∷ ascends (numberAt 2 8 b) (l .keys) ∷ []) (sym (state-tests l) ∙ fit) 0 in
-    let each = each-passed (leb 1 size) (leb size 150 ∷ leb 1 (numberAt 1 1 b) ∷ leb (numberAt 1 1 b) 64 ∷ leb 1 (numberAt 2 2 b)
-    ∷ leb (numberAt 2 2 b) 4096 ∷ leb count 4096 ∷ []) whole in
-    (leb-true (numberAt 2 2 b) 4096 (each 5), leb-true count 4096 (each 6))
-
 -- a list handed back with a state that fits has room
 lent-room : (b : Lists) (commands : List ℕ) → handedBackFit (entries b) commands ≡ true
-    → (numberAt 2 2 (entries b .state) ≤ 4096) × (countIn (entries b .state) ≤ 4096) → room b ≡ true
+    → InRange (entries b) → room b ≡ true
 unfolding handedBackFit setupIn
-lent-room b commands fit small =
-    fits-room (numberAt 2 2 (entries b .state)) (countIn (entries b .state)) b (small .0) (small .1)
+lent-room b commands fit range =
+    fits-room (numberAt 2 2 (entries b .state)) (countIn (entries b .state)) b (range .capacity) (range .count)
     (and-eq-true-iff (lengthsFit (numberAt 2 2 (entries b .state)) (countIn (entries b .state)) (entries b)) _ .0 fit .0)
 
 -- a list of more than 4,096 entries is handed back with no state that fits
 pub long-unfit : (b : Lists) (commands : List ℕ) → room b ≡ false → handedBackFit (entries b) commands ≡ true → stateFits (entries b) ≡ false
 long-unfit b commands long fit =
-    untrue (stateFits (entries b)) (λ whole. false≢true (sym long ∙ lent-room b commands fit (state-small (entries b) whole)))
+    fails (stateFits (entries b)) (λ whole. false≢true (sym long ∙ lent-room b commands fit (state-passed (entries b) whole)))
 
 -- a handed-back list of more than 4,096 entries is refused: 12 where the state asks for so many, else 6
 pub long-advanced : (b : Lists) (commands schedule : List ℕ) → room b ≡ false

@@ -9,7 +9,8 @@ use lib.Dec.{eqb}
 use lib.Seq.{getD-set-same, getD-set-other}
 use Rattle.node_set.specs.Members.{member}
 use Rattle.model.specs.Step.{upd, noNode}
-use Rattle.model.specs.Proof.Upd.{eqb-cases, upd-at, upd-other, upd-cases, upd-map}
+use Rattle.model.specs.Proof.Upd.{upd-at, upd-other, upd-cases, upd-map}
+use Rattle.model.specs.Proof.Tests.{eqb-cases}
 use Rattle.graph.specs.Arrays.{numbers, sets, Nodes}
 
 -- Equal functions have equal values.

@@ -1,6 +1,6 @@
 -- The commands of a list by their sequence numbers, and the commands kept for the nodes after a change of one node. Assumes nothing.
 use Prim.Native.Nat.{ℕ, zero, suc, _+_, _*_, _/_, _≤_, _<_}
-use mathlib.Core.Path.{_≡_, refl, sym, ap, _∙_}
+use mathlib.Core.Path.{_≡_, refl, sym, _∙_}
 use mathlib.Core.Bool.{cond}
 use mathlib.Core.List.{List, [], _∷_, map}
 use mathlib.Core.Option.{Option, none, some}
@@ -12,17 +12,13 @@ use lib.Dec.{eqb}
 use lib.Seq.{drop-drop}
 use Rattle.command.specs.declared.Command.{Command}
 use Rattle.command.specs.Read.{readCommand, parts, partsOf, readings, commandFrom, commandsIn}
+use Rattle.command.proofs.Laws.{length-readings}
 use Rattle.model.specs.Step.{upd, commandAt}
-use Rattle.model.specs.Proof.Upd.{eqb-cases, upd-at, upd-other}
+use Rattle.model.specs.Proof.Upd.{upd-at, upd-other}
+use Rattle.model.specs.Proof.Tests.{eqb-cases}
 use Rattle.graph.specs.Arrays.{numbers}
 use Rattle.graph.specs.Items.{keptAt, Kept}
 use Rattle.graph.specs.Worker.{Placed}
-
--- the first n parts are n
-parts-length : (n : ℕ) (bytes : List ℕ) → length (parts n bytes) ≡ n
-unfolding parts
-parts-length zero bytes = refl
-parts-length (suc n) bytes = ap suc (parts-length n (drop 16 bytes))
 
 -- the command of part i is read from byte 16 * i on
 part-command : (n i : ℕ) (bytes : List ℕ) → i < n
@@ -40,8 +36,8 @@ module _ (bytes : List ℕ) (count : ℕ) (whole : length bytes ≡ 16 * count) 
   parts-count = omega arith
 
   pub commands-length : length (commandsIn bytes) ≡ count
-  unfolding commandsIn readings partsOf
-  commands-length = rw (length-map, length-map, parts-length) parts-count
+  unfolding commandsIn
+  commands-length = rw (length-map, length-readings) parts-count
 
   -- the command of place i + 1 is the one read at index i
   pub command-is : (i : ℕ) → i < count → commandAt (commandsIn bytes) (i + 1) ≡ some (commandFrom (readCommand (take 16 (drop (16 * i) bytes))))

@@ -8,11 +8,11 @@ use mathlib.Core.Logic.{⊎-elim}
 use lib.ListN.{length, set}
 use lib.Dec.{eqb}
 use lib.Seq.{getD-set-same, getD-set-other}
+use Rattle.model.specs.Proof.Tests.{eqb-cases}
 use Rattle.command.specs.declared.Kind.{Kind}
 use Rattle.command.specs.declared.Kind.the-variants.{Insert, Delete, Read, Update}
 use Rattle.command.specs.declared.Command.{Command}
 use Rattle.command.specs.Read.{kindOf, kindNumber}
-use Rattle.model.specs.Proof.Upd.{eqb-cases}
 use Rattle.graph.specs.Items.{keptAt}
 
 -- a kind is that of its number, and its number is not 0: by its four cases

@@ -10,7 +10,8 @@ use Rattle.node_set.specs.declared.Node.{Node}
 use Rattle.node_set.specs.Members.{member}
 use Rattle.model.specs.declared.Thread.the-variants.{Idle, Loading}
 use Rattle.model.specs.Step.{State, upd, node, bothDependent, commandOf, setThread, setLocked, setExecuting, setNext, setWaits, stepOn, link, addDependence, loaderWalk}
-use Rattle.model.specs.Proof.Upd.{eqb-cases, upd-at, upd-other, upd-id}
+use Rattle.model.specs.Proof.Upd.{upd-at, upd-other, upd-id}
+use Rattle.model.specs.Proof.Tests.{eqb-cases}
 use Rattle.graph.specs.Arrays.{numbers, flags, sets, withGraph, Linked}
 use Rattle.graph.specs.Items.{keptAt}
 use Rattle.graph.specs.Memory.{LoaderWalks}

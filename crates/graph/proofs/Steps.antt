@@ -1,7 +1,7 @@
 -- The cases of each kind of step along the chain: what the tests found and what was stored make the model's step. In each case the tests
 -- pick the model's branch, and each array stored is the function that the branch makes. Assumes nothing.
 use Prim.Native.Nat.{ℕ}
-use mathlib.Core.Path.{_≡_, refl, sym, _∙_}
+use mathlib.Core.Path.{_≡_, sym, _∙_}
 use mathlib.Core.Bool.{Bool, true, false, not, _&&_, _||_}
 use mathlib.Core.List.{List}
 use lib.Dec.{eqb}

@@ -1,15 +1,14 @@
 -- The marked cases (a) to (l) of document 01, as one table that is decided by computation over the definitions. Assumes nothing.
-use Prim.Native.Nat.{ℕ, zero, suc, _+_, _*_}
+use Prim.Native.Nat.{ℕ, _+_, _*_}
 use mathlib.Core.Path.{_≡_, refl}
-use mathlib.Core.Bool.{Bool, true, false, cond}
-use mathlib.Core.List.{List, [], _∷_, _++_, map}
+use mathlib.Core.Bool.{true, false}
+use mathlib.Core.List.{List, [], _∷_, _++_}
 use lib.ListN.{length, getD, take, drop, replicate}
-use lib.Dec.{eqb}
 use Rattle.s10.specs.Text.{isWellFormed, checkDigit, keyOf, largestKey, digits}
 use Rattle.s10.specs.Outcome.{readText}
 use Rattle.s10.specs.Outcome as Identifier
 use Rattle.command.specs.declared.Kind.{Kind}
-use Rattle.command.specs.declared.Kind.the-variants.{Insert, Delete, Read, Update}
+use Rattle.command.specs.declared.Kind.the-variants.{Insert, Read, Update}
 use Rattle.command.specs.declared.Command.{Command}
 use Rattle.command.specs.Read.{readings, commandFrom, commandsIn}
 use Rattle.command.specs.Dependent.{areDependent}

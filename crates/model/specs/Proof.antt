@@ -1,3 +1,4 @@
+pub mod Tests
 pub mod Upd
 pub mod Trace
 pub mod Commute

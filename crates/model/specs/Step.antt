@@ -1,11 +1,11 @@
 -- The state and the steps ("turns") of document 01, "Records and turns": what each thread's step changes, case by case in the order and
 -- words of the document's two lists. A step that would block changes nothing ("a wait"). Every definition is total: it says what a step
 -- does on every state, also on one that no schedule reaches. Assumes nothing.
-use Prim.Native.Nat.{ℕ, zero, suc, _+_, _-_}
+use Prim.Native.Nat.{ℕ, zero, suc, _+_}
 use mathlib.Core.Bool.{Bool, true, false, not, cond, _&&_, _||_}
 use mathlib.Core.List.{List, [], _∷_}
 use mathlib.Core.Option.{Option, none, some}
-use lib.ListN.{length, getElem?, replicate}
+use lib.ListN.{length, getElem?}
 use lib.Dec.{eqb, leb, ltb}
 use Rattle.command.specs.declared.Kind.{Kind}
 use Rattle.command.specs.declared.Kind.the-variants.{Insert, Delete, Read, Update}

@@ -1,7 +1,7 @@
 -- The waits-for set of document 01, "Records and turns": "The set is three 64-bit words". Node n is a member if bit n % 64
 -- of word n / 64 is set, so the nodes from 0 to 191 can be members. Assumes nothing.
 use Prim.Native.Nat.{ℕ, zero, suc, _+_, _/_, _%_, _^_}
-use mathlib.Core.Bool.{Bool, true, false, not, cond, _&&_, _||_}
+use mathlib.Core.Bool.{Bool, true, not, cond, _&&_, _||_}
 use mathlib.Core.List.{List}
 use lib.ListN.{getD}
 use lib.Dec.{eqb, leb}

@@ -10,22 +10,14 @@ use lib.Dec.{eqb}
 use borrow.Author.Tests.{eq-eqb, ne-eqb, eqb-true}
 use denote.Enum.Declared.{tagOf}
 use types.Run.{OneOf}
-use Rattle.state_bytes.specs.Layout.{Lists, stateLength, lengthsFit, handedBackFit, stateFits}
+use Rattle.state_bytes.specs.Layout.{Lists, stateLength, handedBackFit, stateFits}
+use Rattle.state_bytes.proofs.HandedBack.{lengths-passed}
 use Rattle.panel.specs.declared.Report.{Report}
 use Rattle.panel.proofs.Report.{the-type}
 use Rattle.panel.specs.declared.Report.the-variants.{Reported, WrongLength, WrongState}
 use Rattle.panel.specs.Reports.{reportOf, reportNumber, reportLeft}
 
 -- ---- the tests
-
--- the first of two tests that pass has passed
-first-passed : (a b : Bool) → (a && b) ≡ true → a ≡ true
-first-passed a b e = and-eq-true-iff a b .0 e .0
-
--- handed-back lists that fit have a state as long as the layout
-pub passed-long : (l : Lists) (commands : List ℕ) → handedBackFit l commands ≡ true → length (l .state) ≡ stateLength
-unfolding handedBackFit lengthsFit
-passed-long l commands fit = eqb-true _ _ (first-passed _ _ (first-passed _ _ (first-passed _ _ (first-passed _ _ fit))))
 
 -- an answer 0 is not that of a test that fails
 not-six : (t : Bool) (n : ℕ) → 0 ≡ cond t n 6 → t ≡ true
@@ -56,7 +48,7 @@ module _ (l : Lists) (commands : List ℕ) (lent wanted : ℕ) where
   unfolding reportNumber
   passed-lengths e =
       let both = and-eq-true-iff (handedBackFit l commands) (eqb lent wanted) .0 (not-six (handedBackFit l commands && eqb lent wanted) (cond (stateFits l) 0 12) e) in
-      (passed-long l commands (both .0), eqb-true lent wanted (both .1))
+      (lengths-passed l commands (both .0) .state, eqb-true lent wanted (both .1))
 
 -- ---- what is left
 

@@ -1,6 +1,5 @@
 -- What the panel shows of a worker, read from the state's bytes. Assumes nothing.
 use Prim.Native.Nat.{ℕ, suc, _+_, _*_, _≤_, _<_}
-use native.Mathlib.Nat.{add-zero}
 use native.Mathlib.Numerals.{add-one}
 use native.Mathlib.Omega.{arith}
 use mathlib.Core.Path.{_≡_, refl, sym, ap, _∙_}
@@ -10,19 +9,15 @@ use borrow.Author.Tests.{lt-leb, le-leb, lt-ltb}
 use Rattle.model.specs.declared.Thread.{Thread}
 use Rattle.model.specs.declared.Thread.the-variants.{Idle}
 use Rattle.model.specs.Step.{State}
-use Rattle.state_bytes.specs.Bytes.{numberAt, fields}
+use Rattle.state_bytes.specs.Bytes.{fields}
 use Rattle.state_bytes.specs.Layout.{Lists, stateLength, stateIn, threadAt}
 use Rattle.state_bytes.specs.Pasted.{pasted}
 use Rattle.state_bytes.proofs.Bytes.{fields-length}
-use Rattle.state_bytes.proofs.Fill.{number-none, number-more}
+use Rattle.state_bytes.proofs.Fill.{number-one}
 use Rattle.state_bytes.proofs.Paste.{PutFields, fields-put, fields-all, pasted-whole}
 use Rattle.panel.specs.declared.WorkerStatus.{WorkerStatus}
 use Rattle.panel.specs.declared.WorkerState.the-variants as worker
 use Rattle.panel.specs.Reports.{entry, statusOf, reported, stateNumber, statusBytes, workerStatusBytes, workersIn}
-
--- a number of one byte is that byte
-number-one : (at : ℕ) (b : List ℕ) → at < length b → numberAt 1 at b ≡ getD b at 0
-number-one at b h = number-more 0 at b (omega arith) ∙ rw (number-none at b, add-zero at) (omega arith)
 
 -- the worker count is byte 1
 workers-in : (b : List ℕ) → length b ≡ stateLength → workersIn b ≡ getD b 1 0

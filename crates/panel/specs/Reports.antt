@@ -1,16 +1,15 @@
 -- The panel's two reports of document 01, "Records and turns", and the answers from a place on. Assumes nothing.
 use Prim.Native.Nat.{ℕ, zero, suc, _+_, _-_}
-use mathlib.Core.Bool.{Bool, cond, _&&_}
+use mathlib.Core.Bool.{cond, _&&_}
 use mathlib.Core.List.{List, [], _∷_, _++_, map}
 use lib.ListN.{length, drop, replicate}
 use lib.Dec.{eqb, leb}
-use Rattle.node_set.specs.declared.Node.{Node}
 use Rattle.node_set.specs.Members.{countBelow}
 use Rattle.model.specs.declared.Thread.{Thread}
 use Rattle.model.specs.declared.Thread.the-variants.{Idle, Loading, Searching, Holding, LookedUp, Written, Walking, Clearing}
 use Rattle.model.specs.Step.{State, node, chainFrom}
 use Rattle.state_bytes.specs.Bytes.{tabulate, fields, numberAt}
-use Rattle.state_bytes.specs.Layout.{Lists, stateIn, stateFits, handedBackFit}
+use Rattle.state_bytes.specs.Layout.{Lists, stateFits, handedBackFit}
 use Rattle.panel.specs.declared.Report.{Report}
 use Rattle.panel.specs.declared.Report.the-variants.{Reported, WrongLength, WrongState}
 use Rattle.panel.specs.declared.WorkerStatus.{WorkerStatus}

@@ -1,7 +1,7 @@
 -- The first character that is not allowed, and the characters before it. Assumes nothing.
 use Prim.Native.Nat.{ℕ, zero, suc, _+_, _<_}
-use mathlib.Core.Path.{_≡_, refl, sym, ap, _∙_}
-use mathlib.Core.Bool.{Bool, true, false, cond, _&&_}
+use mathlib.Core.Path.{_≡_, sym, ap, _∙_}
+use mathlib.Core.Bool.{Bool, true, false, cond, _&&_, and-eq-true-iff}
 use mathlib.Core.List.{List, [], _∷_}
 use native.Mathlib.Nat.{add-zero, not-suc-le-zero}
 use native.Mathlib.Numerals.{add-one}
@@ -19,11 +19,6 @@ pub fault-step : (text : List ℕ) (i : ℕ) → i < length text →
 unfolding firstFault
 fault-step text i h = rw (drop-cons text i 0 h, add-one)
 
--- a conjunction holds by its two parts
-pub both : (a b : Bool) → (a && b) ≡ true → (a ≡ true) × (b ≡ true)
-both true b e = (refl, e)
-both false b e = let z : _≡_ {A = ℕ} 0 1 = cc in absurd (omega arith)
-
 -- all characters are allowed exactly if the search passes the last: a fault is found before it
 pub fault-all : (i : ℕ) (text : List ℕ) → allAllowed i text ≡ eqb (firstFault i text) (i + length text)
 unfolding allAllowed firstFault
@@ -39,9 +34,9 @@ fault-all i (c ∷ text) = here (isAllowed i c) (fault-all (i + 1) text)
 pub allowed-at : (i : ℕ) (text : List ℕ) → allAllowed i text ≡ true → (k : ℕ) → k < length text → isAllowed (i + k) (getD text k 0) ≡ true
 unfolding allAllowed
 allowed-at i [] all k h = absurd (not-suc-le-zero h)
-allowed-at i (c ∷ text) all zero h = rw add-zero (both (isAllowed i c) (allAllowed (i + 1) text) all .0)
+allowed-at i (c ∷ text) all zero h = rw add-zero (and-eq-true-iff (isAllowed i c) (allAllowed (i + 1) text) .0 all .0)
 allowed-at i (c ∷ text) all (suc k) h =
-    let later = allowed-at (i + 1) text (both (isAllowed i c) (allAllowed (i + 1) text) all .1) k (omega arith) in
+    let later = allowed-at (i + 1) text (and-eq-true-iff (isAllowed i c) (allAllowed (i + 1) text) .0 all .1) k (omega arith) in
     let place : i + 1 + k ≡ i + suc k = omega arith in
     rw place at later
 

@@ -1,7 +1,7 @@
 -- The text of a key: its parts, that they are allowed, and the key that they give back. Assumes nothing.
 use Prim.Native.Nat.{ℕ, suc, _+_, _/_, _%_, _≤_, _<_}
 use mathlib.Core.Path.{_≡_, refl, _∙_}
-use mathlib.Core.Bool.{true, _&&_}
+use mathlib.Core.Bool.{true, _&&_, and-eq-true-iff}
 use mathlib.Core.List.{List, [], _∷_, _++_, append-assoc}
 use native.Mathlib.Nat.{div-div-eq-div-mul}
 use native.Mathlib.Omega.{arith}
@@ -15,7 +15,6 @@ use Rattle.s10.proofs.Decimal.{AllBelow, tail-below, nil-below, cons-be
 use Rattle.s10.proofs.Values.{values-characters, characters-serial}
 use Rattle.s10.proofs.Weighted.{check-digit-below}
 use Rattle.s10.proofs.WellFormed.{is-within, digit-asked}
-use Rattle.s10.proofs.Fault.{both}
 
 -- the three parts that are written one after the other
 pub text-of-parts : (key : ℕ) → textOf key ≡ letters (key / 67_600_000_000) ++ (serialText (key / 676) ++ letters (key % 676))
@@ -27,7 +26,7 @@ allowed-append : (i : ℕ) (a b : List ℕ) → allAllowed i a ≡ true → allA
 unfolding allAllowed
 allowed-append i [] b p q = let place : i + 0 ≡ i = omega arith in rw place at q
 allowed-append i (c ∷ a) b p q =
-    let parts = both (isAllowed i c) (allAllowed (i + 1) a) p in
+    let parts = and-eq-true-iff (isAllowed i c) (allAllowed (i + 1) a) .0 p in
     let place : i + suc (length a) ≡ i + 1 + length a = omega arith in
     rw (parts .0) (allowed-append (i + 1) a b (parts .1) (rw place at q))
 

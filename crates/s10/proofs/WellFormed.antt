@@ -1,7 +1,7 @@
 -- What is known of the characters of a well-formed text. Assumes nothing.
 use Prim.Native.Nat.{ℕ, _+_, _<_}
 use mathlib.Core.Path.{_≡_, refl, sym, _∙_}
-use mathlib.Core.Bool.{true, _&&_}
+use mathlib.Core.Bool.{true, _&&_, and-eq-true-iff}
 use mathlib.Core.List.{List}
 use native.Mathlib.Omega.{arith}
 use borrow.Author.Tests.{eqb-true, leb-true, le-leb}
@@ -10,12 +10,12 @@ use lib.ListN.{length, getD, take, drop, length-take, length-drop}
 use lib.Seq.{getD-take, getD-drop}
 use Rattle.s10.specs.Text.{isAllowed, allAllowed, isWellFormed}
 use Rattle.s10.specs.Parts.{Within, Serial, WellFormed}
-use Rattle.s10.proofs.Fault.{both, allowed-at}
+use Rattle.s10.proofs.Fault.{allowed-at}
 
 -- a character that passes the two tests lies between
 pub within : (low high c : ℕ) → (leb low c && leb c high) ≡ true → Within low high c
 within low high c e =
-    let tests = both (leb low c) (leb c high) e in
+    let tests = and-eq-true-iff (leb low c) (leb c high) .0 e in
     (leb-true low c (tests .0), leb-true c high (tests .1))
 
 -- each test is passed
@@ -31,7 +31,7 @@ module _ (text : List ℕ) (ok : isWellFormed text ≡ true) where
   -- the two tests of a well-formed text
   tests : (eqb (length text) 13 ≡ true) × (allAllowed 0 text ≡ true)
   unfolding isWellFormed
-  tests = both (eqb (length text) 13) (allAllowed 0 text) ok
+  tests = and-eq-true-iff (eqb (length text) 13) (allAllowed 0 text) .0 ok
 
   long : length text ≡ 13
   long = eqb-true (length text) 13 (tests .0)

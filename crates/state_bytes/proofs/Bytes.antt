@@ -269,13 +269,17 @@ tabulate-at (suc n) f d (suc i) h = tabulate-at n (λ j. f (suc j)) d i (omega a
 pub tabulate-past {ℓ} : {A : Type ℓ} (n : ℕ) (f : ℕ → A) (d : A) (i : ℕ) → n ≤ i → getD (tabulate n f) i d ≡ d
 tabulate-past n f d i h = List·getD-eq-default (tabulate n f) d (rw (tabulate-length n f) h)
 
--- the elements of a list make it again
-pub tabulate-elements {ℓ} : {A : Type ℓ} (n : ℕ) (xs : List A) (d : A) → length xs ≡ n → tabulate n (λ i. getD xs i d) ≡ xs
+-- a list that has these elements is tabulated
+pub tabulate-is {ℓ} : {A : Type ℓ} (n : ℕ) (f : ℕ → A) (xs : List A) (d : A) → length xs ≡ n → ((i : ℕ) → i < n → f i ≡ getD xs i d) → tabulate n f ≡ xs
 unfolding tabulate
-tabulate-elements zero [] d long = refl
-tabulate-elements zero (x ∷ xs) d long = absurd (omega arith)
-tabulate-elements (suc n) [] d long = absurd (omega arith)
-tabulate-elements {A} (suc n) (x ∷ xs) d long = ap {B = List A} (λ r. x ∷ r) (tabulate-elements n xs d (omega arith))
+tabulate-is zero f [] d long same = refl
+tabulate-is zero f (x ∷ xs) d long same = absurd (omega arith)
+tabulate-is (suc n) f [] d long same = absurd (omega arith)
+tabulate-is (suc n) f (x ∷ xs) d long same =
+    ap₂ _∷_ (same 0 (omega arith)) (tabulate-is n (λ i. f (suc i)) xs d (omega arith) (λ i h. same (suc i) (omega arith)))
+
+pub tabulate-elements {ℓ} : {A : Type ℓ} (n : ℕ) (xs : List A) (d : A) → length xs ≡ n → tabulate n (λ i. getD xs i d) ≡ xs
+tabulate-elements n xs d long = tabulate-is n (λ i. getD xs i d) xs d long (λ i h. refl)
 
 -- ---- tests of the first k numbers
 

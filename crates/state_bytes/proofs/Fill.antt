@@ -65,10 +65,13 @@ number-more k at bytes h =
     let short : k < length (drop at bytes) = simp length-drop (omega arith) in
     rw (add-one, take-suc (drop at bytes) k 0 short, number-of-more, getD-drop)
 
--- two bytes
+-- one byte is the number, and of two the first counts 256
+pub number-one : (at : ℕ) (bytes : List ℕ) → at < length bytes → numberAt 1 at bytes ≡ getD bytes at 0
+number-one at bytes h = number-more 0 at bytes (omega arith) ∙ rw (number-none at bytes, add-zero at) (omega arith)
+
 pub number-two : (at : ℕ) (bytes : List ℕ) → at + 2 ≤ length bytes → numberAt 2 at bytes ≡ getD bytes at 0 * 256 + getD bytes (at + 1) 0
 number-two at bytes h =
-    number-more 1 at bytes (omega arith) ∙ rw (number-more 0 at bytes (omega arith), number-none at bytes, add-zero at) (omega arith)
+    number-more 1 at bytes (omega arith) ∙ rw (number-one at bytes (omega arith))
 
 -- a number of i bytes and one byte more is one of i + 1 bytes
 pub byte-more : (i n b : ℕ) → n < 256 ^ i → b < 256 → n * 256 + b < 256 ^ (i + 1)

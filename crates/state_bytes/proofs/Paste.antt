@@ -4,7 +4,7 @@ use native.Mathlib.Nat.{add-zero, zero-add, mul-zero, div-one, pow-suc, div-div-
 use native.Mathlib.Numerals.{add-one}
 use native.Mathlib.Omega.{arith}
 use mathlib.Core.Path.{_≡_, refl, sym, ap, ap₂, _∙_}
-use mathlib.Core.Bool.{Bool, true, false}
+use mathlib.Core.Bool.{Bool}
 use mathlib.Core.List.{List, [], _∷_, _++_, append-assoc, append-nil}
 use lib.ListN.{length, getD, set, length-append, drop-of-length-le}
 use lib.Seq.{length-sets, sets-eq, set-comm}
@@ -13,15 +13,16 @@ use Rattle.node_set.proofs.Bits.{same-bits-same-word}
 use Rattle.node_set.proofs.Words.{member-of-word}
 use Rattle.node_set.proofs.Laws.{word-of-is-word-of}
 use Rattle.model.specs.declared.Thread.{Thread}
-use Rattle.model.specs.declared.Thread.the-variants.{Idle, Loading, Searching, Holding, LookedUp, Written, Walking, Clearing}
+use Rattle.model.specs.declared.Thread.the-variants.{Idle}
 use Rattle.model.specs.Step.{Setup, State}
 use Rattle.model.specs.declared.Counters.{Counters}
 use Rattle.graph.specs.Arrays.{numbers, flags, sets}
 use Rattle.state_bytes.specs.declared.Settings.{Settings}
 use Rattle.state_bytes.specs.Bytes.{bytesOf, fields}
-use Rattle.state_bytes.specs.Layout.{flagByte, setBytes, threadBytes, headBytes, stateBytes}
+use Rattle.state_bytes.specs.Layout.{flagByte, setBytes, threadBytes, stateBytes}
 use Rattle.state_bytes.specs.Pasted.{pasted, headOf}
 use Rattle.state_bytes.specs.Written.{Sets, Shown}
+use Rattle.state_bytes.proofs.StateParts.{head-joined, state-joined}
 use Rattle.state_bytes.proofs.Bytes.{one-byte, fields-length}
 
 -- ---- one part
@@ -185,7 +186,7 @@ module _ {at width n : ℕ} {a b : List ℕ} {rest k : ℕ} (p : PutBytes at wid
 -- ---- sets
 
 -- a word is made of its bits
-word-again : (w : ℕ) (test : ℕ → Bool) → w < 2 ^ 64 → ((b : ℕ) → b < 64 → test b ≡ bit w b) → wordOf 64 test ≡ w
+pub word-again : (w : ℕ) (test : ℕ → Bool) → w < 2 ^ 64 → ((b : ℕ) → b < 64 → test b ≡ bit w b) → wordOf 64 test ≡ w
 word-again w test h same =
     let is = word-of-is-word-of 64 test in
     same-bits-same-word 64 (wordOf 64 test) w (is .fits) h (λ b below. is .inside b below ∙ same b below)
@@ -199,32 +200,6 @@ set-bytes ws fits =
     word-again (getD ws i 0) test (fits i) (λ b below. is b ∙ member-of-word ws i b below) in
     rw (word 0 (member ws) (λ b. ap (member ws) (sym (zero-add b))), word 1 (λ b. member ws (64 + b)) (λ b. refl), word 2 (λ b. member ws (128 + b)) (λ b. refl))
 
--- three words are 24 bytes
-pub set-bytes-length : (set : ℕ → Bool) → length (setBytes set) ≡ 24
-unfolding setBytes
-set-bytes-length set = simp length-append
-
--- ---- threads
-
--- three bytes and a number of two
-pub thread-bytes-length : (t : Thread) → length (threadBytes t) ≡ 5
-unfolding threadBytes
-thread-bytes-length Idle = refl
-thread-bytes-length (Loading at own) = refl
-thread-bytes-length (Searching at) = refl
-thread-bytes-length (Holding own) = refl
-thread-bytes-length (LookedUp own found) = refl
-thread-bytes-length (Written own) = refl
-thread-bytes-length (Walking at own) = refl
-thread-bytes-length (Clearing at own) = refl
-
--- ---- flags
-
--- one byte
-pub flag-byte-length : (t : Bool) → length (flagByte t) ≡ 1
-flag-byte-length true = refl
-flag-byte-length false = refl
-
 -- ---- a state
 
 -- settings and counters are 11 bytes
@@ -233,18 +208,6 @@ unfolding bytesOf
 head-length c k = refl
 
 module _ (o : Setup) (s : State) where
-  -- what the two definitions say
-  head-joined : headBytes o s ≡ bytesOf 1 (o .size) ++ bytesOf 1 (o .workers) ++ bytesOf 2 (o .capacity) ++ bytesOf 2 (length (o .commands))
-      ++ bytesOf 2 (s .loaded) ++ bytesOf 2 (s .store .used) ++ bytesOf 1 (s .free)
-  unfolding headBytes
-  head-joined = refl
-
-  state-joined : stateBytes o s ≡ headBytes o s ++ fields 151 (λ n. bytesOf 1 (s .next n)) ++ fields 151 (λ n. bytesOf 2 (s .seq n))
-      ++ fields 151 (λ n. flagByte (s .executing n)) ++ fields 151 (λ n. flagByte (s .locked n))
-      ++ fields 151 (λ n. setBytes (s .waits n)) ++ fields 65 (λ t. threadBytes (s .threads t))
-  unfolding stateBytes
-  state-joined = refl
-
   -- the bytes of a state that numbers and arrays show are those of the numbers and the arrays
   pub shown-bytes : (c : Settings) (k : Counters) (next seq : List ℕ) (executing locked : List Bool) (waits : List (List ℕ)) (threads : List Thread)
       → Sets c o → Shown k next seq executing locked waits threads s
@@ -253,8 +216,8 @@ module _ (o : Setup) (s : State) where
       ++ fields 151 (λ n. setBytes (sets waits n)) ++ fields 65 (λ t. threadBytes (getD threads t Idle))
   shown-bytes c k next seq executing locked waits threads h i =
       let them = fields-same 65 (λ t. threadBytes (s .threads t)) (λ t. threadBytes (getD threads t Idle)) (λ t. ap threadBytes (i .threads-are t)) in
-      state-joined ∙ rw (
-        head-joined,
+      state-joined o s ∙ rw (
+        head-joined o s,
         h .size,
         h .workers,
         h .capacity,

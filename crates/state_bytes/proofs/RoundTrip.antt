@@ -9,6 +9,7 @@ use lib.Dec.{eqb, leb, ltb, leb·zero, eqb·suc-zero}
 use borrow.Author.Tests.{lt-ltb, le-ltb, le-leb, eq-eqb}
 use Rattle.node_set.specs.Members.{member, wordOf}
 use Rattle.node_set.proofs.Laws.{word-of-is-word-of}
+use Rattle.model.specs.Proof.Tests.{fails}
 use Rattle.model.specs.declared.Thread.{Thread}
 use Rattle.model.specs.declared.Thread.the-variants.{Idle, Loading, Searching, Holding, LookedUp, Written, Walking, Clearing}
 use Rattle.model.specs.Step.{Setup, State}
@@ -143,11 +144,6 @@ first-and-past k n x d v first past =
     below-or-past n k
     (λ h. ap (λ (t : Bool). cond t x d) (lt-ltb n k h) ∙ first h)
     (λ h. ap (λ (t : Bool). cond t x d) (le-ltb n k h) ∙ sym (past h))
-
--- a test that cannot pass fails
-fails : (t : Bool) → (t ≡ true → ⊥) → t ≡ false
-fails true never = absurd (never refl)
-fails false never = refl
 
 -- a flag read is the flag
 flag-again : (b : Bool) (n : ℕ) → n ≡ cond b 1 0 → eqb n 1 ≡ b

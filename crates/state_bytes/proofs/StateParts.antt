@@ -31,7 +31,7 @@ member-of-word set words rest y =
     (λ h. let split : y ≡ 64 + (y - 64) = omega arith in rw split (member-high (wordOf 64 set) words (y - 64) ∙ rest (y - 64)))
 
 -- no word has no member
-no-member : (y : ℕ) → member [] y ≡ false
+pub no-member : (y : ℕ) → member [] y ≡ false
 unfolding member
 no-member y = bit-of-zero (y % 64)
 
@@ -169,12 +169,12 @@ module _ (o : Setup) (s : State) where
       ∷ fields 65 (λ t. threadBytes (s .threads t)) ∷ []
 
   -- the definitions, unfolded once
-  head-joined : headBytes o s ≡ bytesOf 1 (o .size) ++ bytesOf 1 (o .workers) ++ bytesOf 2 (o .capacity) ++ bytesOf 2 (length (o .commands))
+  pub head-joined : headBytes o s ≡ bytesOf 1 (o .size) ++ bytesOf 1 (o .workers) ++ bytesOf 2 (o .capacity) ++ bytesOf 2 (length (o .commands))
       ++ bytesOf 2 (s .loaded) ++ bytesOf 2 (s .store .used) ++ bytesOf 1 (s .free)
   unfolding headBytes
   head-joined = refl
 
-  state-joined : stateBytes o s ≡ headBytes o s ++ fields 151 (λ n. bytesOf 1 (s .next n)) ++ fields 151 (λ n. bytesOf 2 (s .seq n))
+  pub state-joined : stateBytes o s ≡ headBytes o s ++ fields 151 (λ n. bytesOf 1 (s .next n)) ++ fields 151 (λ n. bytesOf 2 (s .seq n))
       ++ fields 151 (λ n. flagByte (s .executing n)) ++ fields 151 (λ n. flagByte (s .locked n))
       ++ fields 151 (λ n. setBytes (s .waits n)) ++ fields 65 (λ t. threadBytes (s .threads t))
   unfolding stateBytes

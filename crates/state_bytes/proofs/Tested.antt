@@ -1,7 +1,7 @@
 -- What the test of a number or of a callee's answer tells of the test that a definition makes. Assumes nothing.
 use Prim.Native.Nat.{ℕ, zero, suc, _≤_, _<_}
 use mathlib.Core.Path.{_≡_, refl, sym, ap, ap₂, _∙_}
-use mathlib.Core.Bool.{Bool, true, false, not, _&&_, and-false, true≢false}
+use mathlib.Core.Bool.{Bool, true, false, not, _&&_, and-false, true≢false, and-eq-true-iff}
 use mathlib.Core.List.{List, [], _∷_, _++_}
 use borrow.Author.Tests.{lt-leb, le-leb, eq-eqb, ne-eqb, not-true, not-false}
 use lib.Dec.{eqb, leb}
@@ -59,6 +59,14 @@ one-fails-after t (u ∷ ts) (suc (suc i)) e = one-fails-after (t && u) ts (suc 
 pub fails-at : (i : ℕ) (ts : List Bool) → getD ts i true ≡ false → all ts ≡ false
 fails-at i [] e = e
 fails-at i (t ∷ ts) e = one-fails-after t ts i e
+
+-- each of those that pass has passed
+pub each-passed : (t : Bool) (ts : List Bool) → allAfter t ts ≡ true → (i : ℕ) → getD (t ∷ ts) i true ≡ true
+each-passed t [] h zero = h
+each-passed t [] h (suc i) = refl
+each-passed t (u ∷ ts) h zero = and-eq-true-iff t u .0 (each-passed (t && u) ts h 0) .0
+each-passed t (u ∷ ts) h (suc zero) = and-eq-true-iff t u .0 (each-passed (t && u) ts h 0) .1
+each-passed t (u ∷ ts) h (suc (suc i)) = each-passed (t && u) ts h (suc i)
 
 -- where all before the last pass, the last decides
 last-after : (t : Bool) (ts : List Bool) (last : Bool) → t ≡ true → EachTrue ts → allAfter t (ts ++ (last ∷ [])) ≡ last

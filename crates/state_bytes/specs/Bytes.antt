@@ -1,8 +1,8 @@
 -- Numbers as bytes, the high byte first, and fields one after the other. Assumes nothing.
 use Prim.Native.Nat.{ℕ, zero, suc, _+_, _*_, _/_, _%_, _^_}
-use mathlib.Core.Bool.{Bool, true, false, cond, _&&_}
+use mathlib.Core.Bool.{Bool, true, _&&_}
 use mathlib.Core.List.{List, [], _∷_, _++_}
-use lib.ListN.{getD, take, drop}
+use lib.ListN.{take, drop}
 
 -- the last k bytes of a number
 unfoldable pub bytesOf : ℕ → ℕ → List ℕ

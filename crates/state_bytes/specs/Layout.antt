@@ -1,15 +1,13 @@
 -- The state as bytes ("The run crosses to it as bytes, in a layout written down in docs/"): every field at a fixed offset, docs/STATE-LAYOUT.md.
 -- `stateBytes` lays a model state out; `stateIn` reads one. Assumes nothing.
-use Prim.Native.Nat.{ℕ, zero, suc, _+_, _*_}
+use Prim.Native.Nat.{ℕ, suc, _+_, _*_}
 use mathlib.Core.Bool.{Bool, true, false, cond, not, _&&_, _||_}
 use mathlib.Core.List.{List, [], _∷_, _++_}
 use lib.ListN.{length, getD}
 use lib.Dec.{eqb, leb, ltb}
-use Rattle.node_set.specs.declared.Node.{Node}
 use Rattle.node_set.specs.Members.{member, wordOf}
 use Rattle.model.specs.declared.Thread.{Thread}
 use Rattle.model.specs.declared.Thread.the-variants.{Idle, Loading, Searching, Holding, LookedUp, Written, Walking, Clearing}
-use Rattle.model.specs.Store.{Store}
 use Rattle.model.specs.Step.{Setup, State, node}
 use Rattle.command.specs.Read.{commandsIn}
 use Rattle.state_bytes.specs.Bytes.{bytesOf, numberAt, tabulate, fields, allBelow}

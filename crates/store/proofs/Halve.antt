@@ -2,18 +2,13 @@
 -- search needs. Assumes nothing.
 use Prim.Native.Nat.{ℕ, zero, suc, _+_, _/_, _≤_, _<_}
 use native.Mathlib.Omega.{arith}
-use mathlib.Core.Bool.{Bool, true, false, cond, _&&_}
+use mathlib.Core.Bool.{Bool, true, false, cond, _&&_, and-eq-true-iff}
 use mathlib.Core.Path.{_≡_, refl, sym}
 use mathlib.Core.List.{List}
 use borrow.Author.Tests.{lt-ltb, le-ltb, ltb-true}
 use lib.ListN.{getD}
 use lib.Dec.{ltb}
 use Rattle.model.specs.Store.{halve}
-
--- a conjunction that holds has a first part that holds
-pub first-true : (a b : Bool) → (a && b) ≡ true → a ≡ true
-first-true true b e = refl
-first-true false b e = e
 
 -- A halving takes at least one place away: the right part starts after the middle, the left part ends at it.
 part-is-smaller : (n low high : ℕ) (right : Bool) → (right ≡ true → low < high) → high ≤ low + suc n
@@ -35,7 +30,7 @@ module _ (keys : List ℕ) (key : ℕ) where
   halve-once-more (suc n) low high h =
       let middle : ℕ = (low + high) / 2 in
       let right : Bool = ltb low high && ltb (getD keys middle 0) key in
-      let apart : (right ≡ true → low < high) = λ e. ltb-true low high (first-true (ltb low high) (ltb (getD keys middle 0) key) e) in
+      let apart : (right ≡ true → low < high) = λ e. ltb-true low high (and-eq-true-iff (ltb low high) (ltb (getD keys middle 0) key) .0 e .0) in
       halve-once-more n (cond right (middle + 1) low) (cond right high middle) (part-is-smaller n low high right apart h)
 
   -- A turn of the search whose middle key is smaller goes on to the right of the middle.

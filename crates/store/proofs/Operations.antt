@@ -4,14 +4,14 @@ use native.Mathlib.Omega.{arith}
 use mathlib.Core.Bool.{Bool, true, false, cond, _&&_, _||_}
 use mathlib.Core.Path.{_≡_, sym, ap, _∙_}
 use mathlib.Core.List.{List}
-use borrow.Author.Tests.{ltb-true, leb-false}
+use borrow.Author.Tests.{leb-false}
 use lib.ListN.{length, getD, set}
 use lib.Dec.{ltb, leb, eqb}
 use Rattle.model.specs.Store.{Store, inUse, halve, placeOf, holds, lookUp, insert, remove, replace, shiftUp, shiftDown}
 use Rattle.store.specs.declared.Found.{Found}
 use Rattle.store.specs.Lists.{storeOf}
 use Rattle.store.specs.Find.{Finds}
-use Rattle.store.proofs.Halve.{first-true}
+use Rattle.model.specs.Proof.Formed.Store.{held-in-use}
 
 -- Steps that go as the definitions do find what the definitions say: each result is put for the one before.
 pub finds : (key : ℕ) (st : Store) (both : ℕ) (found : Found) → both ≡ min (length (st .keys)) (length (st .chutes))
@@ -27,12 +27,6 @@ finds key st both found b u p within h =
 -- A test picks what its value picks.
 picked : {A : Type 0} (x y : A) {b c : Bool} → b ≡ c → cond c x y ≡ cond b x y
 picked x y e = ap (λ b. cond b x y) (sym e)
-
--- A key that is held stands at a place in use: that is the first test.
-held-in-use : (key : ℕ) (st : Store) → holds key st ≡ true → placeOf key st < inUse st
-unfolding holds
-held-in-use key st held =
-    ltb-true (placeOf key st) (inUse st) (first-true (ltb (placeOf key st) (inUse st)) (eqb (getD (st .keys) (placeOf key st) 0) key) held)
 
 module _ {key : ℕ} {st : Store} {found : Found} (f : Finds key st found) where
   -- A key that is held stands at a place in use, and both lists have the places in use.

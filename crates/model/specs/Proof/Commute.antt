@@ -3,15 +3,17 @@
 use Prim.Native.Nat.{ℕ}
 use mathlib.Core.Path.{_≡_, refl, sym, _∙_, ap}
 use mathlib.Core.Logic.{_⊎_, inl, inr, ⊎-elim}
-use mathlib.Core.Bool.{Bool, true, false, cond, _&&_, _||_, true≢false, or-comm, or-true, and-true}
+use mathlib.Core.Bool.{Bool, true, false, cond, _&&_, _||_, true≢false, or-true, and-true}
 use mathlib.Core.List.{List, [], _∷_}
 use lib.Dec.{eqb}
-use borrow.Author.Tests.{eqb-true, eqb-false, eq-eqb, ne-eqb}
+use borrow.Author.Tests.{eqb-false, ne-eqb}
 use Rattle.command.specs.declared.Kind.{Kind}
 use Rattle.command.specs.declared.Kind.the-variants.{Insert, Delete, Read, Update}
 use Rattle.command.specs.declared.Command.{Command}
 use Rattle.command.specs.Dependent.{areDependent, isInsertOrDelete, isUpdate}
+use Rattle.command.proofs.Laws.{dependence-is-symmetric}
 use Rattle.model.specs.Serial.{Entry, present, chuteAt, setChute, served, serveKind, serve}
+use Rattle.model.specs.Proof.Tests.{neither, eqb-cases}
 use Rattle.model.specs.Proof.Trace.{Commuting}
 
 -- the service in the terms of part T: what a command does to the entries, and what it answers
@@ -22,32 +24,6 @@ abbrev pub replyOf : ℕ → Command → List Entry → ℕ
 replyOf capacity c es = serve capacity c es .answer
 
 -- ---- which commands are independent
-
--- a comparison, with what it says
-pub tested : (x y : ℕ) → ((x ≡ y) × (eqb x y ≡ true)) ⊎ ((x ≡ y → ⊥) × (eqb x y ≡ false))
-tested x y = go (eqb x y) refl
-  where
-    go : (t : Bool) → eqb x y ≡ t → ((x ≡ y) × (eqb x y ≡ true)) ⊎ ((x ≡ y → ⊥) × (eqb x y ≡ false))
-    go true e = inl (eqb-true x y e, e)
-    go false e = inr (eqb-false x y e, e)
-
-eqb-comm : (x y : ℕ) → eqb x y ≡ eqb y x
-eqb-comm x y = ⊎-elim (λ p. p .1 ∙ sym (eq-eqb y x (sym (p .0)))) (λ p. p .1 ∙ sym (ne-eqb y x (λ q. p .0 (sym q)))) (tested x y)
-
--- each of the three tests of the definition is symmetric
-pub dependent-symmetric : (a b : Command) → areDependent a b ≡ areDependent b a
-unfolding areDependent
-dependent-symmetric a b =
-    rw (
-      eqb-comm (a .key) (b .key),
-      or-comm (isInsertOrDelete (a .kind)) (isInsertOrDelete (b .kind)),
-      or-comm (isUpdate (a .kind)) (isUpdate (b .kind)),
-    )
-
--- two tests of which none passes
-pub neither : (s t : Bool) → (s || t) ≡ false → (s ≡ false) × (t ≡ false)
-neither true t e = absurd (true≢false e)
-neither false t e = (refl, e)
 
 -- of two independent commands the first is no insert and no delete
 not-insert-or-delete : (a b : Command) → areDependent a b ≡ false → isInsertOrDelete (a .kind) ≡ false
@@ -69,14 +45,14 @@ present-set : (key other chute : ℕ) (es : List Entry) → present key (setChut
 unfolding present setChute
 present-set key other chute [] = refl
 present-set key other chute (e ∷ es) =
-    ⊎-elim (λ p. rw (p .1, p .0)) (λ p. rw (p .1, present-set key other chute es)) (tested (e .key) other)
+    ⊎-elim (λ p. rw (p .1, p .0)) (λ p. rw (p .1, present-set key other chute es)) (eqb-cases (e .key) other)
 
 -- another key keeps its chute
 chute-set-other : (key other chute : ℕ) (es : List Entry) → (key ≡ other → ⊥) → chuteAt key (setChute other chute es) ≡ chuteAt key es
 unfolding chuteAt setChute
 chute-set-other key other chute [] h = refl
 chute-set-other key other chute (e ∷ es) h =
-    ⊎-elim (λ p. rw (p .1, p .0, ne-eqb other key (λ q. h (sym q)))) (λ p. rw (p .1, chute-set-other key other chute es h)) (tested (e .key) other)
+    ⊎-elim (λ p. rw (p .1, p .0, ne-eqb other key (λ q. h (sym q)))) (λ p. rw (p .1, chute-set-other key other chute es h)) (eqb-cases (e .key) other)
 
 -- two keys get their chutes in either order
 set-set-commute : (x u y v : ℕ) (es : List Entry) → (x ≡ y → ⊥) → setChute x u (setChute y v es) ≡ setChute y v (setChute x u es)
@@ -85,15 +61,15 @@ set-set-commute x u y v [] h = refl
 set-set-commute x u y v (e ∷ es) h =
     ⊎-elim (λ p. simp (p .1, ne-eqb (e .key) y (λ q. h (sym (p .0) ∙ q)), ne-eqb x y h))
     (λ p.
-    ⊎-elim (λ q. simp (p .1, q .1, ne-eqb y x (λ r. h (sym r)))) (λ q. simp (p .1, q .1, set-set-commute x u y v es h)) (tested (e .key) y))
-    (tested (e .key) x)
+    ⊎-elim (λ q. simp (p .1, q .1, ne-eqb y x (λ r. h (sym r)))) (λ q. simp (p .1, q .1, set-set-commute x u y v es h)) (eqb-cases (e .key) y))
+    (eqb-cases (e .key) x)
 
 -- an absent key gets no chute
 set-absent : (key chute : ℕ) (es : List Entry) → present key es ≡ false → setChute key chute es ≡ es
 unfolding present setChute
 set-absent key chute [] h = refl
 set-absent key chute (e ∷ es) h =
-    ⊎-elim (λ p. absurd (true≢false (rw (p .1) at h))) (λ p. simp (p .1, set-absent key chute es (rw (p .1) at h))) (tested (e .key) key)
+    ⊎-elim (λ p. absurd (true≢false (rw (p .1) at h))) (λ p. simp (p .1, set-absent key chute es (rw (p .1) at h))) (eqb-cases (e .key) key)
 
 -- ---- the law
 
@@ -123,7 +99,7 @@ change : (capacity : ℕ) (a b : Command) → areDependent a b ≡ false
 unfolding serve
 change capacity a b e =
     ⊎-elim (λ p. inl p) (λ p. inr (other-key a b e (p .0), p .1))
-    (change-of (b .kind) capacity (b .key) (b .chute) (not-insert-or-delete b a (dependent-symmetric b a ∙ e)))
+    (change-of (b .kind) capacity (b .key) (b .chute) (not-insert-or-delete b a (dependence-is-symmetric b a ∙ e)))
 
 -- so it keeps what a lookup finds
 pub look-keeps : (capacity : ℕ) (a b : Command) (es : List Entry) → areDependent a b ≡ false
@@ -146,7 +122,7 @@ effects-commute capacity a b es e =
     (λ p.
     ⊎-elim (λ q. q _ ∙ ap (effectOf capacity b) (sym (q es)))
     (λ q. simp (p .1, q .1, set-set-commute (a .key) (a .chute) (b .key) (b .chute) es (p .0)))
-    (change capacity b a (dependent-symmetric b a ∙ e)))
+    (change capacity b a (dependence-is-symmetric b a ∙ e)))
     (change capacity a b e)
 
 -- an answer that a test picks does not hang on the entries
@@ -174,7 +150,7 @@ replies-kept capacity a b es e =
 
 pub service-commutes : (capacity : ℕ) → Commuting (effectOf capacity) (replyOf capacity) areDependent
 service-commutes capacity = record {
-  symmetric = dependent-symmetric;
+  symmetric = dependence-is-symmetric;
   effects = effects-commute capacity;
   replies = replies-kept capacity;
 }

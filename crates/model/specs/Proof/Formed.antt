@@ -7,7 +7,7 @@ pub mod Keep
 pub mod Opening
 use Prim.Native.Nat.{ℕ, _≤_, _<_}
 use mathlib.Core.Path.{_≡_}
-use mathlib.Core.Bool.{Bool, true, false}
+use mathlib.Core.Bool.{true, false}
 use mathlib.Core.Option.{some}
 use lib.ListN.{length, getD}
 use Rattle.command.specs.declared.Command.{Command}

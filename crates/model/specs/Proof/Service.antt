@@ -1,28 +1,28 @@
 -- Part T and the commuting law put together for the model: the entries that a set of commands gives when it is run alone in delivery order,
 -- and what one more command adds to them. Assumes nothing.
-use Prim.Native.Nat.{ℕ, zero, suc, _+_, _≤_, _<_}
+use Prim.Native.Nat.{ℕ, zero, suc, _≤_, _<_}
 use native.Mathlib.Omega.{arith}
 use mathlib.Core.Path.{_≡_, refl, sym, _∙_, ap}
-use mathlib.Core.Logic.{_⊎_, inl, inr, ⊎-elim}
-use mathlib.Core.Bool.{Bool, true, false, cond, _&&_, true≢false}
+use mathlib.Core.Logic.{_⊎_, ⊎-elim}
+use mathlib.Core.Bool.{Bool, true, false}
 use mathlib.Core.List.{List, [], _∷_}
-use mathlib.Core.Option.{Option, none, some}
+use mathlib.Core.Option.{none, some}
 use lib.ListN.{length, getElem?, getD, take}
-use lib.Dec.{eqb, leb, ltb}
-use borrow.Author.Tests.{ltb-true, ltb-false, leb-true, leb-false, eqb-true, eqb-false, eq-eqb, ne-eqb}
+use lib.Dec.{leb}
 use Rattle.command.specs.declared.Kind.{Kind}
 use Rattle.command.specs.declared.Kind.the-variants.{Insert, Delete, Read, Update}
 use Rattle.command.specs.declared.Command.{Command}
-use Rattle.command.specs.Read.{chuteFits}
 use Rattle.command.specs.Dependent.{areDependent}
-use Rattle.model.specs.Serial.{Entry, Served, present, chuteAt, putIn, takeOut, setChute, serveKind, serve}
+use Rattle.model.specs.Serial.{Entry, Served, present, serveKind, serve}
 use Rattle.model.specs.Serial.{entriesAfter, answersFrom, serialAnswers, serialEntries}
 use Rattle.model.specs.Step.{Setup, upd, commandAt}
 use Rattle.model.specs.Statement.{Accepted, EachCommand, serialAnswer}
-use Rattle.model.specs.Proof.Trace.{Placed, Closed, run, runOnly, not-none}
+use Rattle.model.specs.Proof.Tests.{none-some, eqb-cases}
+use Rattle.model.specs.Proof.Upd.{upd-same, upd-other}
+use Rattle.model.specs.Proof.Trace.{Placed, Closed, run, runOnly}
 use Rattle.model.specs.Proof.Trace.{runOnly-agrees, runOnly-all, runOnly-none, runOnly-keeps, next-reply, next-effect}
-use Rattle.model.specs.Proof.Serial.{Ascending, AllPositive, BringsPositive, cond-cases, serve-ascending, serve-fits, serve-positive, chuteAt-present}
-use Rattle.model.specs.Proof.Commute.{effectOf, replyOf, tested, neither, service-commutes}
+use Rattle.model.specs.Proof.Serial.{Ascending, AllPositive, BringsPositive, cond-cases, fitting-brings-positive, serve-ascending, serve-fits, serve-positive, chuteAt-present}
+use Rattle.model.specs.Proof.Commute.{effectOf, replyOf, service-commutes}
 
 -- the entries after the commands of W alone, in delivery order
 unfoldable pub entriesOf : Setup → (ℕ → Bool) → List Entry
@@ -42,7 +42,7 @@ EarlierIn o W k c = (j : ℕ) (a : Command) → commandAt (o .commands) j ≡ so
 
 placed : (cs : List Command) (k : ℕ) (c : Command) → commandAt cs k ≡ some c → Placed 1 cs k c
 unfolding commandAt
-placed cs zero c e = absurd (not-none e)
+placed cs zero c e = absurd (none-some none refl e)
 placed cs (suc n) c e = record { offset = n; place = omega arith; found = e }
 
 command-placed : (cs : List Command) (k : ℕ) (c : Command) → Placed 1 cs k c → commandAt cs k ≡ some c
@@ -51,11 +51,21 @@ command-placed cs k c p = let q : k ≡ suc (p .offset) = omega arith in rw q (p
 
 -- ---- the serial run is the full run
 
+-- "There is one answer a command."
+answers-length : (capacity : ℕ) (cs : List Command) (es : List Entry) → length (answersFrom capacity cs es) ≡ length cs
+unfolding answersFrom
+answers-length capacity [] es = refl
+answers-length capacity (c ∷ cs) es = ap suc (answers-length capacity cs (serve capacity c es .entries))
+
+pub serial-length : (capacity : ℕ) (cs : List Command) → length (serialAnswers capacity cs) ≡ length cs
+unfolding serialAnswers
+serial-length capacity cs = answers-length capacity cs []
+
 -- the answer to a command is its reply in the full run
 answer-at : (capacity : ℕ) (cs : List Command) (n : ℕ) (c : Command) (es : List Entry) → getElem? cs n ≡ some c
     → getD (answersFrom capacity cs es) n 0 ≡ replyOf capacity c (run (effectOf capacity) (take n cs) es)
 unfolding answersFrom run
-answer-at capacity [] n c es e = absurd (not-none e)
+answer-at capacity [] n c es e = absurd (none-some none refl e)
 answer-at capacity (b ∷ cs) zero c es e = let q : b ≡ c = cc in ap (λ (x : Command). replyOf capacity x es) q
 answer-at capacity (b ∷ cs) (suc n) c es e = answer-at capacity cs n c (effectOf capacity b es) e
 
@@ -98,17 +108,9 @@ entries-keep P o W keeps p =
 
 -- ---- one more command
 
-upd-same : (W : ℕ → Bool) (k : ℕ) (v : Bool) → upd W k v k ≡ v
-unfolding upd
-upd-same W k v = rw (eq-eqb k k refl)
-
-upd-other : (W : ℕ → Bool) (k : ℕ) (v : Bool) (j : ℕ) → (j ≡ k → ⊥) → upd W k v j ≡ W j
-unfolding upd
-upd-other W k v j h = rw (ne-eqb j k h)
-
 -- what is in W is in W with k
 upd-more : (W : ℕ → Bool) (k j : ℕ) → W j ≡ true → upd W k true j ≡ true
-upd-more W k j w = ⊎-elim (λ p. rw (p .0) (upd-same W k true)) (λ p. upd-other W k true j (p .0) ∙ w) (tested j k)
+upd-more W k j w = ⊎-elim (λ p. rw (p .0) (upd-same W k true)) (λ p. upd-other W k true j (p .0) ∙ w) (eqb-cases j k)
 
 module _ (o : Setup) (W : ℕ → Bool) (k : ℕ) (c : Command) (closed : ClosedDown o W) (at : commandAt (o .commands) k ≡ some c) where
   closed-trace : Closed areDependent W 1 (o .commands)
@@ -131,21 +133,9 @@ module _ (o : Setup) (W : ℕ → Bool) (k : ℕ) (c : Command) (closed : Closed
   closed-next earlier i j a b p q l d w =
       upd-more W k i
       (⊎-elim (λ r. let n = r .0 in let e : b ≡ c = cc in earlier i a p (omega arith) (rw e at d))
-      (λ r. closed i j a b p q l d (sym (upd-other W k true j (r .0)) ∙ w)) (tested j k))
+      (λ r. closed i j a b p q l d (sym (upd-other W k true j (r .0)) ∙ w)) (eqb-cases j k))
 
 -- ---- every answer is from 1 up
-
-first : (s t : Bool) → (s && t) ≡ true → s ≡ true
-first true t e = refl
-first false t e = e
-
--- the chute of an accepted insert or update is from 1 up
-fitting-positive : (k : Kind) (chute : ℕ) → chuteFits k chute ≡ true → BringsPositive k chute
-unfolding chuteFits
-fitting-positive Insert chute e = leb-true 1 chute (first (leb 1 chute) (leb chute 512) e)
-fitting-positive Delete chute e = tt
-fitting-positive Read chute e = tt
-fitting-positive Update chute e = leb-true 1 chute (first (leb 1 chute) (leb chute 512) e)
 
 -- an answer is a chute found, or 1000 and more
 answer-positive : (k : Kind) (capacity key chute : ℕ) (es : List Entry) → AllPositive es → 1 ≤ serveKind k capacity key chute es .answer
@@ -175,7 +165,7 @@ entries-fit o W = entries-keep (λ (es : List Entry). length es ≤ o .capacity)
 
 module _ (o : Setup) (accepted : Accepted o) where
   accepted-positive : (k : ℕ) (c : Command) → commandAt (o .commands) k ≡ some c → BringsPositive (c .kind) (c .chute)
-  accepted-positive k c at = fitting-positive (c .kind) (c .chute) (accepted .chutes k c at)
+  accepted-positive k c at = fitting-brings-positive (c .kind) (c .chute) (accepted .chutes k c at)
 
   -- every serial answer is from 1 up
   pub serial-positive : EachCommand o (λ c. 1 ≤ serialAnswer o c)

@@ -2,13 +2,15 @@
 -- Assumes nothing.
 use Prim.Native.Nat.{ℕ, _+_, _*_, _≤_}
 use native.Mathlib.Omega.{arith}
-use mathlib.Core.Path.{_≡_, refl, sym, ap, _∙_}
-use mathlib.Core.Bool.{Bool, true, false, cond, _||_, or-false}
+use mathlib.Core.Path.{_≡_, refl, ap, _∙_}
+use mathlib.Core.Bool.{Bool, true, cond, or-false}
 use mathlib.Core.List.{List}
+use mathlib.Core.Logic.{inl, ⊎-elim}
 use lib.ListN.{length}
 use Rattle.model.specs.Store.{layOut}
 use Rattle.model.specs.Step.{Setup, State, opened, steps}
-use Rattle.model.specs.Statement.{Accepted, allWithin, wrote, removed, EachCommand, serialAnswer, Holds, Demand3}
+use Rattle.model.specs.Statement.{Accepted, allWithin, wrote, removed, EachCommand, serialAnswer, Demand3}
+use Rattle.model.specs.Proof.Tests.{true-false, eqb-cases}
 use Rattle.model.specs.Proof.Service.{entriesOf, entries-all, serial-positive}
 use Rattle.model.specs.Proof.Chain.Invariant.{Ghost, Inv}
 use Rattle.model.specs.Proof.Chain.Ghost.{ghostSteps}
@@ -45,11 +47,24 @@ module _ (o : Setup) (acc : Accepted o) (ts : List ℕ) (within : allWithin (o .
   all-written : EachCommand o (λ c. removed o c ts (opened o) ≡ true) → EachCommand o (λ c. g .written c ≡ true)
   all-written all c low high = reached .progress .removed-written c (removed-is c low ∙ all c low high)
 
+  -- as the serial run answers it
+  pub all-serial : EachCommand o (λ c. removed o c ts (opened o) ≡ true) → EachCommand o (λ c. s .answers c ≡ serialAnswer o c)
+  all-serial all c low high = reached .service .answered c low high ∙ ap (λ (b : Bool). cond b (serialAnswer o c) 0) (all-written all c low high)
+
   all-answered : EachCommand o (λ c. removed o c ts (opened o) ≡ true) → EachCommand o (λ c. 1 ≤ s .answers c)
-  all-answered all c low high =
-      let e = reached .service .answered c low high ∙ ap (λ (b : Bool). cond b (serialAnswer o c) 0) (all-written all c low high) in
-      let p = serial-positive o acc c low high in
-      omega arith
+  all-answered all c low high = omega (arith, all-serial all c low high, serial-positive o acc c low high)
+
+  -- and its node is linked no more: a linked one has a command that is not removed
+  pub none-linked : EachCommand o (λ c. removed o c ts (opened o) ≡ true) → s .next 0 ≡ 0
+  none-linked all = ⊎-elim (λ e. e .0) (λ e. absurd (linked-first (e .0))) (eqb-cases (s .next 0) 0)
+    where
+      linked-first : (s .next 0 ≡ 0 → ⊥) → ⊥
+      linked-first some =
+          let first = s .next 0 in
+          let used = reached .order .linked-used first (reached .order .next-linked 0 (inl refl) some) in
+          let few = reached .order .below first in
+          let loaded = reached .order .loaded-count in
+          true-false _ (removed-is (s .seq first) used ∙ all (s .seq first) used (omega arith)) (reached .progress .removed-gone first used)
 
 pub demand-3 : Demand3
 demand-3 o acc ts within = record {

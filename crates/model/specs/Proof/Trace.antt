@@ -5,8 +5,9 @@ use native.Mathlib.Omega.{arith}
 use mathlib.Core.Path.{_≡_, refl, sym, _∙_, ap}
 use mathlib.Core.Bool.{Bool, true, false, cond}
 use mathlib.Core.List.{List, [], _∷_}
-use mathlib.Core.Option.{Option, none, some}
+use mathlib.Core.Option.{none, some}
 use lib.ListN.{length, getElem?, take}
+use Rattle.model.specs.Proof.Tests.{fails, true-false, none-some}
 
 -- c stands at place k of a list whose first place is i
 pub record Placed {A : Type 0} (i : ℕ) (cs : List A) (k : ℕ) (c : A) : Type 0 where
@@ -86,23 +87,10 @@ abbrev pub Closed : {C : Type 0} → (C → C → Bool) → (ℕ → Bool) → �
 Closed {C} dep W i cs =
     (j k : ℕ) (a b : C) → Placed i cs j a → Placed i cs k b → j < k → dep a b ≡ true → W k ≡ true → W j ≡ true
 
--- a test that cannot pass fails
-pub fails : (t : Bool) → (t ≡ true → ⊥) → t ≡ false
-fails true h = absurd (h refl)
-fails false h = refl
-
--- no test both passes and fails
-pub not-both : {t : Bool} → t ≡ true → t ≡ false → ⊥
-not-both e f = let z : _≡_ {A = ℕ} 0 1 = cc in omega arith
-
--- nothing is not a command
-pub not-none : {A : Type 0} {a : A} → none ≡ some a → ⊥
-not-none e = let z : _≡_ {A = ℕ} 0 1 = cc in omega arith
-
 -- what stands in the first n of a list stands in the list
 in-take : {A : Type 0} {a : A} (n : ℕ) (cs : List A) (j : ℕ) → getElem? (take n cs) j ≡ some a → (j < n) × (getElem? cs j ≡ some a)
-in-take zero cs j e = absurd (not-none e)
-in-take (suc n) [] j e = absurd (not-none e)
+in-take zero cs j e = absurd (none-some none refl e)
+in-take (suc n) [] j e = absurd (none-some none refl e)
 in-take (suc n) (c ∷ cs) zero e = (omega arith, e)
 in-take (suc n) (c ∷ cs) (suc j) e = let r = in-take n cs j e in (omega arith, r .1)
 
@@ -146,10 +134,10 @@ module _ {C S R : Type 0} (effect : C → S → S) (reply : C → S → R) (dep 
       one false e = sym (rw (passes (suc i) cs a s apart) (law .replies c a _ free))
         where
           apart : Apart (suc i) cs a
-          apart k b at w = fails (dep a b) (λ d. not-both (closed i k a b here (later at) (omega arith) d w) e)
+          apart k b at w = fails (dep a b) (λ d. true-false _ (closed i k a b here (later at) (omega arith) d w) e)
 
           free : dep c a ≡ false
-          free = fails (dep c a) (λ d. not-both (needed i a here (law .symmetric a c ∙ d)) e)
+          free = fails (dep c a) (λ d. true-false _ (needed i a here (law .symmetric a c ∙ d)) e)
 
   -- At its place a command has the reply of the full run, if W has every earlier command that it depends on.
   pub reply-in-place : (i : ℕ) (cs : List C) (k : ℕ) (c : C) (s : S) (at : Placed i cs k c) → Closed dep W i cs
@@ -175,7 +163,7 @@ module _ {C S R : Type 0} (effect : C → S → S) (reply : C → S → R) (dep 
   late-reply : (i : ℕ) (cs : List C) (k n : ℕ) (c : C) (s : S) → k ≡ i + n → getElem? cs n ≡ some c → W k ≡ false → Behind i cs k c
       → reply c (runOnly effect W i cs s) ≡ reply c (runOnly effect W i (take n cs) s)
   unfolding runOnly
-  late-reply i [] k n c s at e out behind = absurd (not-none e)
+  late-reply i [] k n c s at e out behind = absurd (none-some none refl e)
   late-reply i (b ∷ cs) k zero c s at e out behind =
       let q : i ≡ k = omega arith in
       rw (ap W q ∙ out) (reply-kept (suc i) cs c s (λ j a p. behind j a (later p) (omega arith)))
@@ -186,7 +174,7 @@ module _ {C S R : Type 0} (effect : C → S → S) (reply : C → S → R) (dep 
       → U k ≡ true → ((j : ℕ) → (j ≡ k → ⊥) → U j ≡ W j)
       → effect c (runOnly effect W i cs s) ≡ runOnly effect U i cs s
   unfolding runOnly
-  late-effect U i [] k n c s at e out behind new same = absurd (not-none e)
+  late-effect U i [] k n c s at e out behind new same = absurd (none-some none refl e)
   late-effect U i (b ∷ cs) k zero c s at e out behind new same =
       let q : i ≡ k = omega arith in
       let d : b ≡ c = cc in
@@ -200,7 +188,7 @@ module _ {C S R : Type 0} (effect : C → S → S) (reply : C → S → R) (dep 
   -- effect after W is that of running W with it, U: it is independent of each command of W behind it, or it would be in W.
   module _ (i : ℕ) (cs : List C) (k : ℕ) (c : C) (s : S) (at : Placed i cs k c) (closed : Closed dep W i cs) (out : W k ≡ false) where
     behind : Behind i cs k c
-    behind j b p l w = fails (dep c b) (λ d. not-both (closed k j c b at p l d w) out)
+    behind j b p l w = fails (dep c b) (λ d. true-false _ (closed k j c b at p l d w) out)
 
     pub next-reply : ((j : ℕ) (a : C) → Placed i cs j a → j < k → dep a c ≡ true → W j ≡ true)
         → reply c (runOnly effect W i cs s) ≡ reply c (run effect (take (at .offset) cs) s)

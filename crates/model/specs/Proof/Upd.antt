@@ -1,19 +1,10 @@
 -- The laws of `upd`: the only facts about an updated function that the proofs use. Assumes nothing.
 use Prim.Native.Nat.{ℕ}
 use mathlib.Core.Path.{_≡_, refl, sym, ap, _∙_, fun-ext}
-use mathlib.Core.Bool.{Bool, true, false, cond}
 use mathlib.Core.Logic.{_⊎_, inl, inr, ⊎-elim}
-use lib.Dec.{eqb}
-use borrow.Author.Tests.{eq-eqb, ne-eqb, eqb-true, eqb-false}
+use borrow.Author.Tests.{eq-eqb, ne-eqb}
 use Rattle.model.specs.Step.{upd}
-
--- a test, and what it says
-pub eqb-cases : (i j : ℕ) → ((i ≡ j) × (eqb i j ≡ true)) ⊎ ((i ≡ j → ⊥) × (eqb i j ≡ false))
-eqb-cases i j = go (eqb i j) refl
-  where
-    go : (b : Bool) → eqb i j ≡ b → ((i ≡ j) × (eqb i j ≡ true)) ⊎ ((i ≡ j → ⊥) × (eqb i j ≡ false))
-    go true e = inl (eqb-true i j e, e)
-    go false e = inr (eqb-false i j e, e)
+use Rattle.model.specs.Proof.Tests.{eqb-cases}
 
 module _ {ℓ} {A : Type ℓ} (f : ℕ → A) (i : ℕ) (v : A) where
   pub upd-same : upd f i v i ≡ v

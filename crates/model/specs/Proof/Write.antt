@@ -1,17 +1,17 @@
 -- A worker's writing is the serial run's service: on ascending entries laid out as a store, what a lookup finds and what is then answered and
 -- written is what `serve` answers and leaves. Assumes nothing.
-use Prim.Native.Nat.{ℕ, _≤_, _<_}
+use Prim.Native.Nat.{ℕ, _≤_}
 use native.Mathlib.Omega.{arith}
-use mathlib.Core.Path.{_≡_, refl, sym, ap, _∙_}
-use mathlib.Core.Bool.{Bool, true, false, cond}
+use mathlib.Core.Path.{_≡_, refl, ap}
+use mathlib.Core.Bool.{Bool, true, false}
 use mathlib.Core.List.{List}
 use lib.ListN.{length}
 use lib.Dec.{eqb, leb}
-use borrow.Author.Tests.{eq-eqb, ne-eqb, leb-true, leb-false}
+use borrow.Author.Tests.{eq-eqb, ne-eqb, leb-false}
 use Rattle.command.specs.declared.Kind.{Kind}
 use Rattle.command.specs.declared.Kind.the-variants.{Insert, Delete, Read, Update}
 use Rattle.model.specs.Serial.{Entry, Served, present, chuteAt, serveKind}
-use Rattle.model.specs.Store.{Store, layOut, lookUp}
+use Rattle.model.specs.Store.{layOut, lookUp}
 use Rattle.model.specs.Step.{Write, write, writeKind}
 use Rattle.model.specs.Proof.Serial.{Ascending, AllPositive, chuteAt-absent, chuteAt-present}
 use Rattle.model.specs.Proof.Store.{lookUp-is-chuteAt, insert-is-putIn, remove-is-takeOut, replace-is-setChute}

@@ -1,4 +1,4 @@
--- `graph::step` meets its contract: thread 0 takes the loader's step, any other a worker's. Assumes nothing.
+-- `threads::step` meets its contract: thread 0 takes the loader's step, any other a worker's. Assumes nothing.
 use mathlib.Core.List.{[]}
 use borrow.Author.Needs.{needs}
 use lib.ListN.{length}

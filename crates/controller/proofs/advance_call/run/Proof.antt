@@ -8,7 +8,8 @@ use lib.ListN.{length}
 use Rattle.model.specs.Step.{State, steps}
 use Rattle.model.specs.declared.Counters.{Counters}
 use Rattle.state_bytes.specs.Layout.{Lists, lists, listsOf, setupIn, stateLength}
-use Rattle.controller.proofs.Handed.{Fit, ReadOut, tests-fit, fit-count, fit-named, fit-capacity, fit-commands, read-shows, read-placed, read-ready, read-within, passed-long, zeros}
+use Rattle.state_bytes.proofs.HandedBack.{Long, InRange, lengths-passed, state-passed}
+use Rattle.controller.proofs.Handed.{ReadOut, fit-count, fit-named, fit-capacity, fit-commands, read-shows, read-placed, read-ready, read-within, zeros}
 use borrow.Author.Needs.{needs}
 use Rattle.controller.proofs.advance_call.run.Statement.{statement}
 use Rattle.controller.proofs.advance_call.run.Tie as tie
@@ -17,11 +18,14 @@ use Rattle.controller.proofs.advance_call.run.Tie as tie
 abbrev given : tie.Start → Lists
 given c = lists (c .args .state .now) (c .args .keys .now) (c .args .chutes .now) (c .args .answers .now)
 
-fit : (c : tie.Start) → Fit (given c) (c .args .commands .now)
-fit c = tests-fit (given c) (c .args .commands .now) (c .pre .lengths) (c .pre .state)
+lengths : (c : tie.Start) → Long (given c) (c .args .commands .now)
+lengths c = lengths-passed (given c) (c .args .commands .now) (c .pre .lengths)
+
+range : (c : tie.Start) → InRange (given c)
+range c = state-passed (given c) (c .pre .state)
 
 long : (c : tie.Start) → length (c .args .state .now) ≡ stateLength
-long c = passed-long (given c) (c .args .commands .now) (c .pre .lengths)
+long c = lengths c .state
 
 settings-in-requires : tie.Need-settings-in-requires
 settings-in-requires c κs = long (c .before .before .before .before .before .before .before)
@@ -33,25 +37,29 @@ slice-aggregate-read-bytes : tie.Need-slice-aggregate-read-bytes
 slice-aggregate-read-bytes c = search needs
 
 read-bytes-requires : tie.Need-read-bytes-requires
-read-bytes-requires c κs = omega (arith, fit (c .before .before .before .before .before .before .before .before .before .before .before .before) .long)
+unfolding stateLength
+read-bytes-requires c κs = omega (arith, long (c .before .before .before .before .before .before .before .before .before .before .before .before))
 
 slice-aggregate-read-numbers : tie.Need-slice-aggregate-read-numbers
 slice-aggregate-read-numbers c = search needs
 
 read-numbers-requires : tie.Need-read-numbers-requires
-read-numbers-requires c κs = omega (arith, fit (c .before .before .before .before .before .before .before .before .before .before .before .before .before .before .before .before) .long)
+unfolding stateLength
+read-numbers-requires c κs = omega (arith, long (c .before .before .before .before .before .before .before .before .before .before .before .before .before .before .before .before))
 
 slice-aggregate-read-flags : tie.Need-slice-aggregate-read-flags
 slice-aggregate-read-flags c = search needs
 
 read-flags-requires : tie.Need-read-flags-requires
-read-flags-requires c κs = omega (arith, fit (c .before .before .before .before .before .before .before .before .before .before .before .before .before .before .before .before .before .before .before .before) .long)
+unfolding stateLength
+read-flags-requires c κs = omega (arith, long (c .before .before .before .before .before .before .before .before .before .before .before .before .before .before .before .before .before .before .before .before))
 
 slice-aggregate-read-flags-2 : tie.Need-slice-aggregate-read-flags-2
 slice-aggregate-read-flags-2 c = search needs
 
 read-flags-requires-2 : tie.Need-read-flags-requires-2
-read-flags-requires-2 c κs = omega (arith, fit (c .before .before .before .before .before .before .before .before .before .before .before .before .before .before .before .before .before .before .before .before .before .before .before .before) .long)
+unfolding stateLength
+read-flags-requires-2 c κs = omega (arith, long (c .before .before .before .before .before .before .before .before .before .before .before .before .before .before .before .before .before .before .before .before .before .before .before .before))
 
 slice-aggregate-read-sets : tie.Need-slice-aggregate-read-sets
 slice-aggregate-read-sets c = search needs
@@ -102,8 +110,8 @@ keep-all-requires c κs =
     let at = c .before .before .before .before in
     let start = entry at in
     let commands = start .args .commands .now in (
-      read-placed (given start) (read-out at) commands (fit start),
-      fit start .whole ∙ ap (λ (n : ℕ). 16 * n) (sym (fit-count (given start) commands (fit start))),
+      read-placed (given start) (read-out at) commands (lengths start) (range start),
+      lengths start .commands-are ∙ ap (λ (n : ℕ). 16 * n) (sym (fit-count (given start) commands (lengths start))),
       zeros 151,
     )
 
@@ -114,9 +122,9 @@ perform-requires c κs =
     let commands = start .args .commands .now in
     record {
       long = long start;
-      ready = read-ready (given start) (read-out at) commands (fit start) (c .before .before .before .before .keep-all .ensures);
-      within = read-within (given start) (read-out at) commands (fit start);
-      named = fit-named (given start) commands (fit start) (start .args .schedule .now) (start .pre .named);
+      ready = read-ready (given start) (read-out at) commands (lengths start) (range start) (c .before .before .before .before .keep-all .ensures);
+      within = read-within (given start) (read-out at) commands (lengths start) (range start);
+      named = fit-named (given start) commands (range start) (start .args .schedule .now) (start .pre .named);
     }
 
 same-length : tie.Need-same-length
@@ -138,8 +146,8 @@ returns c =
     let start = entry at in
     let commands = start .args .commands .now in
     let o = setupIn (start .args .state .now) commands in
-    called .perform .ensures o (at .before .before .before .before .before .before .before .before .before .before .before .before .before .before .before .before .before .before .before .before .before .before .before .before .settings-in .ensures commands (fit-count (given start) commands (fit start)))
-    (fit-commands (given start) commands) (fit-capacity (given start) commands (fit start))
+    called .perform .ensures o (at .before .before .before .before .before .before .before .before .before .before .before .before .before .before .before .before .before .before .before .before .before .before .before .before .settings-in .ensures commands (fit-count (given start) commands (lengths start)))
+    (fit-commands (given start) commands) (fit-capacity (given start) commands (lengths start))
     ∙ ap (λ (s : State). listsOf o (steps o (start .args .schedule .now) s)) (read-shows (given start) (read-out at))
 
 pub run-spec : {M : Type 1} → statement M

@@ -4,7 +4,6 @@ use Prim.Native.Nat.{_-_}
 use native.Mathlib.Omega.{arith}
 use mathlib.Core.Path.{sym, _∙_}
 use mathlib.Core.List.{[]}
-use lib.ListN.{length}
 use Rattle.state_bytes.specs.Layout.{lists, stateIn}
 use Rattle.depot.proofs.Chain.{Walked, walk-begins, walk-goes-on, walk-ends, walk-is-cut}
 use Rattle.depot.proofs.report.chain_length.Statement.{statement}

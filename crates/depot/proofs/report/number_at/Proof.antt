@@ -3,7 +3,7 @@ use Prim.Native.Nat.{_+_}
 use native.Mathlib.Omega.{arith}
 use mathlib.Core.Path.{sym}
 use borrow.Author.Needs.{needs}
-use Rattle.depot.proofs.Lines.{two-bytes}
+use Rattle.state_bytes.proofs.Fill.{number-two}
 use Rattle.depot.proofs.report.number_at.Statement.{statement}
 use Rattle.depot.proofs.report.number_at.Tie as tie
 
@@ -31,7 +31,7 @@ add-result-2 c = omega (arith, c .before .shared-slice-known .given (c .before .
 returns : tie.Need-returns
 returns c =
     let a = c .before .before .args in (
-      sym (two-bytes (a .at) (a .bytes .now) (c .before .before .pre)),
+      sym (number-two (a .at) (a .bytes .now) (c .before .before .pre)),
       omega (arith, c .before .shared-slice-known .given (a .at), c .shared-slice-known2 .given (a .at + 1)),
     )
 

@@ -9,7 +9,8 @@ use Rattle.state_bytes.specs.Bytes.{fields}
 use Rattle.depot.specs.Program.{commandLine, commandLines}
 use Rattle.depot.specs.Wrote.{Wrote}
 use Rattle.depot.proofs.Wrote.{wrote-then}
-use Rattle.depot.proofs.Lines.{fields-next, none-wrote}
+use Rattle.state_bytes.proofs.Paste.{fields-more}
+use Rattle.depot.proofs.Lines.{none-wrote}
 use Rattle.depot.proofs.report.put_lines.Statement.{statement}
 use Rattle.depot.proofs.report.put_lines.Tie as tie
 
@@ -65,7 +66,7 @@ loop-again c =
     let l = p .before .before .before .before .before .loop in
     let cut : 16 * l .i + 16 - 16 * l .i ≡ 16 = omega arith in
     let line = rw (add-one, cut) at (p .put-line .ensures .0) in
-    (omega arith, omega arith, omega arith, rw (add-one, fields-next) (wrote-then (omega arith) (l .inv .3) line))
+    (omega arith, omega arith, omega arith, rw (add-one, fields-more) (wrote-then (omega arith) (l .inv .3) line))
 
 same-length : tie.Need-same-length Inv-loop μ-loop
 same-length c = omega arith

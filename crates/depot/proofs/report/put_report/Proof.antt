@@ -1,3 +1,4 @@
+-- `depot::report::put_report` meets its contract: two texts one behind the other. Assumes nothing.
 use native.Mathlib.Omega.{arith}
 use mathlib.Core.Path.{refl}
 use mathlib.Core.List.{[]}
@@ -8,8 +9,6 @@ use Rattle.depot.proofs.Chain.{totals-by-bytes}
 use Rattle.depot.proofs.Wrote.{wrote-then}
 use Rattle.depot.proofs.report.put_report.Statement.{statement}
 use Rattle.depot.proofs.report.put_report.Tie as tie
-
--- `depot::report::put_report` meets its contract: two texts one behind the other. Assumes nothing.
 
 put-lines-requires : tie.Need-put-lines-requires
 put-lines-requires c κs = search needs

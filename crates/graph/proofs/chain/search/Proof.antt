@@ -3,7 +3,6 @@
 use native.Mathlib.Omega.{arith}
 use mathlib.Core.Path.{refl, sym, _∙_}
 use mathlib.Core.Logic.{⊎-elim}
-use lib.ListN.{getD}
 use borrow.Author.Needs.{needs}
 use Rattle.graph.proofs.Steps.{search-ends, search-waits, search-takes, search-steps}
 use Rattle.graph.proofs.chain.search.Statement.{statement}

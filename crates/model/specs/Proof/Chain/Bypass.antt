@@ -1,20 +1,21 @@
 -- A walking worker bypasses its own node and stays standing: the node leaves the chain, and the worker has to take it out of the sets of
 -- those behind it. Whoever would miss the node has passed it. Assumes nothing.
-use Prim.Native.Nat.{ℕ, zero, suc, _+_, _≤_, _<_}
+use Prim.Native.Nat.{ℕ, suc, _≤_, _<_}
 use native.Mathlib.Omega.{arith}
-use mathlib.Core.Path.{_≡_, refl, sym, ap, _∙_, subst}
-use mathlib.Core.Bool.{Bool, true, false, cond}
+use mathlib.Core.Path.{_≡_, refl, sym, ap, _∙_}
+use mathlib.Core.Bool.{Bool, true, false}
 use mathlib.Core.Option.{Option, none, some}
 use mathlib.Core.Logic.{_⊎_, inl, inr, ⊎-elim}
 use lib.ListN.{length}
 use Rattle.node_set.specs.declared.Node.{Node}
 use Rattle.model.specs.declared.Thread.{Thread}
-use Rattle.model.specs.declared.Thread.the-variants.{Idle, Loading, Searching, Holding, LookedUp, Written, Walking, Clearing}
+use Rattle.model.specs.declared.Thread.the-variants.{Walking, Clearing}
 use Rattle.model.specs.Step.{Setup, State, upd, node, bypass, setThread, setNext}
-use Rattle.model.specs.Proof.Upd.{eqb-cases, upd-same, upd-other, upd-at, upd-cases, upd-map}
-use Rattle.model.specs.Proof.Chain.Invariant.{Ghost, Inv, On, Order, FreeList, Standing, Executing, Clears, Loads, Partition, Pending, Waited, Sets, at, loads, executes, walks, clears, done, looked, found}
+use Rattle.model.specs.Proof.Tests.{true-false, none-some, eqb-cases}
+use Rattle.model.specs.Proof.Upd.{upd-same, upd-other, upd-at, upd-cases, upd-map}
+use Rattle.model.specs.Proof.Chain.Invariant.{Ghost, Inv, On, Order, FreeList, Standing, Executing, Clears, Loads, Partition, Pending, Waited, Sets, at, loads, executes, clears, done, looked, found}
 use Rattle.model.specs.Proof.Chain.Ghost.{linking}
-use Rattle.model.specs.Proof.Chain.Kept.{none-some, true-false, kept}
+use Rattle.model.specs.Proof.Chain.Kept.{kept}
 use Rattle.model.specs.Proof.Chain.Moves.{worker-role, walks-moved}
 use Rattle.model.specs.Proof.Chain.Facts.{on-other, on-not-free, same-next, chain-kept}
 

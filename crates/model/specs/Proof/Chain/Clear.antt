@@ -1,18 +1,19 @@
 -- A clearing worker steps on and takes its own node out of the set of the node that it comes to: one set loses one member, and the worker
 -- now stands there. Assumes nothing.
-use Prim.Native.Nat.{ℕ, zero, suc, _+_, _≤_, _<_}
+use Prim.Native.Nat.{ℕ, suc, _≤_, _<_}
 use native.Mathlib.Omega.{arith}
-use mathlib.Core.Path.{_≡_, refl, sym, ap, _∙_, subst}
-use mathlib.Core.Bool.{Bool, true, false, cond}
+use mathlib.Core.Path.{_≡_, refl, sym, ap, _∙_}
+use mathlib.Core.Bool.{Bool, true, false}
 use mathlib.Core.Option.{Option, none, some}
 use mathlib.Core.Logic.{_⊎_, inl, inr, ⊎-elim}
 use Rattle.node_set.specs.declared.Node.{Node}
 use Rattle.model.specs.declared.Thread.{Thread}
-use Rattle.model.specs.declared.Thread.the-variants.{Idle, Loading, Searching, Holding, LookedUp, Written, Walking, Clearing}
+use Rattle.model.specs.declared.Thread.the-variants.{Clearing}
 use Rattle.model.specs.Step.{Setup, State, upd, node, stepOn, setThread, setLocked, setWaits}
-use Rattle.model.specs.Proof.Upd.{eqb-cases, upd-same, upd-other, upd-at, upd-cases, upd-map}
-use Rattle.model.specs.Proof.Chain.Invariant.{Ghost, Inv, On, Clears, Pending, Waited, Sets, at, loads, executes, walks, clears, done, looked, found}
-use Rattle.model.specs.Proof.Chain.Kept.{none-some, true-false, not-true-false, kept, stays}
+use Rattle.model.specs.Proof.Tests.{fails, true-false, none-some}
+use Rattle.model.specs.Proof.Upd.{upd-same, upd-other, upd-at, upd-cases, upd-map}
+use Rattle.model.specs.Proof.Chain.Invariant.{Ghost, Inv, On, Clears, Pending, Waited, Sets, at, loads, executes, clears, done, looked, found}
+use Rattle.model.specs.Proof.Chain.Kept.{kept, stays}
 use Rattle.model.specs.Proof.Chain.StepOn.{stepped, next-alone}
 use Rattle.model.specs.Proof.Chain.Moves.{worker-role, walks-moved}
 use Rattle.model.specs.Proof.Chain.Facts.{on-linked}
@@ -128,8 +129,8 @@ module _ (o : Setup) (s : State) (g : Ghost) (i : Inv o s g) (t : ℕ) (low : 1 
 
   cleared-sets : Sets o (s .seq) (g .linked) (s .executing) waits′ at′ loads₀ clears₀
   cleared-sets = record {
-    unused-empty = λ z m e. not-true-false (waits′ z m) (λ w. true-false (s .waits z m) (fewer z m w) (i .sets .unused-empty z m e));
-    executing-empty = λ z m e. not-true-false (waits′ z m) (λ w. true-false (s .waits z m) (fewer z m w) (i .sets .executing-empty z m e));
+    unused-empty = λ z m e. fails (waits′ z m) (λ w. true-false (s .waits z m) (fewer z m w) (i .sets .unused-empty z m e));
+    executing-empty = λ z m e. fails (waits′ z m) (λ w. true-false (s .waits z m) (fewer z m w) (i .sets .executing-empty z m e));
     linked-sound = λ z m h w. waited-new z m (s .seq z) (s .seq z) (λ e lt. after-y z h (λ q. not-both z m w (q, e)) lt) (i .sets .linked-sound z m h (fewer z m w));
     linked-complete = λ z m h w. waits-same z m (λ q. no-wait (rw (q .0, q .1) at w)) ∙ i .sets .linked-complete z m h (waited-old z m (s .seq z) (s .seq z) w);
     loading-sound = λ u z p m e h w. waited-new z m (suc (s .seq p)) (s .seq p) (λ q lt. loader-moved u z p e h lt) (i .sets .loading-sound u z p m e (loader-still u z e ∙ h) (fewer z m w));

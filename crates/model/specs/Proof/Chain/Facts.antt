@@ -2,21 +2,19 @@
 -- has a command or stands in the chain and the other does not. Assumes nothing.
 use Prim.Native.Nat.{ℕ, zero, suc, _≤_, _<_}
 use native.Mathlib.Omega.{arith}
-use lib.Dec.{leb}
 use lib.ListN.{length}
 use Rattle.command.specs.declared.Command.{Command}
-use borrow.Author.Tests.{leb-true, leb-false}
 use mathlib.Core.Path.{_≡_, refl, sym, ap, _∙_}
 use mathlib.Core.Bool.{Bool, true, false}
 use mathlib.Core.List.{List, [], _∷_}
-use mathlib.Core.Option.{Option, none, some}
+use mathlib.Core.Option.{none, some}
 use mathlib.Core.Logic.{_⊎_, inl, inr, ⊎-elim}
 use Rattle.model.specs.declared.Thread.{Thread}
 use Rattle.model.specs.declared.Thread.the-variants.{Idle, Loading, Searching, Holding, LookedUp, Written, Walking, Clearing}
 use Rattle.model.specs.Step.{Setup, State, upd, commandAt}
+use Rattle.model.specs.Proof.Tests.{fails, true-false, none-some, le-cases}
 use Rattle.model.specs.Proof.Upd.{upd-other}
-use Rattle.model.specs.Proof.Chain.Invariant.{Ghost, Inv, On, In, ChainFrom, Order, Executing, Clears, at, loads, executes, walks, clears, done, looked}
-use Rattle.model.specs.Proof.Chain.Kept.{none-some, true-false, not-true-false}
+use Rattle.model.specs.Proof.Chain.Invariant.{Ghost, Inv, On, In, ChainFrom, Order, at, executes, walks, clears, done, looked}
 
 -- ---- threads
 
@@ -84,7 +82,7 @@ command-place cs (suc i) cmd e = omega arith
 module _ (o : Setup) (s : State) (g : Ghost) (i : Inv o s g) where
   -- a node with no command is not in the chain
   pub unused-out : (x : ℕ) → s .seq x ≡ 0 → g .linked x ≡ false
-  unused-out x e = not-true-false (g .linked x) (λ l. let u = i .order .linked-used x l in absurd (omega arith))
+  unused-out x e = fails (g .linked x) (λ l. let u = i .order .linked-used x l in absurd (omega arith))
 
   -- a node that is executed, walked to, looked up for or cleared has a command
   pub executes-used : (t x : ℕ) → executes (s .threads t) ≡ some x → 1 ≤ s .seq x
@@ -143,14 +141,7 @@ module _ {size loaded count : ℕ} {seq next : ℕ → ℕ} {linked : ℕ → Bo
   pub on-before : (a : ℕ) → On linked a → (next a ≡ 0 → ⊥) → (b : ℕ) → On linked b → seq b < seq (next a) → seq b ≤ seq a
   on-before a on more b =
       ⊎-elim (λ p h. let e = ap seq p in let z = k .head-seq in omega arith)
-      (λ p h. ⊎-elim (λ q. q) (λ q. let r = k .next-first a on more b p q in absurd (omega arith)) (le-or-lt (seq b) (seq a)))
-    where
-      le-or-lt : (m n : ℕ) → (m ≤ n) ⊎ (n < m)
-      le-or-lt m n = go (leb m n) refl
-        where
-          go : (t : Bool) → leb m n ≡ t → (m ≤ n) ⊎ (n < m)
-          go true e = inl (leb-true m n e)
-          go false e = inr (leb-false m n e)
+      (λ p h. ⊎-elim (λ q. q) (λ q. let r = k .next-first a on more b p q in absurd (omega arith)) (le-cases (seq b) (seq a)))
 
   -- two nodes with one next node are one
   pub same-next : (x y : ℕ) → On linked x → On linked y → (next y ≡ 0 → ⊥) → next x ≡ next y → x ≡ y

@@ -1,24 +1,19 @@
 -- Every step of every thread keeps the invariant, and the opening state meets it. Assumes nothing.
-use Prim.Native.Nat.{ℕ, zero, suc, _+_, _≤_, _<_}
+use Prim.Native.Nat.{ℕ, _≤_}
 use native.Mathlib.Omega.{arith}
 use mathlib.Core.Path.{_≡_, refl, sym, ap, _∙_}
-use mathlib.Core.Bool.{Bool, true, false, cond, _&&_, _||_}
+use mathlib.Core.Bool.{Bool, true, false, cond, _||_, and-eq-true-iff}
 use mathlib.Core.List.{List, [], _∷_}
-use mathlib.Core.Option.{Option, none, some}
-use mathlib.Core.Logic.{_⊎_, inl, inr, ⊎-elim}
 use lib.ListN.{length}
 use lib.Dec.{eqb, leb}
 use borrow.Author.Tests.{eqb-true, eqb-false, leb-true, leb-false}
-use Rattle.node_set.specs.declared.Node.{Node}
 use Rattle.model.specs.declared.Thread.{Thread}
 use Rattle.model.specs.declared.Thread.the-variants.{Idle, Loading, Searching, Holding, LookedUp, Written, Walking, Clearing}
 use Rattle.model.specs.Step.{Setup, State, step, steps, loaderStep, workerStep, loaderIdle, loaderWalk, enter, searching, examine, ready, walking, clearing}
 use Rattle.model.specs.Statement.{Accepted, allWithin}
-use Rattle.model.specs.Proof.Commute.{neither}
-use Rattle.model.specs.Proof.Upd.{eqb-cases}
+use Rattle.model.specs.Proof.Tests.{neither}
 use Rattle.model.specs.Proof.Chain.Invariant.{Ghost, Inv}
 use Rattle.model.specs.Proof.Chain.Ghost.{ghostStep, ghostSteps, loaderGhost, workerGhost}
-use Rattle.model.specs.Proof.Chain.Kept.{and-true}
 use Rattle.model.specs.Proof.Chain.Load.{node-loaded}
 use Rattle.model.specs.Proof.Chain.LoaderWalk.{loader-stepped}
 use Rattle.model.specs.Proof.Chain.Link.{node-linked}
@@ -93,5 +88,5 @@ pub steps-keep : (o : Setup) → Accepted o → (ts : List ℕ) → allWithin (o
 unfolding steps ghostSteps allWithin
 steps-keep o acc [] w s g i = i
 steps-keep o acc (t ∷ ts) w s g i =
-    let k = and-true (leb t (o .workers)) (allWithin (o .workers) ts) w in
+    let k = and-eq-true-iff (leb t (o .workers)) (allWithin (o .workers) ts) .0 w in
     steps-keep o acc ts (k .1) (step o t s) (ghostStep o t s g) (keeps o acc t (leb-true t (o .workers) (k .0)) s g i)

@@ -1,39 +1,18 @@
 -- What a step keeps: a thread's new state changes only what it says anew, and a group of clauses that speaks of where threads stand goes
 -- on holding when a thread moves that it does not speak of. Assumes nothing.
-use Prim.Native.Nat.{ℕ, suc, _≤_, _<_}
-use native.Mathlib.Omega.{arith}
-use mathlib.Core.Path.{_≡_, refl, sym, ap, _∙_}
-use mathlib.Core.Bool.{Bool, true, false, _&&_}
+use Prim.Native.Nat.{ℕ, suc}
+use mathlib.Core.Path.{_≡_, sym, ap, _∙_}
+use mathlib.Core.Bool.{Bool}
 use mathlib.Core.Option.{Option, none, some}
 use mathlib.Core.Logic.{_⊎_, inl, inr, ⊎-elim}
-use Rattle.model.specs.declared.Thread.{Thread}
 use Rattle.model.specs.Step.{Setup, upd}
-use Rattle.model.specs.Proof.Upd.{upd-same, upd-other, upd-at, upd-cases, upd-map, upd-id}
-use Rattle.model.specs.Proof.Chain.Invariant.{Pending, Waited, Sets, Clears, Walks}
+use Rattle.model.specs.Proof.Tests.{none-some}
+use Rattle.model.specs.Proof.Upd.{upd-cases, upd-map, upd-id}
+use Rattle.model.specs.Proof.Chain.Invariant.{Pending, Waited, Sets, Clears}
 
 -- a projection that the new state of thread t leaves as it was is the same for every thread
 pub kept : {A B : Type 0} (p : A → B) (f : ℕ → A) (t : ℕ) (v : A) → p v ≡ p (f t) → _≡_ {A = ℕ → B} (λ (u : ℕ). p (upd f t v u)) (λ (u : ℕ). p (f u))
 kept p f t v e = upd-map p f t v ∙ upd-id (λ (u : ℕ). p (f u)) t (p v) e
-
--- no value is both none and some
-pub none-some : {A : Type 0} {x : A} (a : Option A) → a ≡ none → a ≡ some x → ⊥
-none-some a p q = let z : _≡_ {A = ℕ} 0 1 = cc in absurd (omega arith)
-
-pub true-false : (b : Bool) → b ≡ true → b ≡ false → ⊥
-true-false b p q = let z : _≡_ {A = ℕ} 0 1 = cc in absurd (omega arith)
-
-pub and-true : (a b : Bool) → (a && b) ≡ true → (a ≡ true) × (b ≡ true)
-and-true true b e = (refl, e)
-and-true false b e = absurd (true-false false e refl)
-
--- a Bool is one or the other
-pub bool-cases : (b : Bool) → (b ≡ true) ⊎ (b ≡ false)
-bool-cases true = inl refl
-bool-cases false = inr refl
-
--- what cannot be true is false
-pub not-true-false : (b : Bool) → (b ≡ true → ⊥) → b ≡ false
-not-true-false b h = ⊎-elim (λ e. absurd (h e)) (λ e. e) (bool-cases b)
 
 -- at two functions that agree on the threads that clear, the same nodes are pending
 module _ (o : Setup) (seq : ℕ → ℕ) (linked : ℕ → Bool) (clears at at′ : ℕ → Option ℕ)

@@ -1,20 +1,20 @@
 -- The loader links the new node at the end: every node of the chain lies at or before the loader, so the set that it gathered is the set
 -- of a node of the chain. Assumes nothing.
-use Prim.Native.Nat.{ℕ, zero, suc, _+_, _≤_, _<_}
+use Prim.Native.Nat.{ℕ, suc, _≤_, _<_}
 use native.Mathlib.Omega.{arith}
-use mathlib.Core.Path.{_≡_, refl, sym, ap, _∙_, subst}
-use mathlib.Core.Bool.{Bool, true, false, cond}
+use mathlib.Core.Path.{_≡_, refl, sym, ap, _∙_}
+use mathlib.Core.Bool.{Bool, true, false}
 use mathlib.Core.Option.{Option, none, some}
 use mathlib.Core.Logic.{_⊎_, inl, inr, ⊎-elim}
 use lib.ListN.{length}
 use Rattle.node_set.specs.declared.Node.{Node}
-use Rattle.model.specs.declared.Thread.{Thread}
-use Rattle.model.specs.declared.Thread.the-variants.{Idle, Loading, Searching, Holding, LookedUp, Written, Walking, Clearing}
-use Rattle.model.specs.Step.{Setup, State, upd, node, link, setThread, setLocked, setNext, setExecuting}
-use Rattle.model.specs.Proof.Upd.{eqb-cases, upd-same, upd-other, upd-at, upd-cases, upd-map, upd-id}
-use Rattle.model.specs.Proof.Chain.Invariant.{Ghost, Inv, On, In, Order, FreeList, Standing, Executing, Clears, Loads, Partition, Pending, Waited, Sets, at, loads, executes, walks, clears, done, looked, found}
+use Rattle.model.specs.declared.Thread.the-variants.{Idle, Loading}
+use Rattle.model.specs.Step.{Setup, State, upd, link, setThread, setLocked, setNext, setExecuting}
+use Rattle.model.specs.Proof.Tests.{true-false, none-some}
+use Rattle.model.specs.Proof.Upd.{upd-same, upd-other, upd-at, upd-cases, upd-map, upd-id}
+use Rattle.model.specs.Proof.Chain.Invariant.{Ghost, Inv, On, Order, FreeList, Standing, Executing, Clears, Loads, Partition, Pending, Waited, Sets, at, loads, executes, clears, done, looked, found}
 use Rattle.model.specs.Proof.Chain.Ghost.{linking}
-use Rattle.model.specs.Proof.Chain.Kept.{none-some, true-false, not-true-false, bool-cases, kept, stays, clears-kept}
+use Rattle.model.specs.Proof.Chain.Kept.{kept, stays}
 use Rattle.model.specs.Proof.Chain.Stand.{left}
 use Rattle.model.specs.Proof.Chain.Moves.{loader-role, walks-moved}
 use Rattle.model.specs.Proof.Chain.Facts.{on-distinct, on-linked, on-other, on-not-free, chain-kept}

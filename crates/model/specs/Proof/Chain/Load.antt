@@ -1,21 +1,21 @@
 -- The loader takes the first free node for the next command, locks the head and stands there: the invariant is kept. Nothing in the chain
 -- is at or before the head, so the new node's set is rightly empty. Assumes nothing.
-use Prim.Native.Nat.{ℕ, zero, suc, _+_, _≤_, _<_}
+use Prim.Native.Nat.{ℕ, suc, _+_, _≤_, _<_}
 use native.Mathlib.Omega.{arith}
-use mathlib.Core.Path.{_≡_, refl, sym, ap, _∙_, subst}
-use mathlib.Core.Bool.{Bool, true, false}
+use mathlib.Core.Path.{_≡_, refl, sym, ap, _∙_}
+use mathlib.Core.Bool.{true, false}
 use mathlib.Core.List.{List, [], _∷_}
 use mathlib.Core.Option.{Option, none, some}
 use mathlib.Core.Logic.{_⊎_, inl, inr, ⊎-elim}
 use lib.ListN.{length}
-use Rattle.node_set.specs.declared.Node.{Node}
 use Rattle.model.specs.declared.Thread.{Thread}
-use Rattle.model.specs.declared.Thread.the-variants.{Idle, Loading, Searching, Holding, LookedUp, Written, Walking, Clearing}
+use Rattle.model.specs.declared.Thread.the-variants.{Idle, Loading}
 use Rattle.model.specs.Step.{Setup, State, upd, node, load, setThread, setLocked, setLoaded, setSeq, setNext, setFree}
-use Rattle.model.specs.Proof.Upd.{eqb-cases, upd-same, upd-other, upd-at, upd-cases, upd-map}
-use Rattle.model.specs.Proof.Chain.Invariant.{Ghost, Inv, On, In, NoRepeat, ChainFrom, Order, FreeList, Standing, Executing, Walks, Clears, Loads, Partition, Pending, Waited, Sets, Progress, Service, at, loads, executes, walks, clears, done, looked, found}
+use Rattle.model.specs.Proof.Tests.{fails, true-false, none-some, eqb-cases}
+use Rattle.model.specs.Proof.Upd.{upd-same, upd-other, upd-at, upd-cases, upd-map}
+use Rattle.model.specs.Proof.Chain.Invariant.{Ghost, Inv, On, In, NoRepeat, ChainFrom, Order, FreeList, Executing, Walks, Clears, Loads, Partition, Pending, Waited, Sets, Progress, Service, at, loads, executes, walks, clears, done, looked, found}
 use Rattle.model.specs.Proof.Chain.Ghost.{tail, taken}
-use Rattle.model.specs.Proof.Chain.Kept.{none-some, true-false, not-true-false, kept, stays}
+use Rattle.model.specs.Proof.Chain.Kept.{kept, stays}
 use Rattle.model.specs.Proof.Chain.Stand.{entered}
 use Rattle.model.specs.Proof.Chain.Moves.{loader-role, walks-moved}
 use Rattle.model.specs.Proof.Chain.Facts.{looked-own, walks-own, unused-out, executes-used, done-used, last-kept, next-linked-kept, next-later-kept, next-first-kept, chain-kept}
@@ -149,7 +149,7 @@ module _ (o : Setup) (s : State) (g : Ghost) (i : Inv o s g) (here : s .threads 
     newest = λ u x e. upd-at (s .seq) f q x (only u x e .1);
     used = λ u x e. let h = upd-at (s .seq) f q x (only u x e .1) in omega arith;
     out = λ u x e. rw (only u x e .1) f-out;
-    waiting = λ u x e. rw (only u x e .1) (not-true-false (s .executing f) (λ k. let w = i .executing .used f k in let z = free-node .2 in omega arith));
+    waiting = λ u x e. rw (only u x e .1) (fails (s .executing f) (λ k. let w = i .executing .used f k in let z = free-node .2 in omega arith));
     ends = λ u x e. upd-at (s .next) f 0 x (only u x e .1);
   }
 
@@ -211,7 +211,7 @@ module _ (o : Setup) (s : State) (g : Ghost) (i : Inv o s g) (here : s .threads 
     written-done = λ c w. ⊎-elim inl (λ k. inr (k .0, k .1, k .2, same (k .1) (done-used o s g i (k .0) (k .1) (k .2)) ∙ k .3)) (i .progress .written-done c w);
     removed-written = i .progress .removed-written;
     removed-loaded = λ c r. let k = i .progress .removed-loaded c r in omega arith;
-    removed-gone = λ x u. ⊎-elim (λ h. rw (h .1) (not-true-false (g .removed q) (λ r. let k = i .progress .removed-loaded q r in omega arith))) (λ h. rw (h .1) (i .progress .removed-gone x (rw (h .1) at u))) (upd-cases (s .seq) f q x);
+    removed-gone = λ x u. ⊎-elim (λ h. rw (h .1) (fails (g .removed q) (λ r. let k = i .progress .removed-loaded q r in omega arith))) (λ h. rw (h .1) (i .progress .removed-gone x (rw (h .1) at u))) (upd-cases (s .seq) f q x);
     accounted = λ c a b. ⊎-elim (λ h. inr (f, upd-same (s .seq) f q ∙ sym (h .0))) (λ h. let n = h .0 in ⊎-elim inl (λ k. let e = k .1 in inr (k .0, same (k .0) (omega arith) ∙ e)) (i .progress .accounted c a (omega (arith, n)))) (eqb-cases c q);
   }
 

@@ -1,18 +1,19 @@
 -- The loader steps on and adds the node to the new node's set if the commands are dependent: exactly that node is new at or before the
 -- loader, so the set is right again. Assumes nothing.
-use Prim.Native.Nat.{ℕ, zero, suc, _+_, _≤_, _<_}
+use Prim.Native.Nat.{ℕ, suc, _<_}
 use native.Mathlib.Omega.{arith}
-use mathlib.Core.Path.{_≡_, refl, sym, ap, _∙_, subst}
+use mathlib.Core.Path.{_≡_, refl, sym, ap, _∙_}
 use mathlib.Core.Bool.{Bool, true, false, cond}
 use mathlib.Core.Option.{Option, none, some}
 use mathlib.Core.Logic.{_⊎_, inl, inr, ⊎-elim}
 use Rattle.node_set.specs.declared.Node.{Node}
 use Rattle.model.specs.declared.Thread.{Thread}
-use Rattle.model.specs.declared.Thread.the-variants.{Idle, Loading, Searching, Holding, LookedUp, Written, Walking, Clearing}
+use Rattle.model.specs.declared.Thread.the-variants.{Loading}
 use Rattle.model.specs.Step.{Setup, State, upd, node, stepOn, addDependence, bothDependent, commandAt, commandOf, setThread, setLocked, setWaits}
-use Rattle.model.specs.Proof.Upd.{eqb-cases, upd-same, upd-other, upd-at, upd-cases, upd-map}
-use Rattle.model.specs.Proof.Chain.Invariant.{Ghost, Inv, On, Pending, Waited, Sets, at, loads, executes, walks, clears, done, looked, found}
-use Rattle.model.specs.Proof.Chain.Kept.{none-some, true-false, not-true-false, bool-cases, kept, stays, clears-kept, waited-kept}
+use Rattle.model.specs.Proof.Tests.{fails, true-false, none-some, eqb-cases}
+use Rattle.model.specs.Proof.Upd.{upd-same, upd-other, upd-at, upd-map}
+use Rattle.model.specs.Proof.Chain.Invariant.{Ghost, Inv, On, Pending, Waited, Sets, at, loads, executes, clears, done, looked, found}
+use Rattle.model.specs.Proof.Chain.Kept.{kept, stays, clears-kept, waited-kept}
 use Rattle.model.specs.Proof.Chain.StepOn.{stepped}
 use Rattle.model.specs.Proof.Chain.Moves.{loader-role, walks-moved}
 use Rattle.model.specs.Proof.Chain.Facts.{on-distinct, on-linked, on-before}
@@ -173,4 +174,4 @@ module _ (o : Setup) (s : State) (g : Ghost) (i : Inv o s g) (a x : Node) (here 
           (λ n h. ap (λ (f : ℕ → Bool). f n) (upd-same (s .waits) (x .0) (upd (s .waits (x .0)) y true)) ∙ upd-other (s .waits (x .0)) y true n h)
           (ap (λ (f : ℕ → Bool). f y) (upd-same (s .waits) (x .0) (upd (s .waits (x .0)) y true)) ∙ (upd-same (s .waits (x .0)) y true ∙ sym e))
       go false e = walked (s .waits) (λ z n h. refl) (λ n h. refl)
-          (not-true-false (s .waits (x .0) y) (λ w. let h = i .sets .loading-sound 0 (x .0) (a .0) y (ap loads here) (ap at here) w .earlier in let l = later in omega arith) ∙ sym e)
+          (fails (s .waits (x .0) y) (λ w. let h = i .sets .loading-sound 0 (x .0) (a .0) y (ap loads here) (ap at here) w .earlier in let l = later in omega arith) ∙ sym e)

@@ -1,16 +1,16 @@
 -- A worker looks up the store: only what it found is new. Assumes nothing.
 use Prim.Native.Nat.{ℕ, _≤_}
 use mathlib.Core.Path.{_≡_, refl, sym, ap, _∙_}
-use mathlib.Core.Bool.{Bool, true, false}
-use mathlib.Core.Option.{Option, none, some}
-use mathlib.Core.Logic.{_⊎_, inl, inr, ⊎-elim}
+use mathlib.Core.Option.{none, some}
+use mathlib.Core.Logic.{_⊎_, ⊎-elim}
 use Rattle.node_set.specs.declared.Node.{Node}
 use Rattle.model.specs.declared.Thread.{Thread}
 use Rattle.model.specs.declared.Thread.the-variants.{Holding, LookedUp}
 use Rattle.model.specs.Step.{Setup, State, upd, node, foundFor, commandOf, commandAt, holding, setThread}
+use Rattle.model.specs.Proof.Tests.{none-some}
 use Rattle.model.specs.Proof.Upd.{upd-cases}
-use Rattle.model.specs.Proof.Chain.Invariant.{Ghost, Inv, Service, at, loads, executes, walks, clears, done, looked, found}
-use Rattle.model.specs.Proof.Chain.Kept.{none-some, kept}
+use Rattle.model.specs.Proof.Chain.Invariant.{Ghost, Inv, Service, at, loads, executes, clears, done, looked, found}
+use Rattle.model.specs.Proof.Chain.Kept.{kept}
 use Rattle.model.specs.Proof.Chain.Moves.{worker-role, walks-moved}
 
 module _ (o : Setup) (s : State) (g : Ghost) (i : Inv o s g) (t : ℕ) (low : 1 ≤ t) (high : t ≤ o .workers) (x : Node) (here : s .threads t ≡ Holding x) where

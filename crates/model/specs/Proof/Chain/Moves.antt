@@ -1,14 +1,14 @@
 -- A worker's move that neither loads nor clears nor changes what it executes: it keeps the invariant as soon as the threads stand right.
 -- Assumes nothing.
-use Prim.Native.Nat.{ℕ, suc, _≤_, _<_}
+use Prim.Native.Nat.{ℕ, _≤_, _<_}
 use native.Mathlib.Omega.{arith}
-use mathlib.Core.Path.{_≡_, refl, sym, ap, _∙_, subst}
-use mathlib.Core.Bool.{Bool, true, false}
-use mathlib.Core.Option.{Option, none, some}
-use mathlib.Core.Logic.{_⊎_, inl, inr, ⊎-elim}
+use mathlib.Core.Path.{_≡_, sym, ap, _∙_}
+use mathlib.Core.Bool.{Bool, true}
+use mathlib.Core.Option.{none, some}
+use mathlib.Core.Logic.{_⊎_, ⊎-elim}
 use Rattle.model.specs.declared.Thread.{Thread}
 use Rattle.model.specs.Step.{Setup, State, upd}
-use Rattle.model.specs.Proof.Upd.{upd-same, upd-other, upd-at, upd-cases, upd-map}
+use Rattle.model.specs.Proof.Upd.{upd-same, upd-other, upd-cases, upd-map}
 use Rattle.model.specs.Proof.Chain.Invariant.{Ghost, Inv, Standing, Walks, Roles, at, loads, executes, walks, clears, done, looked, found, isLoader, isWorker}
 use Rattle.model.specs.Proof.Chain.Kept.{kept, sets-kept, clears-kept, stays}
 

@@ -3,20 +3,17 @@ use Prim.Native.Nat.{ℕ, zero, suc, _+_, _≤_, _<_}
 use native.Mathlib.Omega.{arith}
 use native.Mathlib.Numerals.{add-one}
 use mathlib.Core.Path.{_≡_, refl, sym, ap, _∙_}
-use mathlib.Core.Bool.{Bool, true, false, cond, _&&_}
+use mathlib.Core.Bool.{true, false}
 use mathlib.Core.List.{List, [], _∷_}
-use mathlib.Core.Option.{Option, none, some}
+use mathlib.Core.Option.{none, some}
 use mathlib.Core.Logic.{_⊎_, inl, inr, ⊎-elim}
-use lib.ListN.{length}
-use lib.Dec.{eqb, leb, ltb}
-use borrow.Author.Tests.{le-leb, lt-ltb, le-ltb, ne-eqb}
-use Rattle.model.specs.declared.Thread.the-variants.{Idle}
+use borrow.Author.Tests.{le-leb, lt-ltb, le-ltb}
 use Rattle.model.specs.Store.{layOut}
-use Rattle.model.specs.Step.{Setup, State, opened, firstNext, noNode}
+use Rattle.model.specs.Step.{Setup, opened, firstNext, noNode}
 use Rattle.model.specs.Statement.{Accepted}
-use Rattle.model.specs.Proof.Service.{entriesOf, entries-none}
-use Rattle.model.specs.Proof.Chain.Invariant.{Ghost, Inv, In, NoRepeat, ChainFrom, at, loads, executes, walks, clears, done, looked, found}
-use Rattle.model.specs.Proof.Chain.Kept.{none-some, true-false}
+use Rattle.model.specs.Proof.Tests.{true-false, none-some, eqb-cases}
+use Rattle.model.specs.Proof.Service.{entries-none}
+use Rattle.model.specs.Proof.Chain.Invariant.{Ghost, Inv, In, NoRepeat, ChainFrom, at}
 
 -- the k numbers from a on
 unfoldable pub countFrom : ℕ → ℕ → List ℕ
@@ -31,10 +28,7 @@ in-bounds x a (suc k) h = ⊎-elim (λ e. omega arith) (λ r. let b = in-bounds 
 bounds-in : (x a k : ℕ) → a ≤ x → x < a + k → In x (countFrom a k)
 unfolding countFrom
 bounds-in x a zero l h = absurd (omega arith)
-bounds-in x a (suc k) l h = ⊎-elim (λ e. inl e) (λ n. inr (bounds-in x (suc a) k (omega (arith, n)) (omega arith))) (same-or-not x a)
-  where
-    same-or-not : (x a : ℕ) → (x ≡ a) ⊎ (x ≡ a → ⊥)
-    same-or-not x a = ⊎-elim (λ h. inl (h .0)) (λ h. inr (h .0)) (Rattle.model.specs.Proof.Upd.eqb-cases x a)
+bounds-in x a (suc k) l h = ⊎-elim (λ e. inl (e .0)) (λ n. inr (bounds-in x (suc a) k (omega (arith, n .0)) (omega arith))) (eqb-cases x a)
 
 counts-once : (a k : ℕ) → NoRepeat (countFrom a k)
 unfolding countFrom

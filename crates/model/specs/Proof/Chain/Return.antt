@@ -1,21 +1,21 @@
 -- A clearing worker at the end of the chain returns its own node to the free list: no node of the chain lies behind the worker, so the node
 -- is in no set, and its number can serve again. Assumes nothing.
-use Prim.Native.Nat.{ℕ, zero, suc, _+_, _≤_, _<_}
+use Prim.Native.Nat.{ℕ, suc, _≤_, _<_}
 use native.Mathlib.Omega.{arith}
-use mathlib.Core.Path.{_≡_, refl, sym, ap, _∙_, subst, fun-ext}
-use mathlib.Core.Bool.{Bool, true, false, cond}
-use mathlib.Core.List.{List, [], _∷_}
+use mathlib.Core.Path.{_≡_, refl, sym, ap, _∙_, fun-ext}
+use mathlib.Core.Bool.{Bool, true, false}
+use mathlib.Core.List.{_∷_}
 use mathlib.Core.Option.{Option, none, some}
 use mathlib.Core.Logic.{_⊎_, inl, inr, ⊎-elim}
 use lib.ListN.{length}
 use Rattle.node_set.specs.declared.Node.{Node}
-use Rattle.model.specs.declared.Thread.{Thread}
-use Rattle.model.specs.declared.Thread.the-variants.{Idle, Loading, Searching, Holding, LookedUp, Written, Walking, Clearing}
-use Rattle.model.specs.Step.{Setup, State, upd, node, noNode, return, leave, setThread, setLocked, setWaits, setExecuting, setSeq, setNext, setFree}
-use Rattle.model.specs.Proof.Upd.{eqb-cases, upd-same, upd-other, upd-at, upd-cases, upd-map, upd-id}
+use Rattle.model.specs.declared.Thread.the-variants.{Idle, Clearing}
+use Rattle.model.specs.Step.{Setup, State, upd, noNode, return, leave, setThread, setLocked, setWaits, setExecuting, setSeq, setNext, setFree}
+use Rattle.model.specs.Proof.Tests.{fails, true-false, none-some, eqb-cases}
+use Rattle.model.specs.Proof.Upd.{upd-same, upd-other, upd-at, upd-cases, upd-map, upd-id}
 use Rattle.model.specs.Proof.Chain.Invariant.{Ghost, Inv, On, In, Order, FreeList, Executing, Walks, Clears, Loads, Partition, Pending, Waited, Sets, Progress, Service, at, loads, executes, walks, clears, done, looked, found}
 use Rattle.model.specs.Proof.Chain.Ghost.{returning}
-use Rattle.model.specs.Proof.Chain.Kept.{none-some, true-false, not-true-false, kept, stays}
+use Rattle.model.specs.Proof.Chain.Kept.{kept, stays}
 use Rattle.model.specs.Proof.Chain.Stand.{left}
 use Rattle.model.specs.Proof.Chain.Moves.{worker-role, walks-moved}
 use Rattle.model.specs.Proof.Chain.Facts.{done-own, looked-own, walks-own, on-other, on-linked, last-kept, next-linked-kept, next-later-kept, next-first-kept, chain-kept}
@@ -270,7 +270,7 @@ module _ (o : Setup) (s : State) (g : Ghost) (i : Inv o s g) (t : ℕ) (low : 1 
 
   -- the node was unlocked, and its set empty, already
   unlocked : false ≡ upd (s .locked) l false n
-  unlocked = sym (not-true-false (upd (s .locked) l false n) (λ h. let k = left (i .standing) t l (ap at here) in let w = k .held n h in on-differs n (k .on (w .0) n (w .1)) refl))
+  unlocked = sym (fails (upd (s .locked) l false n) (λ h. let k = left (i .standing) t l (ap at here) in let w = k .held n h in on-differs n (k .on (w .0) n (w .1)) refl))
 
   no-waits : noNode ≡ s .waits n
   unfolding noNode

@@ -1,14 +1,13 @@
 -- Entering at the head and leaving a node: the threads stand right again. Assumes nothing.
-use Prim.Native.Nat.{ℕ, suc, _≤_, _<_}
-use native.Mathlib.Omega.{arith}
-use mathlib.Core.Path.{_≡_, refl, sym, ap, _∙_}
+use Prim.Native.Nat.{ℕ}
+use mathlib.Core.Path.{_≡_, sym, ap, _∙_}
 use mathlib.Core.Bool.{Bool, true, false}
 use mathlib.Core.Option.{Option, none, some}
-use mathlib.Core.Logic.{_⊎_, inl, inr, ⊎-elim}
+use mathlib.Core.Logic.{_⊎_, inl, ⊎-elim}
 use Rattle.model.specs.Step.{upd}
+use Rattle.model.specs.Proof.Tests.{true-false, none-some}
 use Rattle.model.specs.Proof.Upd.{upd-same, upd-other, upd-at, upd-cases}
 use Rattle.model.specs.Proof.Chain.Invariant.{On, Standing}
-use Rattle.model.specs.Proof.Chain.Kept.{none-some, true-false}
 
 module _ {linked locked : ℕ → Bool} {at : ℕ → Option ℕ} (k : Standing linked locked at) (t : ℕ) where
   -- a thread that stands nowhere locks the head, which is not locked

@@ -1,15 +1,14 @@
 -- Stepping on: a thread that stands on a node locks the next one and unlocks the old. The loader, the searcher, the walker and the
 -- clearer share it. Assumes nothing.
-use Prim.Native.Nat.{ℕ, suc, _≤_, _<_}
-use native.Mathlib.Omega.{arith}
-use mathlib.Core.Path.{_≡_, refl, sym, ap, _∙_}
+use Prim.Native.Nat.{ℕ}
+use mathlib.Core.Path.{_≡_, sym, ap, _∙_}
 use mathlib.Core.Bool.{Bool, true, false}
-use mathlib.Core.Option.{Option, none, some}
-use mathlib.Core.Logic.{_⊎_, inl, inr, ⊎-elim}
+use mathlib.Core.Option.{Option, some}
+use mathlib.Core.Logic.{_⊎_, inr, ⊎-elim}
 use Rattle.model.specs.Step.{upd}
+use Rattle.model.specs.Proof.Tests.{true-false}
 use Rattle.model.specs.Proof.Upd.{upd-same, upd-other, upd-at, upd-cases}
 use Rattle.model.specs.Proof.Chain.Invariant.{On, Order, Standing}
-use Rattle.model.specs.Proof.Chain.Kept.{true-false}
 
 module _ {size loaded count : ℕ} {seq next : ℕ → ℕ} {linked locked : ℕ → Bool} {at : ℕ → Option ℕ}
     (order : Order size loaded count seq linked next) (standing : Standing linked locked at) (t a : ℕ) (here : at t ≡ some a)

@@ -1,31 +1,25 @@
 -- A searcher takes a ready node: it steps on, marks the node executing, unlocks it and holds it. Assumes nothing.
-use Prim.Native.Nat.{ℕ, zero, suc, _≤_, _<_}
+use Prim.Native.Nat.{ℕ, _≤_}
 use native.Mathlib.Omega.{arith}
 use borrow.Author.Tests.{not-true}
-use mathlib.Core.Path.{_≡_, refl, sym, ap, _∙_, subst}
-use mathlib.Core.Bool.{Bool, true, false, not, _&&_}
-use mathlib.Core.Option.{Option, none, some}
-use mathlib.Core.Logic.{_⊎_, inl, inr, ⊎-elim}
+use mathlib.Core.Path.{_≡_, refl, sym, ap, _∙_}
+use mathlib.Core.Bool.{true, false, not, and-eq-true-iff}
+use mathlib.Core.Option.{none, some}
+use mathlib.Core.Logic.{_⊎_, ⊎-elim}
 use Rattle.node_set.specs.declared.Node.{Node}
 use Rattle.node_set.specs.Members.{noneBelow}
 use Rattle.model.specs.declared.Thread.{Thread}
-use Rattle.model.specs.declared.Thread.the-variants.{Idle, Loading, Searching, Holding, LookedUp, Written, Walking, Clearing}
+use Rattle.model.specs.declared.Thread.the-variants.{Searching, Holding}
 use Rattle.model.specs.Step.{Setup, State, upd, node, ready, stepOn, setThread, setLocked, setExecuting}
 use Rattle.model.specs.Statement.{Accepted}
-use Rattle.model.specs.Proof.Upd.{eqb-cases, upd-same, upd-other, upd-at, upd-cases, upd-map, upd-upd}
-use Rattle.model.specs.Proof.Chain.Invariant.{Ghost, Inv, Standing, Executing, Clears, Loads, Sets, Waited, Walks, Roles, at, loads, executes, walks, clears, done, looked, found, isLoader, isWorker}
-use Rattle.model.specs.Proof.Chain.Kept.{none-some, true-false, and-true, not-true-false, kept, sets-kept, clears-kept, stays}
-use Rattle.model.specs.Proof.Chain.StepOn.{stepped, next-other}
+use Rattle.model.specs.Proof.Tests.{fails, true-false, none-some}
+use Rattle.model.specs.Proof.Upd.{upd-same, upd-other, upd-at, upd-cases, upd-map, upd-upd}
+use Rattle.model.specs.Proof.Chain.Invariant.{Ghost, Inv, Standing, Executing, Clears, Loads, Sets, at, loads, executes, clears, done, looked, found}
+use Rattle.model.specs.Proof.Chain.Kept.{kept, sets-kept, clears-kept, stays}
+use Rattle.model.specs.Proof.Chain.StepOn.{stepped}
 use Rattle.model.specs.Proof.Chain.Stand.{left}
 use Rattle.model.specs.Proof.Chain.Moves.{worker-role, walks-moved}
-
--- a test that no number below k passes fails at each
-pub none-below : (k : ℕ) (f : ℕ → Bool) → noneBelow k f ≡ true → (n : ℕ) → n < k → f n ≡ false
-unfolding noneBelow
-none-below zero f e n h = absurd (omega arith)
-none-below (suc k) f e n h =
-    let b = and-true (not (f k)) (noneBelow k f) e in
-    ⊎-elim (λ q. ap f (q .0) ∙ not-true (f k) (b .0)) (λ q. let ne = q .0 in none-below k f (b .1) n (omega (arith, ne))) (eqb-cases n k)
+use Rattle.node_set.proofs.Below.{none-below-all-fail}
 
 module _ (o : Setup) (acc : Accepted o) (s : State) (g : Ghost) (i : Inv o s g) (t : ℕ) (low : 1 ≤ t) (high : t ≤ o .workers)
     (a : Node) (here : s .threads t ≡ Searching a) (more : s .next (a .0) ≡ 0 → ⊥) (unlocked : s .locked (s .next (a .0)) ≡ false)
@@ -38,16 +32,16 @@ module _ (o : Setup) (acc : Accepted o) (s : State) (g : Ghost) (i : Inv o s g) 
 
   waiting-y : s .executing y ≡ false
   unfolding ready
-  waiting-y = not-true (s .executing y) (and-true (not (s .executing y)) (noneBelow 192 (s .waits y)) is-ready .0)
+  waiting-y = not-true (s .executing y) (and-eq-true-iff (not (s .executing y)) (noneBelow 192 (s .waits y)) .0 is-ready .0)
 
   -- a member of the set would be a node of at most the graph size, and none of these is a member
   empty-y : (n : ℕ) → s .waits y n ≡ false
   unfolding ready
   empty-y n =
-      not-true-false (s .waits y n) (λ e.
+      fails (s .waits y n) (λ e.
       let small = i .order .used-size n (i .sets .linked-sound y n linked-y e .used) in
       let size = acc .size .1 in
-      true-false (s .waits y n) e (none-below 192 (s .waits y) (and-true (not (s .executing y)) (noneBelow 192 (s .waits y)) is-ready .1) n (omega arith)))
+      true-false (s .waits y n) e (none-below-all-fail 192 (s .waits y) (and-eq-true-iff (not (s .executing y)) (noneBelow 192 (s .waits y)) .0 is-ready .1) n (omega arith)))
 
   taken-standing : Standing (g .linked) (upd (upd (upd (s .locked) y true) (a .0) false) y false) (upd (λ u. at (s .threads u)) t none)
   taken-standing = rw upd-upd at (left (stepped (i .order) (i .standing) t (a .0) (ap at here) more unlocked) t y (upd-same (λ u. at (s .threads u)) t (some y)))

@@ -1,17 +1,13 @@
 -- A written worker enters at the head and steps on towards its own node: the invariant is kept. Assumes nothing.
-use Prim.Native.Nat.{ℕ, suc, _≤_, _<_}
+use Prim.Native.Nat.{ℕ, _≤_, _<_}
 use native.Mathlib.Omega.{arith}
-use mathlib.Core.Path.{_≡_, refl, sym, ap, _∙_, subst}
-use mathlib.Core.Bool.{Bool, true, false}
-use mathlib.Core.Option.{Option, none, some}
-use mathlib.Core.Logic.{_⊎_, inl, inr, ⊎-elim}
+use mathlib.Core.Path.{_≡_, refl, sym, ap}
+use mathlib.Core.Bool.{true, false}
+use mathlib.Core.Option.{some}
 use Rattle.node_set.specs.declared.Node.{Node}
-use Rattle.model.specs.declared.Thread.{Thread}
-use Rattle.model.specs.declared.Thread.the-variants.{Idle, Loading, Searching, Holding, LookedUp, Written, Walking, Clearing}
+use Rattle.model.specs.declared.Thread.the-variants.{Written, Walking}
 use Rattle.model.specs.Step.{Setup, State, upd, node, stepOn, setThread, setLocked}
-use Rattle.model.specs.Proof.Upd.{upd-same, upd-other, upd-at, upd-cases, upd-map}
-use Rattle.model.specs.Proof.Chain.Invariant.{Ghost, Inv, Standing, Walks, Roles, at, loads, executes, walks, clears, done, looked, found, isLoader, isWorker}
-use Rattle.model.specs.Proof.Chain.Kept.{none-some}
+use Rattle.model.specs.Proof.Chain.Invariant.{Ghost, Inv, at, loads, executes, walks, clears, done, looked, found}
 use Rattle.model.specs.Proof.Chain.StepOn.{stepped}
 use Rattle.model.specs.Proof.Chain.Stand.{entered}
 use Rattle.model.specs.Proof.Chain.Moves.{worker-role, quiet-move}

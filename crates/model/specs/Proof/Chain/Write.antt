@@ -1,31 +1,31 @@
 -- A worker writes store and answer: an executing node waits for nobody, so every earlier command that its own depends on is answered, and
 -- part T says that the answer is the serial run's and the store what the answered commands give. Assumes nothing.
-use Prim.Native.Nat.{ℕ, zero, suc, _+_, _≤_, _<_}
+use Prim.Native.Nat.{ℕ, _≤_, _<_}
 use native.Mathlib.Omega.{arith}
-use mathlib.Core.Path.{_≡_, refl, sym, ap, _∙_, subst}
-use mathlib.Core.Bool.{Bool, true, false, cond}
+use mathlib.Core.Path.{_≡_, refl, sym, ap, _∙_}
+use mathlib.Core.Bool.{Bool, true, false}
 use mathlib.Core.List.{List}
 use mathlib.Core.Option.{Option, none, some}
 use mathlib.Core.Logic.{_⊎_, inl, inr, ⊎-elim}
-use lib.ListN.{length}
 use Rattle.command.specs.declared.Command.{Command}
 use Rattle.command.specs.Dependent.{areDependent}
+use Rattle.command.proofs.Laws.{dependence-is-symmetric}
 use Rattle.node_set.specs.declared.Node.{Node}
 use Rattle.model.specs.declared.Thread.{Thread}
 use Rattle.model.specs.declared.Thread.the-variants.{LookedUp, Written}
 use Rattle.model.specs.Serial.{Entry, serve, chuteAt}
-use Rattle.model.specs.Store.{Store, layOut, lookUp}
-use Rattle.model.specs.Step.{Setup, State, upd, node, foundFor, commandOf, commandAt, bothDependent, Write, write, writeKind, writeFor, lookedUp, setThread, setStore, setAnswer}
-use Rattle.model.specs.Statement.{Accepted, EachCommand, serialAnswer}
-use Rattle.model.specs.Proof.Upd.{eqb-cases, upd-same, upd-other, upd-at, upd-cases, upd-map}
-use Rattle.model.specs.Proof.Commute.{dependent-symmetric, look-keeps}
-use Rattle.model.specs.Proof.Serial.{Ascending, AllPositive}
+use Rattle.model.specs.Store.{layOut, lookUp}
+use Rattle.model.specs.Step.{Setup, State, upd, node, foundFor, commandOf, commandAt, bothDependent, write, writeKind, writeFor, lookedUp, setThread, setStore, setAnswer}
+use Rattle.model.specs.Statement.{Accepted, serialAnswer}
+use Rattle.model.specs.Proof.Tests.{fails, true-false, none-some}
+use Rattle.model.specs.Proof.Upd.{upd-same, upd-other, upd-at, upd-cases, upd-map}
+use Rattle.model.specs.Proof.Commute.{look-keeps}
 use Rattle.model.specs.Proof.Store.{trichotomy, lookUp-is-chuteAt}
 use Rattle.model.specs.Proof.Write.{written-as-served}
-use Rattle.model.specs.Proof.Service.{EarlierIn, ClosedDown, entriesOf, served-next, closed-next, entries-ascending, entries-fit, entries-positive}
-use Rattle.model.specs.Proof.Chain.Invariant.{Ghost, Inv, Progress, Service, at, loads, executes, walks, clears, done, looked, found}
+use Rattle.model.specs.Proof.Service.{EarlierIn, entriesOf, served-next, closed-next, entries-ascending, entries-fit, entries-positive}
+use Rattle.model.specs.Proof.Chain.Invariant.{Ghost, Inv, Progress, Service, at, loads, executes, clears, done, looked, found}
 use Rattle.model.specs.Proof.Chain.Ghost.{writing}
-use Rattle.model.specs.Proof.Chain.Kept.{none-some, true-false, not-true-false, kept}
+use Rattle.model.specs.Proof.Chain.Kept.{kept}
 use Rattle.model.specs.Proof.Chain.Moves.{worker-role, walks-moved}
 use Rattle.model.specs.Proof.Chain.Facts.{done-own, looked-own, clears-done, some-command, command-place, executes-used}
 
@@ -39,7 +39,7 @@ module _ (o : Setup) (s : State) (g : Ghost) (i : Inv o s g) where
       commandAt (o .commands) (s .seq z) ≡ some a → commandAt (o .commands) (s .seq x) ≡ some b → areDependent a b ≡ false
   unfolding bothDependent
   executing-independent x z a b lx ex lz lt p q =
-      not-true-false (areDependent a b) (λ d.
+      fails (areDependent a b) (λ d.
       true-false (s .waits x z) (i .sets .linked-complete x z lx (record { used = i .order .linked-used z lz; earlier = lt; dependent = both d; pending = inl lz })) (i .sets .executing-empty x z ex))
     where
       both : areDependent a b ≡ true → bothDependent (commandAt (o .commands) (s .seq z)) (commandAt (o .commands) (s .seq x)) ≡ true
@@ -87,7 +87,7 @@ module _ (o : Setup) (acc : Accepted o) (s : State) (g : Ghost) (i : Inv o s g) 
 
   -- the command has no answer yet: whoever had written it would be another worker with the same node
   not-written : g .written c ≡ false
-  not-written = not-true-false (g .written c) (λ w. ⊎-elim (λ r. true-false (g .removed c) r (i .progress .removed-gone n n-used)) (λ (k : (u : ℕ) × (z : ℕ) × (done (s .threads u) ≡ some z) × (s .seq z ≡ c)). other (k .0) (k .1) (k .2) (k .3)) (i .progress .written-done c w))
+  not-written = fails (g .written c) (λ w. ⊎-elim (λ r. true-false (g .removed c) r (i .progress .removed-gone n n-used)) (λ (k : (u : ℕ) × (z : ℕ) × (done (s .threads u) ≡ some z) × (s .seq z ≡ c)). other (k .0) (k .1) (k .2) (k .3)) (i .progress .written-done c w))
     where
       other : (u z : ℕ) → done (s .threads u) ≡ some z → s .seq z ≡ c → ⊥
       other u z d e =
@@ -125,7 +125,7 @@ module _ (o : Setup) (acc : Accepted o) (s : State) (g : Ghost) (i : Inv o s g) 
         let ez = i .executing .own-executing u z own in
         ⊎-elim (λ lt. executing-independent o s g i n z b cmd n-linked n-executing lz lt q command)
         (⊎-elim (λ eq. absurd (other (i .executing .alone u t z own (ap executes here ∙ ap some (i .order .distinct n z n-used (sym eq))))))
-        (λ gt. dependent-symmetric b cmd ∙ executing-independent o s g i z n cmd b lz ez n-linked gt command q))
+        (λ gt. dependence-is-symmetric b cmd ∙ executing-independent o s g i z n cmd b lz ez n-linked gt command q))
         (trichotomy (s .seq z) c)
 
     look-kept : (u z : ℕ) → looked (s .threads u) ≡ some z → (u ≡ t → ⊥) → foundFor (commandAt (o .commands) (s .seq z)) (s .store) ≡ foundFor (commandAt (o .commands) (s .seq z)) (layOut (o .capacity) (entriesOf o written′))

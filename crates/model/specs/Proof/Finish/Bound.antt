@@ -3,18 +3,18 @@ use Prim.Native.Nat.{ℕ, suc, _+_, _-_, _*_, _≤_}
 use native.Mathlib.Omega.{arith}
 use native.Mathlib.Nat.{add-mul, mul-add, suc-mul, mul-comm, mul-le-mul-left, mul-le-mul-right}
 use mathlib.Core.Path.{_≡_, refl, sym, ap, _∙_}
-use mathlib.Core.Bool.{Bool, true, false, not, _&&_}
+use mathlib.Core.Bool.{Bool, true, false, not, _&&_, and-eq-true-iff}
 use mathlib.Core.Logic.{⊎-elim}
 use lib.ListN.{length}
 use Rattle.node_set.specs.declared.Node.{Node}
 use Rattle.model.specs.declared.Thread.{Thread}
 use Rattle.model.specs.declared.Thread.the-variants.{Idle, Loading, Searching, Holding, LookedUp, Written, Walking, Clearing}
 use Rattle.model.specs.Step.{Setup, State}
+use Rattle.model.specs.Proof.Tests.{fails, true-false}
 use Rattle.model.specs.Proof.Chain.Invariant.{Ghost, Inv, loads, isLoader}
-use Rattle.model.specs.Proof.Chain.Kept.{true-false}
 use Rattle.model.specs.Proof.Finish.Count.{sumBelow, count, sum-change, sum-const, count-less, count-past, count-image}
-use Rattle.model.specs.Proof.Finish.Measure.{Φ, measure, waiting, ahead, ahead-size, cost, and-true, true-and-true}
-use Rattle.model.specs.Proof.Finish.Present.{false-of, present, present-cases, loading-present}
+use Rattle.model.specs.Proof.Finish.Measure.{Φ, measure, waiting, ahead, ahead-size, cost, true-and-true}
+use Rattle.model.specs.Proof.Finish.Present.{present, present-cases, loading-present}
 
 -- how many commands are not removed
 unfoldable pub unremoved : Setup → Ghost → ℕ
@@ -71,13 +71,13 @@ module _ (o : Setup) (s : State) (g : Ghost) (i : Inv o s g) where
   waiting-loaded =
       count-image (suc (o .size)) (s .loaded) (λ z. here z && not (s .executing z)) (λ j. not (g .removed (suc j))) (λ z. s .seq z - 1)
       (λ z l h.
-      let u = here-used z (and-true (here z) (not (s .executing z)) h .0) in
+      let u = here-used z (and-eq-true-iff (here z) (not (s .executing z)) .0 h .0) in
       let b = i .order .below z in
       let e : suc (s .seq z - 1) ≡ s .seq z = omega arith in
       (omega arith, ap (λ c. not (g .removed c)) e ∙ ap not (i .progress .removed-gone z u)))
       (λ y z l m h k e.
-      let u = here-used y (and-true (here y) (not (s .executing y)) h .0) in
-      let v = here-used z (and-true (here z) (not (s .executing z)) k .0) in
+      let u = here-used y (and-eq-true-iff (here y) (not (s .executing y)) .0 h .0) in
+      let v = here-used z (and-eq-true-iff (here z) (not (s .executing z)) .0 k .0) in
       i .order .distinct y z u (omega arith))
 
   -- and a command that is not loaded is not removed
@@ -86,7 +86,7 @@ module _ (o : Setup) (s : State) (g : Ghost) (i : Inv o s g) where
   counted =
       let a = waiting-loaded in
       let b = count-past (length (o .commands)) (s .loaded) (λ j. not (g .removed (suc j))) (i .order .loaded-count)
-      (λ j l. ap not (false-of (g .removed (suc j)) (λ e. let k = i .progress .removed-loaded (suc j) e .1 in absurd (omega arith)))) in
+      (λ j l. ap not (fails (g .removed (suc j)) (λ e. let k = i .progress .removed-loaded (suc j) e .1 in absurd (omega arith)))) in
       omega arith
 
   -- ---- the threads: each worker costs at most s + 4, and the loader at most s where a node is being loaded, which is waiting

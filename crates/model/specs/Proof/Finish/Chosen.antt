@@ -2,7 +2,7 @@
 use Prim.Native.Nat.{ℕ, suc, _+_, _-_, _≤_, _<_}
 use native.Mathlib.Omega.{arith}
 use mathlib.Core.Path.{_≡_, refl, sym, ap, _∙_}
-use mathlib.Core.Bool.{Bool, true, false, cond, not, and-false}
+use mathlib.Core.Bool.{Bool, true, false, cond, not, and-false, and-eq-true-iff}
 use mathlib.Core.Option.{Option, none, some}
 use mathlib.Core.Logic.{⊎-elim}
 use lib.ListN.{length}
@@ -14,13 +14,13 @@ use Rattle.node_set.specs.Members.{noneBelow}
 use Rattle.model.specs.declared.Thread.{Thread}
 use Rattle.model.specs.declared.Thread.the-variants.{Idle, Loading, Searching, Holding, LookedUp, Written, Walking, Clearing}
 use Rattle.model.specs.Step.{Setup, State, upd, node, step, workerStep, loaderStep, searching, leave, stepOn, examine, ready, setThread, setLocked, setExecuting, setWaits, setNext, walking, bypass, clearing, return, setFree, setSeq, enter, holding, lookedUp, writeFor, loaderWalk, link, addDependence, commandOf, foundFor, bothDependent}
-use Rattle.model.specs.Proof.Upd.{eqb-cases, upd-same, upd-other, upd-id}
+use Rattle.model.specs.Proof.Tests.{fails, true-false, none-some, eqb-cases}
+use Rattle.model.specs.Proof.Upd.{upd-same, upd-other, upd-id}
 use Rattle.model.specs.Proof.Chain.Invariant.{Ghost, Inv, at, loads, executes, walks, clears, isLoader, isWorker}
 use Rattle.model.specs.Proof.Chain.Ghost.{ghostStep, workerGhost, loaderGhost, writing, returning, linking}
-use Rattle.model.specs.Proof.Chain.Kept.{none-some, true-false}
 use Rattle.model.specs.Proof.Finish.Strategy.{rank, rank-at, Foremost}
-use Rattle.model.specs.Proof.Finish.Present.{false-of, present, isLoaded, linked-present, linking-same, loading-present, present-cases, unlinked-gone, unlinked-present}
-use Rattle.model.specs.Proof.Finish.Measure.{Φ, measure, ahead, cost, ahead-less, ahead-size, lowered, taken-lowered, and-true}
+use Rattle.model.specs.Proof.Finish.Present.{present, isLoaded, linked-present, linking-same, loading-present, present-cases, unlinked-gone, unlinked-present}
+use Rattle.model.specs.Proof.Finish.Measure.{Φ, measure, ahead, cost, ahead-less, ahead-size, lowered, taken-lowered}
 
 -- what the measure reads after a move of thread t to v that leaves sequence numbers and taken nodes as they were
 Moved : Setup → State → ℕ → Thread → (ℕ → Bool) → ℕ
@@ -62,7 +62,7 @@ module _ (o : Setup) (s : State) (g : Ghost) (i : Inv o s g) where
     -- so the next node of the foremost thread is not locked
     next-open : (a : ℕ) → at (s .threads t) ≡ some a → (s .next a ≡ 0 → ⊥) → s .locked (s .next a) ≡ false
     next-open a e more =
-        false-of (s .locked (s .next a))
+        fails (s .locked (s .next a))
         (λ h.
         let b = locked-behind (s .next a) h in
         let q = rank-at (s .seq) (s .threads t) a e in
@@ -71,7 +71,7 @@ module _ (o : Setup) (s : State) (g : Ghost) (i : Inv o s g) where
 
     -- and where the foremost thread stands nowhere, no node is locked
     all-open : rank (s .seq) (s .threads t) ≤ 1 → (x : ℕ) → s .locked x ≡ false
-    all-open nowhere x = false-of (s .locked x) (λ h. let b = locked-behind x h in absurd (omega arith))
+    all-open nowhere x = fails (s .locked x) (λ h. let b = locked-behind x h in absurd (omega arith))
 
     -- thread t comes nearer to idle, and no node comes or goes
     thread-lowered : (v : Thread) (linked : ℕ → Bool) → present (upd (s .threads) t v 0) linked ≡ present (s .threads 0) (g .linked) →
@@ -120,7 +120,7 @@ module _ (o : Setup) (s : State) (g : Ghost) (i : Inv o s g) where
       searching-lowered = ⊎-elim (λ e. rw (e .1) search-leaves) (λ e. rw (e .1, next-open (a .0) (ap at here) (e .0)) (go (e .0) (ready s (s .next (a .0))) refl)) (eqb-cases (s .next (a .0)) 0)
         where
           go : (s .next (a .0) ≡ 0 → ⊥) → (b : Bool) → ready s (s .next (a .0)) ≡ b → Φ o (examine t (a .0) (s .next (a .0)) s) g + 1 ≤ Φ o s g
-          go more true e = rw e (search-takes more (not-true (s .executing (s .next (a .0))) (and-true (not (s .executing (s .next (a .0)))) (noneBelow 192 (s .waits (s .next (a .0)))) e .0)))
+          go more true e = rw e (search-takes more (not-true (s .executing (s .next (a .0))) (and-eq-true-iff (not (s .executing (s .next (a .0)))) (noneBelow 192 (s .waits (s .next (a .0)))) .0 e .0)))
           go more false e = rw e (search-on more)
 
     -- the foremost worker that holds a node looks up, writes, and enters at the head, where nobody stands

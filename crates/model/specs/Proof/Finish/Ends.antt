@@ -1,18 +1,18 @@
 -- From every state that meets the invariant the strategy finishes: it removes every command and leaves every thread idle, in at most as
 -- many steps as the measure says. Assumes nothing.
-use Prim.Native.Nat.{ℕ, zero, suc, _+_, _*_, _≤_, _<_}
+use Prim.Native.Nat.{ℕ, zero, suc, _+_, _*_, _≤_}
 use native.Mathlib.Omega.{arith}
 use mathlib.Core.Path.{_≡_, refl, sym, ap, _∙_}
-use mathlib.Core.Bool.{Bool, true, false, cond, or-false}
+use mathlib.Core.Bool.{true, false, cond, or-false}
 use mathlib.Core.List.{List, [], _∷_, _++_}
 use mathlib.Core.Logic.{_⊎_, inl, inr, ⊎-elim}
 use lib.ListN.{length, length-append}
 use lib.Dec.{leb}
-use borrow.Author.Tests.{leb-true, leb-false, le-leb, lt-leb}
+use borrow.Author.Tests.{le-leb, lt-leb}
 use Rattle.model.specs.declared.Thread.the-variants.{Idle}
 use Rattle.model.specs.Step.{Setup, State, step, steps}
 use Rattle.model.specs.Statement.{Accepted, EachCommand, allWithin, removed}
-use Rattle.model.specs.Proof.Upd.{eqb-cases}
+use Rattle.model.specs.Proof.Tests.{eqb-cases, le-cases}
 use Rattle.model.specs.Proof.Chain.Invariant.{Ghost, Inv}
 use Rattle.model.specs.Proof.Chain.Ghost.{ghostStep, ghostSteps}
 use Rattle.model.specs.Proof.Finish.Strategy.{rank, rank-idle, Foremost, foremost-within, foremost-largest, chosen, moves, strategy}
@@ -38,14 +38,6 @@ Serves o s g m = ((m ≡ []) × Finished o s g) ⊎ Lowers o s g m
 -- the steps m are threads' up to the worker count and finish, and they are no more than the measure says
 abbrev pub Finishes : Setup → State → Ghost → List ℕ → Type 0
 Finishes o s g m = (allWithin (o .workers) m ≡ true) × Finished o (steps o m s) (ghostSteps o m s g) × (length m ≤ Φ o s g)
-
--- one of two numbers is the smaller
-le-cases : (a b : ℕ) → (a ≤ b) ⊎ (b < a)
-le-cases a b = go (leb a b) refl
-  where
-    go : (c : Bool) → leb a b ≡ c → (a ≤ b) ⊎ (b < a)
-    go true e = inl (leb-true a b e)
-    go false e = inr (leb-false a b e)
 
 module _ (o : Setup) (accepted : Accepted o) (s : State) (g : Ghost) (i : Inv o s g) where
   -- the chosen thread is foremost

@@ -1,31 +1,25 @@
 -- Where every thread is idle: a worker takes the first node of the chain in two steps, the loader loads into an empty chain in two steps,
 -- and where no command is left, every command is removed. Assumes nothing.
-use Prim.Native.Nat.{ℕ, zero, suc, _+_, _-_, _≤_, _<_}
+use Prim.Native.Nat.{ℕ, suc, _+_, _-_, _≤_, _<_}
 use native.Mathlib.Omega.{arith}
 use mathlib.Core.Path.{_≡_, refl, sym, ap, _∙_}
-use mathlib.Core.Bool.{Bool, true, false}
+use mathlib.Core.Bool.{true, false}
 use mathlib.Core.List.{List, [], _∷_}
 use mathlib.Core.Option.{none}
 use mathlib.Core.Logic.{_⊎_, inl, inr, ⊎-elim}
 use lib.ListN.{length}
 use lib.Dec.{eqb}
 use borrow.Author.Tests.{eq-eqb, ne-eqb, lt-leb}
-use Rattle.node_set.specs.Members.{noneBelow}
+use Rattle.node_set.proofs.Below.{all-fail-none-below}
 use Rattle.model.specs.declared.Thread.the-variants.{Idle, Loading, Searching, Holding}
 use Rattle.model.specs.Step.{Setup, State, upd, node, step, workerStep, loaderStep, loaderIdle, loaderWalk, load, link, enter, searching, examine, ready, stepOn, setThread, setLocked, setExecuting, setNext, setFree, setSeq, setLoaded}
-use Rattle.model.specs.Proof.Upd.{eqb-cases, upd-same, upd-other}
+use Rattle.model.specs.Proof.Tests.{fails, none-some, eqb-cases}
+use Rattle.model.specs.Proof.Upd.{upd-same, upd-other}
 use Rattle.model.specs.Proof.Chain.Invariant.{Ghost, Inv, In, ChainFrom, at, loads, executes, clears}
 use Rattle.model.specs.Proof.Chain.Ghost.{ghostStep, workerGhost, loaderGhost, linking, taken}
-use Rattle.model.specs.Proof.Chain.Kept.{none-some}
 use Rattle.model.specs.Proof.Finish.Measure.{Φ, cost, loaded-lowered}
 use Rattle.model.specs.Proof.Finish.Chosen.{takes-lowered}
-use Rattle.model.specs.Proof.Finish.Present.{false-of, present, linked-present, present-cases}
-
--- a test that no number passes is passed by none below a bound
-none-below : (n : ℕ) (test : ℕ → Bool) → ((y : ℕ) → test y ≡ false) → noneBelow n test ≡ true
-unfolding noneBelow
-none-below zero test h = refl
-none-below (suc n) test h = rw (h n) (none-below n test h)
+use Rattle.model.specs.Proof.Finish.Present.{present, linked-present, present-cases}
 
 -- a list with a member that is a chain of next indexes has its first member at the chain's start
 first-in : (next : ℕ → ℕ) (f x : ℕ) (l : List ℕ) → ChainFrom next f l → In x l → In f l
@@ -35,7 +29,7 @@ first-in next f x (y ∷ ys) c m = inl (c .0)
 module _ (o : Setup) (s : State) (g : Ghost) (i : Inv o s g) (idle : (t : ℕ) → s .threads t ≡ Idle) where
   -- no node is locked
   open-all : (x : ℕ) → s .locked x ≡ false
-  open-all x = false-of (s .locked x) (λ h. let w = i .standing .held x h in none-some none refl (sym (ap at (idle (w .0))) ∙ w .1))
+  open-all x = fails (s .locked x) (λ h. let w = i .standing .held x h in none-some none refl (sym (ap at (idle (w .0))) ∙ w .1))
 
   -- a node with a command is in the chain
   used-linked : (x : ℕ) → 1 ≤ s .seq x → g .linked x ≡ true
@@ -51,13 +45,13 @@ module _ (o : Setup) (s : State) (g : Ghost) (i : Inv o s g) (idle : (t : ℕ) �
     -- the first node is waiting, as nobody executes it, and waits for none, as none is before it and nobody clears
     first-waiting : s .executing first ≡ false
     unfolding first
-    first-waiting = false-of (s .executing first) (λ h.
+    first-waiting = fails (s .executing first) (λ h.
         let w = i .executing .held first (i .order .next-linked 0 (inl refl) more) h in
         none-some none refl (sym (ap executes (idle (w .0))) ∙ w .1))
 
     first-set : (y : ℕ) → s .waits first y ≡ false
     unfolding first
-    first-set y = false-of (s .waits first y) (λ h.
+    first-set y = fails (s .waits first y) (λ h.
         let w = i .sets .linked-sound first y (i .order .next-linked 0 (inl refl) more) h in
         let e = w .earlier in let u = w .used in let z = i .order .head-seq in
         let f = i .order .next-first 0 (inl refl) more y (used-linked y u) (omega arith) in
@@ -65,7 +59,7 @@ module _ (o : Setup) (s : State) (g : Ghost) (i : Inv o s g) (idle : (t : ℕ) �
 
     first-ready : ready s first ≡ true
     unfolding ready
-    first-ready = rw (first-waiting) (none-below 192 (s .waits first) first-set)
+    first-ready = rw (first-waiting) (all-fail-none-below 192 (s .waits first) (λ y below. first-set y))
 
     -- worker 1 enters, and takes the first node
     entered : State

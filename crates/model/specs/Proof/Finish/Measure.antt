@@ -4,7 +4,7 @@ use Prim.Native.Nat.{ℕ, suc, _+_, _-_, _*_, _≤_, _<_}
 use native.Mathlib.Omega.{arith}
 use native.Mathlib.Nat.{mul-suc, mul-add, mul-le-mul-left}
 use mathlib.Core.Path.{_≡_, refl, ap}
-use mathlib.Core.Bool.{Bool, true, false, not, _&&_, and-false}
+use mathlib.Core.Bool.{Bool, true, false, not, _&&_, and-false, and-eq-true-iff}
 use mathlib.Core.Option.{some}
 use lib.ListN.{length}
 use lib.Dec.{ltb}
@@ -46,11 +46,6 @@ unfoldable pub Φ : Setup → State → Ghost → ℕ
 
 -- ---- how it changes
 
--- both of two tests
-pub and-true : (a b : Bool) → (a && b) ≡ true → (a ≡ true) × (b ≡ true)
-and-true true b h = (refl, h)
-and-true false b h = absurd (let z : _≡_ {A = ℕ} 0 1 = cc in omega arith)
-
 pub true-and-true : (a b : Bool) → a ≡ true → b ≡ true → (a && b) ≡ true
 true-and-true a b h k = rw (h, k)
 
@@ -60,7 +55,7 @@ module _ (size : ℕ) (seq seq′ : ℕ → ℕ) (here here′ : ℕ → Bool) (
   -- the same, as tests
   later-test : (z : ℕ) → (here′ z && ltb (seq′ b) (seq′ z)) ≡ true → (here z && ltb (seq a) (seq z)) ≡ true
   later-test z h =
-      let e = and-true (here′ z) (ltb (seq′ b) (seq′ z)) h in
+      let e = and-eq-true-iff (here′ z) (ltb (seq′ b) (seq′ z)) .0 h in
       let l = later z (e .0) (ltb-true (seq′ b) (seq′ z) (e .1)) in
       true-and-true (here z) (ltb (seq a) (seq z)) (l .0) (lt-ltb (seq a) (seq z) (l .1))
 
@@ -111,7 +106,7 @@ module _ (size workers : ℕ) (seq seq′ : ℕ → ℕ) (here here′ executing
   wait-test : (z : ℕ) → (here′ z ≡ true → executing′ z ≡ false → (here z ≡ true) × (executing z ≡ false)) →
       (here′ z && not (executing′ z)) ≡ true → (here z && not (executing z)) ≡ true
   wait-test z h k =
-      let e = and-true (here′ z) (not (executing′ z)) k in
+      let e = and-eq-true-iff (here′ z) (not (executing′ z)) .0 k in
       let w = h (e .0) (not-true (executing′ z) (e .1)) in
       true-and-true (here z) (not (executing z)) (w .0) (ap not (w .1))
 

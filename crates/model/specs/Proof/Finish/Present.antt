@@ -10,9 +10,9 @@ use Rattle.node_set.specs.declared.Node.{Node}
 use Rattle.model.specs.declared.Thread.{Thread}
 use Rattle.model.specs.declared.Thread.the-variants.{Idle, Loading, Searching, Holding, LookedUp, Written, Walking, Clearing}
 use Rattle.model.specs.Step.{upd}
+use Rattle.model.specs.Proof.Tests.{fails, true-false}
 use Rattle.model.specs.Proof.Upd.{upd-same, upd-cases}
 use Rattle.model.specs.Proof.Chain.Invariant.{loads}
-use Rattle.model.specs.Proof.Chain.Kept.{true-false}
 
 -- whether a node is the one that the loader loads
 unfoldable pub isLoaded : Thread → ℕ → Bool
@@ -30,11 +30,6 @@ unfoldable pub present : Thread → (ℕ → Bool) → ℕ → Bool
 present loader linked z = linked z || isLoaded loader z
 
 -- ---- laws
-
--- a test that cannot pass fails
-pub false-of : (b : Bool) → (b ≡ true → ⊥) → b ≡ false
-false-of true h = absurd (h refl)
-false-of false h = refl
 
 -- the node being loaded, by the two ways to say it
 isLoaded-loads : (thread : Thread) (z : ℕ) → isLoaded thread z ≡ true → loads thread ≡ some z
@@ -79,4 +74,4 @@ unlinked-present loader linked x z h = ⊎-elim (λ e. let k : isLoaded loader z
 
 pub unlinked-gone : (loader : Thread) (linked : ℕ → Bool) (x : ℕ) → (loads loader ≡ some x → ⊥) → present loader (upd linked x false) x ≡ false
 unfolding present
-unlinked-gone loader linked x h = rw (upd-same linked x false) (false-of (isLoaded loader x) (λ e. h (isLoaded-loads loader x e)))
+unlinked-gone loader linked x h = rw (upd-same linked x false) (fails (isLoaded loader x) (λ e. h (isLoaded-loads loader x e)))

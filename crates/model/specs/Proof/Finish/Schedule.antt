@@ -2,7 +2,7 @@
 use Prim.Native.Nat.{ℕ, _≤_}
 use native.Mathlib.Omega.{arith}
 use mathlib.Core.Path.{_≡_, refl, sym, _∙_}
-use mathlib.Core.Bool.{Bool, true, false, cond, _||_}
+use mathlib.Core.Bool.{Bool, true, false, cond, _||_, and-eq-true-iff}
 use mathlib.Core.List.{List, [], _∷_, _++_}
 use mathlib.Core.Logic.{⊎-elim}
 use lib.ListN.{length}
@@ -12,12 +12,11 @@ use Rattle.model.specs.declared.Thread.{Thread}
 use Rattle.model.specs.declared.Thread.the-variants.{Idle, Loading, Searching, Holding, LookedUp, Written, Walking, Clearing}
 use Rattle.model.specs.Step.{Setup, State, upd, step, steps}
 use Rattle.model.specs.Statement.{Accepted, allWithin, writes, returns, wrote, removed}
-use Rattle.model.specs.Proof.Upd.{eqb-cases, upd-at, upd-other}
+use Rattle.model.specs.Proof.Tests.{true-false, eqb-cases}
+use Rattle.model.specs.Proof.Upd.{upd-at, upd-other}
 use Rattle.model.specs.Proof.Chain.Invariant.{Ghost, Inv, isLoader}
 use Rattle.model.specs.Proof.Chain.Ghost.{ghostStep, ghostSteps, workerGhost, loaderGhost, taken, linking, returning}
-use Rattle.model.specs.Proof.Chain.Kept.{true-false}
 use Rattle.model.specs.Proof.Chain.Keep.{keeps}
-use Rattle.model.specs.Proof.Finish.Measure.{and-true}
 
 -- ---- two schedules one after the other
 
@@ -35,7 +34,7 @@ pub within-append : (workers : ℕ) (l m : List ℕ) → allWithin workers l ≡
 unfolding allWithin
 within-append workers [] m h k = k
 within-append workers (t ∷ l) m h k =
-    let e = and-true (leb t workers) (allWithin workers l) h in
+    let e = and-eq-true-iff (leb t workers) (allWithin workers l) .0 h in
     rw (e .0) (within-append workers l m (e .1) k)
 
 -- ---- one step: what it adds to the answered and the removed commands
@@ -109,7 +108,7 @@ module _ (o : Setup) (accepted : Accepted o) where
   unfolding ghostSteps allWithin wrote removed
   steps-tell c low [] h s g i = (refl, refl)
   steps-tell c low (t ∷ ts) h s g i =
-      let e = and-true (leb t (o .workers)) (allWithin (o .workers) ts) h in
+      let e = and-eq-true-iff (leb t (o .workers)) (allWithin (o .workers) ts) .0 h in
       let k = keeps o accepted t (leb-true t (o .workers) (e .0)) s g i in
       let r = steps-tell c low ts (e .1) (step o t s) (ghostStep o t s g) k in
       let one = step-tells o s g c low t (i .roles .loader) in (

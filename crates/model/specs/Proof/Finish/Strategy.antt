@@ -13,9 +13,8 @@ use borrow.Author.Tests.{ltb-true, ltb-false}
 use Rattle.model.specs.declared.Thread.{Thread}
 use Rattle.model.specs.declared.Thread.the-variants.{Idle, Loading, Searching, Holding, LookedUp, Written, Walking, Clearing}
 use Rattle.model.specs.Step.{Setup, State, steps}
-use Rattle.model.specs.Proof.Upd.{eqb-cases}
+use Rattle.model.specs.Proof.Tests.{none-some, eqb-cases}
 use Rattle.model.specs.Proof.Chain.Invariant.{at}
-use Rattle.model.specs.Proof.Chain.Kept.{none-some}
 
 -- who goes first: a thread that stands further along the chain, then one that holds a node and stands nowhere; 0 for an idle one
 unfoldable pub rank : (ℕ → ℕ) → Thread → ℕ

@@ -1,8 +1,8 @@
 -- Every step of every thread keeps a state's shape, on any state that has it, and so does every schedule. Assumes nothing.
-use Prim.Native.Nat.{ℕ, zero, suc, _+_, _≤_, _<_}
+use Prim.Native.Nat.{ℕ, _+_, _≤_, _<_}
 use native.Mathlib.Omega.{arith}
 use mathlib.Core.Path.{_≡_, refl, subst}
-use mathlib.Core.Bool.{Bool, true, false, _||_}
+use mathlib.Core.Bool.{Bool, true, false, _||_, and-eq-true-iff}
 use mathlib.Core.List.{List, [], _∷_}
 use mathlib.Core.Option.{Option, none, some}
 use lib.ListN.{length}
@@ -14,19 +14,13 @@ use Rattle.model.specs.declared.Thread.the-variants.{Idle, Loading, Sear
 use Rattle.model.specs.Step.{Setup, State, node, noNode, upd, commandAt, commandOf, bothDependent, stepOn, load, loaderIdle, link, addDependence, loaderWalk, loaderStep}
 use Rattle.model.specs.Step.{setThread, enter, ready, examine, leave, searching, foundFor, holding, writeKind, writeFor, lookedUp, bypass, walking, return, clearing, workerStep, step, steps}
 use Rattle.model.specs.Statement.{allWithin}
-use Rattle.model.specs.Proof.Commute.{neither}
+use Rattle.model.specs.Proof.Tests.{true-false, neither}
 use Rattle.model.specs.Proof.Chain.Invariant.{isLoader, isWorker}
-use Rattle.model.specs.Proof.Chain.Kept.{and-true, none-some, true-false}
+use Rattle.model.specs.Proof.Chain.Facts.{command-place}
 use Rattle.model.specs.Proof.Formed.{ThreadFormed, SetupFormed, Formed}
 use Rattle.model.specs.Proof.Formed.Store.{either, lookUp-fits, writeKind-formed}
 use Rattle.model.specs.Proof.Formed.Set.{upd-keeps, store-formed}
 use Rattle.model.specs.Proof.Formed.Set.{next-set, seq-set, executing-set, locked-set, waits-set, free-set, loaded-set, thread-set, store-set, answer-set}
-
--- a place with a command is not 0
-pub commandAt-from : (cs : List Command) (c : ℕ) (cmd : Command) → commandAt cs c ≡ some cmd → 1 ≤ c
-unfolding commandAt
-commandAt-from cs zero cmd e = absurd (none-some none refl e)
-commandAt-from cs (suc c) cmd e = omega arith
 
 module _ (o : Setup) (fit : SetupFormed o) where
   -- what the thread's state at t says of its nodes
@@ -107,7 +101,7 @@ module _ (o : Setup) (fit : SetupFormed o) where
   write-formed c found h {s} k (some cmd) e =
       let w = writeKind (cmd .kind) (o .capacity) (cmd .key) (cmd .chute) found (s .store) in
       store-set o fit (w .store) (writeKind-formed (s .store) (store-formed k) (cmd .kind) (o .capacity) (cmd .key) (cmd .chute) found (fit .chutes c cmd e))
-      (answer-set o fit c (w .answer) (commandAt-from (o .commands) c cmd e) h k)
+      (answer-set o fit c (w .answer) (command-place (o .commands) c cmd e) h k)
 
   -- the worker's own node gets the first free node as its next, and all else of it is emptied
   pub return-formed : (x : ℕ) → x ≤ o .size → {s : State} → Formed o s → Formed o (return x s)
@@ -191,5 +185,5 @@ pub steps-formed : (o : Setup) → SetupFormed o → (ts : List ℕ) → allWith
 unfolding steps allWithin
 steps-formed o fit [] w s k = k
 steps-formed o fit (t ∷ ts) w s k =
-    let h = and-true (leb t (o .workers)) (allWithin (o .workers) ts) w in
+    let h = and-eq-true-iff (leb t (o .workers)) (allWithin (o .workers) ts) .0 w in
     steps-formed o fit ts (h .1) (step o t s) (step-formed o fit t (leb-true t (o .workers) (h .0)) s k)

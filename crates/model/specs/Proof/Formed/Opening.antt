@@ -1,27 +1,17 @@
 -- An accepted opening has numbers that the layout holds, and the state that it opens with has the shape. Assumes nothing.
 use Prim.Native.Nat.{ℕ, _≤_}
 use native.Mathlib.Omega.{arith}
-use mathlib.Core.Path.{_≡_, refl}
-use mathlib.Core.Bool.{true, false, _&&_}
+use mathlib.Core.Path.{refl}
+use mathlib.Core.Bool.{false, _&&_, and-eq-true-iff}
 use lib.Dec.{leb, ltb}
-use borrow.Author.Tests.{eqb-true, leb-true, ltb-true}
-use Rattle.command.specs.declared.Kind.{Kind}
-use Rattle.command.specs.declared.Kind.the-variants.{Insert, Delete, Read, Update}
-use Rattle.command.specs.Read.{chuteFits}
+use borrow.Author.Tests.{ltb-true}
+use Rattle.command.proofs.Laws.{chute-that-fits}
 use Rattle.model.specs.Step.{Setup, opened, firstNext, noNode}
 use Rattle.model.specs.Statement.{Accepted}
-use Rattle.model.specs.Proof.Chain.Kept.{and-true, true-false}
+use Rattle.model.specs.Proof.Tests.{true-false}
 use Rattle.model.specs.Proof.Formed.{SetupFormed, Formed}
 use Rattle.model.specs.Proof.Formed.Store.{either, layOut-formed}
 use Rattle.model.specs.Proof.Formed.Set.{NumberAt, formed}
-
--- a chute that fits a kind is at most 512
-pub chute-fits : (kind : Kind) (chute : ℕ) → chuteFits kind chute ≡ true → chute ≤ 512
-unfolding chuteFits
-chute-fits Insert chute e = leb-true chute 512 (and-true (leb 1 chute) _ e .1)
-chute-fits Delete chute e = omega (arith, eqb-true chute 0 e)
-chute-fits Read chute e = omega (arith, eqb-true chute 0 e)
-chute-fits Update chute e = leb-true chute 512 (and-true (leb 1 chute) _ e .1)
 
 -- the tests of an accepted opening are those of the layout, or narrower
 pub accepted-formed : (o : Setup) → Accepted o → SetupFormed o
@@ -30,7 +20,7 @@ accepted-formed o acc = record {
   workers = acc .workers .1;
   capacity = acc .capacity .1;
   count = acc .count;
-  chutes = λ c cmd e. omega (arith, chute-fits (cmd .kind) (cmd .chute) (acc .chutes c cmd e));
+  chutes = λ c cmd e. omega (arith, chute-that-fits (cmd .kind) (cmd .chute) (acc .chutes c cmd e));
 }
 
 -- a node's first next index is a node's number, and 0 past the graph size
@@ -38,7 +28,7 @@ first-next-formed : (size n : ℕ) → size ≤ 150 → NumberAt size n (firstNe
 unfolding firstNext
 first-next-formed size n h =
     either (NumberAt size n) (leb 1 n && ltb n size)
-    (λ e. let l = ltb-true n size (and-true (leb 1 n) (ltb n size) e .1) in (omega arith, λ p. absurd (omega arith))) (λ _. (omega arith, λ _. refl))
+    (λ e. let l = ltb-true n size (and-eq-true-iff (leb 1 n) (ltb n size) .0 e .1) in (omega arith, λ p. absurd (omega arith))) (λ _. (omega arith, λ _. refl))
 
 -- everything is 0, idle or empty, but the free list, which starts at node 1
 pub opened-formed : (o : Setup) → 1 ≤ o .size → SetupFormed o → Formed o (opened o)

@@ -3,7 +3,7 @@
 use Prim.Native.Nat.{ℕ, zero, suc, _+_, _-_, _/_, _≤_, _<_}
 use native.Mathlib.Omega.{arith}
 use mathlib.Core.Path.{_≡_, refl, _∙_}
-use mathlib.Core.Bool.{Bool, true, false, cond, _&&_, _||_}
+use mathlib.Core.Bool.{Bool, true, false, cond, _&&_, _||_, and-eq-true-iff}
 use mathlib.Core.List.{List, [], _∷_, _++_}
 use lib.ListN.{length, getD, take, drop, set, replicate, length-append, length-take, length-drop, length-set}
 use lib.Seq.{getD-drop}
@@ -13,9 +13,8 @@ use Rattle.command.specs.declared.Kind.{Kind}
 use Rattle.command.specs.declared.Kind.the-variants.{Insert, Delete, Read, Update}
 use Rattle.model.specs.Store.{Store, layOut, room, inUse, halve, placeOf, holds, lookUp, shiftUp, shiftDown, insert, remove, replace}
 use Rattle.model.specs.Step.{Write, writeKind}
-use Rattle.model.specs.Proof.Commute.{neither}
+use Rattle.model.specs.Proof.Tests.{neither}
 use Rattle.model.specs.Proof.Store.{keyOf, chuteOf, length-laid}
-use Rattle.model.specs.Proof.Chain.Kept.{and-true}
 
 -- of two values that a test picks from
 pub either : {A : Type 0} (P : A → Type 0) {v w : A} (b : Bool) → (b ≡ true → P v) → (b ≡ false → P w) → P (cond b v w)
@@ -80,9 +79,9 @@ unfolding placeOf
 placeOf-within key st = halve-within (st .keys) key (inUse st) 0 (inUse st) (omega arith)
 
 -- a key that is held has a place in use
-pub held-within : (key : ℕ) (st : Store) → holds key st ≡ true → placeOf key st < inUse st
+pub held-in-use : (key : ℕ) (st : Store) → holds key st ≡ true → placeOf key st < inUse st
 unfolding holds
-held-within key st h = ltb-true _ _ (and-true (ltb (placeOf key st) (inUse st)) _ h .0)
+held-in-use key st h = ltb-true _ _ (and-eq-true-iff (ltb (placeOf key st) (inUse st)) _ .0 h .0)
 
 -- shifting up moves the first n elements within a list that has a place more, shifting down within a list that has n
 pub shiftUp-length : (p n v : ℕ) (l : List ℕ) → p ≤ n → n < length l → length (shiftUp p n v l) ≡ length l
@@ -164,7 +163,7 @@ module _ {capacity : ℕ} (st : Store) (k : StoreFormed capacity st) where
   remove-formed key =
       either (StoreFormed capacity) (holds key st)
       (λ e.
-      let place = held-within key st e in
+      let place = held-in-use key st e in
       let fits : inUse st ≤ capacity = omega (arith, inUse-used, k .used-fits) in
       record {
         keys-length = shiftDown-length (placeOf key st) (inUse st) (st .keys) place (omega (arith, k .keys-length)) ∙ k .keys-length;

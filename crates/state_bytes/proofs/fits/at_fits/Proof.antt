@@ -1,4 +1,4 @@
--- `controller::fits::at_fits` meets its contract: it is true at each number of a state that stands at a node, and tests the node at any other. Assumes nothing.
+-- `state_bytes::fits::at_fits` meets its contract: it is true at each number of a state that stands at a node, and tests the node at any other. Assumes nothing.
 use mathlib.Core.Bool.{or-true}
 use borrow.Author.Tests.{eq-eqb, ne-eqb}
 use Rattle.state_bytes.proofs.fits.at_fits.Statement.{statement}

@@ -1,4 +1,4 @@
--- `controller::fits::found_fits` meets its contract: state 4 is the one that has looked up. Assumes nothing.
+-- `state_bytes::fits::found_fits` meets its contract: state 4 is the one that has looked up. Assumes nothing.
 use borrow.Author.Tests.{eq-eqb, ne-eqb}
 use Rattle.state_bytes.proofs.fits.found_fits.Statement.{statement}
 use Rattle.state_bytes.proofs.fits.found_fits.Tie as tie

@@ -1,4 +1,4 @@
--- `controller::fits::key_at` meets its contract: past the end `getD` is 0 too. Assumes nothing.
+-- `state_bytes::fits::key_at` meets its contract: past the end `getD` is 0 too. Assumes nothing.
 use borrow.Author.Needs.{needs}
 use mathlib.Core.Path.{sym}
 use lib.ListN.{List·getD-eq-default}

@@ -1,4 +1,4 @@
--- `controller::fits::keys_ascend` meets its contract: the loop has passed the places before `place`, and ends at the first whose key is not below the next. Assumes nothing.
+-- `state_bytes::fits::keys_ascend` meets its contract: the loop has passed the places before `place`, and ends at the first whose key is not below the next. Assumes nothing.
 use borrow.Author.Needs.{needs}
 use borrow.Author.Tests.{lt-leb, le-leb, lt-ltb, le-ltb}
 use Prim.Native.Nat.{ℕ, _+_, _-_, _≤_, _<_}

@@ -1,4 +1,4 @@
--- `controller::fits::lengths_fit` meets its contract: the first test that fails fails them all. Assumes nothing.
+-- `state_bytes::fits::lengths_fit` meets its contract: the first test that fails fails them all. Assumes nothing.
 use borrow.Author.Needs.{needs}
 use Prim.Native.Nat.{ℕ, _*_}
 use mathlib.Core.Bool.{Bool}

@@ -1,4 +1,4 @@
--- `controller::fits::node_fits` meets its contract: the first test that fails fails them all. Assumes nothing.
+-- `state_bytes::fits::node_fits` meets its contract: the first test that fails fails them all. Assumes nothing.
 use borrow.Author.Needs.{needs}
 use borrow.Author.Tests.{lt-leb, le-leb}
 use mathlib.Core.Bool.{Bool, true, false}

@@ -1,4 +1,4 @@
--- `controller::fits::own_fits` meets its contract: it is true at each number of a state that has a node of its own, and tests the node at any other. Assumes nothing.
+-- `state_bytes::fits::own_fits` meets its contract: it is true at each number of a state that has a node of its own, and tests the node at any other. Assumes nothing.
 use mathlib.Core.Bool.{or-true}
 use borrow.Author.Tests.{eq-eqb, ne-eqb}
 use Rattle.state_bytes.proofs.fits.own_fits.Statement.{statement}

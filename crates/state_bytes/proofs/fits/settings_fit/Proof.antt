@@ -1,4 +1,4 @@
--- `controller::fits::settings_fit` meets its contract: the first test that fails fails them all. Assumes nothing.
+-- `state_bytes::fits::settings_fit` meets its contract: the first test that fails fails them all. Assumes nothing.
 use mathlib.Core.Bool.{and-false}
 use borrow.Author.Tests.{lt-leb, le-leb}
 use Rattle.state_bytes.specs.Layout.{settingsFit}

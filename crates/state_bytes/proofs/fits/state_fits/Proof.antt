@@ -1,8 +1,7 @@
--- `controller::fits::state_fits` meets its contract: the first test that fails fails them all. Assumes nothing.
+-- `state_bytes::fits::state_fits` meets its contract: the first test that fails fails them all. Assumes nothing.
 use borrow.Author.Needs.{needs}
 use borrow.Author.Tests.{lt-leb, le-leb}
-use Prim.Native.Nat.{ℕ, _<_}
-use native.Mathlib.Nat.{add-zero}
+use Prim.Native.Nat.{ℕ}
 use native.Mathlib.Omega.{arith}
 use mathlib.Core.Bool.{Bool, true, false}
 use mathlib.Core.List.{List, [], _∷_, _++_}
@@ -12,7 +11,7 @@ use lib.ListN.{length, getD}
 use Rattle.state_bytes.specs.Bytes.{allBelow, numberAt}
 use Rattle.state_bytes.specs.Layout.{Lists, stateLength, countIn, settingsFit, nodeFitsAt, threadFitsAt, ascends, stateFits}
 use Rattle.state_bytes.proofs.Bytes.{_▸_}
-use Rattle.state_bytes.proofs.Fill.{number-none, number-more}
+use Rattle.state_bytes.proofs.Fill.{number-one}
 use Rattle.state_bytes.proofs.Tested.{answer-fails, answer-passes, all, fails-at, last-decides}
 use Rattle.state_bytes.proofs.fits.state_fits.Statement.{statement}
 use Rattle.state_bytes.proofs.fits.state_fits.Tie as tie
@@ -33,10 +32,6 @@ as-tests : (l : Lists) → let b : List ℕ = l .state in
     ≡ all (whole b (l .keys) (numberAt 1 0 b) (numberAt 1 1 b) (numberAt 1 10 b) (numberAt 2 2 b) (numberAt 2 4 b) (numberAt 2 6 b) (numberAt 2 8 b))
 unfolding stateFits countIn
 as-tests l = refl
-
--- a number of one byte is that byte
-number-one : (at : ℕ) (b : List ℕ) → at < length b → numberAt 1 at b ≡ getD b at 0
-number-one at b h = number-more 0 at b (omega arith) ∙ rw (number-none at b, add-zero at) (omega arith)
 
 -- the same tests, of the bytes and the numbers that the code reads
 read-tests : (l : Lists) (b keys : List ℕ) (capacity count loaded used : ℕ) → length b ≡ stateLength → l .state ≡ b → l .keys ≡ keys

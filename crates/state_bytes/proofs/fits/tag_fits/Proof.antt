@@ -1,4 +1,4 @@
--- `controller::fits::tag_fits` meets its contract: thread 0 is the loader. Assumes nothing.
+-- `state_bytes::fits::tag_fits` meets its contract: thread 0 is the loader. Assumes nothing.
 use borrow.Author.Tests.{eq-eqb, ne-eqb}
 use Rattle.state_bytes.proofs.fits.tag_fits.Statement.{statement}
 use Rattle.state_bytes.proofs.fits.tag_fits.Tie as tie

@@ -1,4 +1,4 @@
--- `controller::fits::thread_fits` meets its contract: the first test that fails fails them all. Assumes nothing.
+-- `state_bytes::fits::thread_fits` meets its contract: the first test that fails fails them all. Assumes nothing.
 use borrow.Author.Needs.{needs}
 use mathlib.Core.Bool.{and-false}
 use mathlib.Core.Path.{_∙_}

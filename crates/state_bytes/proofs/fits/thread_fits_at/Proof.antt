@@ -1,4 +1,4 @@
--- `controller::fits::thread_fits_at` meets its contract: the fields of a thread lie one after the other. Assumes nothing.
+-- `state_bytes::fits::thread_fits_at` meets its contract: the fields of a thread lie one after the other. Assumes nothing.
 use borrow.Author.Needs.{needs}
 use Prim.Native.Nat.{_+_, _*_}
 use native.Mathlib.Omega.{arith}

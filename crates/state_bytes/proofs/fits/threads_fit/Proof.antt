@@ -1,4 +1,4 @@
--- `controller::fits::threads_fit` meets its contract: the loop has passed the threads before t, and ends at the first that fails. Assumes nothing.
+-- `state_bytes::fits::threads_fit` meets its contract: the loop has passed the threads before t, and ends at the first that fails. Assumes nothing.
 use Prim.Native.Nat.{_≤_, _-_}
 use native.Mathlib.Omega.{arith}
 use mathlib.Core.Bool.{true}

@@ -1,4 +1,4 @@
--- `controller::fits::threads_named` meets its contract: the loop has passed the steps before i, and ends at the first that fails. Assumes nothing.
+-- `state_bytes::fits::threads_named` meets its contract: the loop has passed the steps before i, and ends at the first that fails. Assumes nothing.
 use Prim.Native.Nat.{ℕ, _+_, _-_, _≤_, _<_}
 use native.Mathlib.Numerals.{add-one}
 use native.Mathlib.Omega.{arith}

@@ -1,4 +1,4 @@
--- `controller::read::number_at` meets its contract. Two bytes are the high one times 256 and the low one. Assumes nothing.
+-- `state_bytes::read::number_at` meets its contract. Two bytes are the high one times 256 and the low one. Assumes nothing.
 use Prim.Native.Nat.{_+_, _<_}
 use native.Mathlib.Omega.{arith}
 use lib.ListN.{getD}

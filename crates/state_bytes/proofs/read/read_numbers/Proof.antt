@@ -1,4 +1,4 @@
--- `controller::read::read_numbers` meets its contract. The loop's invariant: the first i numbers are filled. Assumes nothing.
+-- `state_bytes::read::read_numbers` meets its contract. The loop's invariant: the first i numbers are filled. Assumes nothing.
 use Prim.Native.Nat.{ℕ, _+_, _*_, _-_}
 use native.Mathlib.Omega.{arith}
 use mathlib.Core.Path.{refl}

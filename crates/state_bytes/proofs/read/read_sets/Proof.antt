@@ -1,4 +1,4 @@
--- `controller::read::read_sets` meets its contract. The loop's invariant: the first n sets are filled. Assumes nothing.
+-- `state_bytes::read::read_sets` meets its contract. The loop's invariant: the first n sets are filled. Assumes nothing.
 use Prim.Native.Nat.{_-_}
 use native.Mathlib.Omega.{arith}
 use Rattle.state_bytes.specs.Layout.{setAt}

@@ -1,4 +1,4 @@
--- `controller::read::read_threads` meets its contract. The loop's invariant: the first t states are filled. Assumes nothing.
+-- `state_bytes::read::read_threads` meets its contract. The loop's invariant: the first t states are filled. Assumes nothing.
 use Prim.Native.Nat.{_-_}
 use native.Mathlib.Omega.{arith}
 use mathlib.Core.Path.{refl}

@@ -1,4 +1,4 @@
--- `controller::read::set_at` meets its contract. Each word lies eight bytes after the one before it. Assumes nothing.
+-- `state_bytes::read::set_at` meets its contract. Each word lies eight bytes after the one before it. Assumes nothing.
 use Prim.Native.Nat.{ℕ, _+_, _*_}
 use native.Mathlib.Omega.{arith}
 use mathlib.Core.Path.{_≡_}

@@ -1,4 +1,4 @@
--- `controller::read::thread_at` meets its contract. Its fields lie one after the other. Assumes nothing.
+-- `state_bytes::read::thread_at` meets its contract. Its fields lie one after the other. Assumes nothing.
 use Prim.Native.Nat.{ℕ, _+_, _*_}
 use native.Mathlib.Omega.{arith}
 use mathlib.Core.Path.{_≡_, _∙_}

@@ -1,4 +1,4 @@
--- `controller::read::thread_of` meets its contract. Each state's number is tested once. Assumes nothing.
+-- `state_bytes::read::thread_of` meets its contract. Each state's number is tested once. Assumes nothing.
 use borrow.Author.Tests.{ne-eqb}
 use Rattle.state_bytes.specs.Layout.{threadOf}
 use Rattle.state_bytes.proofs.read.thread_of.Statement.{statement}

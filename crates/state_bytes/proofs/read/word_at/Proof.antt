@@ -1,4 +1,4 @@
--- `controller::read::word_at` meets its contract. The loop's invariant: n is the number of the first i bytes, and below 256 ^ i. Assumes nothing.
+-- `state_bytes::read::word_at` meets its contract. The loop's invariant: n is the number of the first i bytes, and below 256 ^ i. Assumes nothing.
 use Prim.Native.Nat.{_+_, _-_, _^_, _≤_, _<_}
 use native.Mathlib.Omega.{arith}
 use mathlib.Core.Path.{_≡_, sym}

@@ -1,4 +1,4 @@
--- `controller::write::parts_of` meets its contract: each state has its number. Assumes nothing.
+-- `state_bytes::write::parts_of` meets its contract: each state has its number. Assumes nothing.
 use borrow.Author.Needs.{needs}
 use mathlib.Core.Path.{ap}
 use Rattle.state_bytes.specs.Layout.{threadBytes}

@@ -1,4 +1,4 @@
--- `controller::write::put_number` meets its contract. The loop's invariant: the bytes from k on are put. Assumes nothing.
+-- `state_bytes::write::put_number` meets its contract. The loop's invariant: the bytes from k on are put. Assumes nothing.
 use native.Mathlib.Omega.{arith}
 use Rattle.state_bytes.proofs.Paste.{PutBytes, bytes-none, bytes-more, bytes-all, bytes-put-length}
 use Rattle.state_bytes.proofs.write.put_number.Statement.{statement}

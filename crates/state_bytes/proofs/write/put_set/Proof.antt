@@ -1,4 +1,4 @@
--- `controller::write::put_set` meets its contract: three words, one after the other. Assumes nothing.
+-- `state_bytes::write::put_set` meets its contract: three words, one after the other. Assumes nothing.
 use Prim.Native.Nat.{ℕ, _+_}
 use native.Mathlib.Omega.{arith}
 use mathlib.Core.Path.{ap, sym, _∙_}

@@ -1,4 +1,4 @@
--- `controller::write::put_thread` meets its contract: three bytes and a number, one after the other. Assumes nothing.
+-- `state_bytes::write::put_thread` meets its contract: three bytes and a number, one after the other. Assumes nothing.
 use native.Mathlib.Omega.{arith}
 use lib.ListN.{length-set}
 use Prim.Native.Nat.{ℕ}

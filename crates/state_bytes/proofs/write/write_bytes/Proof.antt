@@ -1,4 +1,4 @@
--- `controller::write::write_bytes` meets its contract. The loop's invariant: the first i bytes are put. Assumes nothing.
+-- `state_bytes::write::write_bytes` meets its contract. The loop's invariant: the first i bytes are put. Assumes nothing.
 use Prim.Native.Nat.{ℕ, _+_, _-_}
 use native.Mathlib.Omega.{arith}
 use lib.ListN.{length, getD}

@@ -1,4 +1,4 @@
--- `controller::write::write_head` meets its contract: seven fields, one after the other. Assumes nothing.
+-- `state_bytes::write::write_head` meets its contract: seven fields, one after the other. Assumes nothing.
 use native.Mathlib.Omega.{arith}
 use mathlib.Core.Path.{refl}
 use mathlib.Core.List.{_++_}

@@ -1,8 +1,9 @@
--- `controller::write::write_sets` meets its contract. The loop's invariant: the first i sets are put. Assumes nothing.
+-- `state_bytes::write::write_sets` meets its contract. The loop's invariant: the first i sets are put. Assumes nothing.
 use Prim.Native.Nat.{ℕ, _+_, _*_, _-_}
 use native.Mathlib.Omega.{arith}
 use lib.ListN.{length, getD}
-use Rattle.state_bytes.proofs.Paste.{PutFields, fields-none, fields-put, fields-all, fields-put-length, set-bytes-length}
+use Rattle.state_bytes.proofs.StateParts.{set-length}
+use Rattle.state_bytes.proofs.Paste.{PutFields, fields-none, fields-put, fields-all, fields-put-length}
 use mathlib.Core.List.{[]}
 use Rattle.node_set.specs.Members.{member}
 use Rattle.state_bytes.specs.Layout.{setBytes}
@@ -44,7 +45,7 @@ loop-again c =
     let called = c .before .before in
     let pass = called .before .before .before .before .loop in
     let args = called .before .before .before .before .before .before .args in
-    fields-put (pass .inv) (args .at + 24 * pass .i) (omega arith) (omega arith) (set-bytes-length (member (getD (args .from .now) (pass .i) []))) (called .put-set .ensures)
+    fields-put (pass .inv) (args .at + 24 * pass .i) (omega arith) (omega arith) (set-length (member (getD (args .from .now) (pass .i) []))) (called .put-set .ensures)
 
 same-length : tie.Need-same-length Inv-loop μ-loop
 same-length c = fields-put-length (c .before .loop .inv)

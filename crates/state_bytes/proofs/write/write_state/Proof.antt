@@ -1,12 +1,13 @@
--- `controller::write::write_state` meets its contract: the head, five arrays and the threads, one after the other, are all state bytes. Assumes nothing.
+-- `state_bytes::write::write_state` meets its contract: the head, five arrays and the threads, one after the other, are all state bytes. Assumes nothing.
 use native.Mathlib.Omega.{arith}
 use mathlib.Core.Path.{_≡_, refl, sym, _∙_}
 use lib.ListN.{length, getD}
 use mathlib.Core.Bool.{false}
 use Rattle.state_bytes.specs.Layout.{stateLength}
 use Rattle.state_bytes.specs.Pasted.{headOf}
+use Rattle.state_bytes.proofs.StateParts.{flag-length, set-length, thread-length}
 use Rattle.state_bytes.proofs.Bytes.{bytes-length}
-use Rattle.state_bytes.proofs.Paste.{put-none, put-more, put-fields, put-whole, head-length, flag-byte-length, set-bytes-length, thread-bytes-length, shown-bytes}
+use Rattle.state_bytes.proofs.Paste.{put-none, put-more, put-fields, put-whole, head-length, shown-bytes}
 use borrow.Author.Needs.{needs}
 use Rattle.state_bytes.proofs.write.write_state.Statement.{statement}
 use Rattle.state_bytes.proofs.write.write_state.Tie as tie
@@ -97,10 +98,10 @@ returns c o s h i =
     let one = put-more (put-none 0 (args .state .now)) (headOf (args .settings) (args .counters)) 0 11 refl (head-length _ _) (called1 .write-head .ensures) in
     let two = put-fields one 1 151 _ (λ n. bytes-length 1 _) (called2 .before .write-bytes-arg2 .given .0) (called2 .write-bytes .ensures) in
     let three = put-fields two 2 151 _ (λ n. bytes-length 2 _) (called3 .before .write-numbers-arg2 .given .0) (called3 .write-numbers .ensures) in
-    let four = put-fields three 1 151 _ (λ n. flag-byte-length (getD (args .executing .now) n false)) (called4 .before .write-flags-arg2 .given .0) (called4 .write-flags .ensures) in
-    let five = put-fields four 1 151 _ (λ n. flag-byte-length (getD (args .locked .now) n false)) (called5 .before .write-flags-arg4 .given .0) (called5 .write-flags2 .ensures) in
-    let six = put-fields five 24 151 _ (λ n. set-bytes-length _) (called6 .before .write-sets-arg2 .given .0) (called6 .write-sets .ensures) in
-    let seven = put-fields six 5 65 _ (λ n. thread-bytes-length _) refl (called7 .write-threads .ensures) in
+    let four = put-fields three 1 151 _ (λ n. flag-length (getD (args .executing .now) n false)) (called4 .before .write-flags-arg2 .given .0) (called4 .write-flags .ensures) in
+    let five = put-fields four 1 151 _ (λ n. flag-length (getD (args .locked .now) n false)) (called5 .before .write-flags-arg4 .given .0) (called5 .write-flags2 .ensures) in
+    let six = put-fields five 24 151 _ (λ n. set-length _) (called6 .before .write-sets-arg2 .given .0) (called6 .write-sets .ensures) in
+    let seven = put-fields six 5 65 _ (λ n. thread-length _) refl (called7 .write-threads .ensures) in
     put-whole seven refl (entry7 called7 .pre) ∙ sym (shown-bytes o s (args .settings) (args .counters) _ _ _ _ _ _ h i)
 
 pub write-state-spec : {M : Type 1} → statement M

@@ -1,8 +1,9 @@
--- `controller::write::write_threads` meets its contract. The loop's invariant: the first t threads are put. Assumes nothing.
+-- `state_bytes::write::write_threads` meets its contract. The loop's invariant: the first t threads are put. Assumes nothing.
 use Prim.Native.Nat.{ℕ, _+_, _*_, _-_}
 use native.Mathlib.Omega.{arith}
 use lib.ListN.{getD}
-use Rattle.state_bytes.proofs.Paste.{PutFields, fields-none, fields-put, fields-all, fields-put-length, thread-bytes-length}
+use Rattle.state_bytes.proofs.StateParts.{thread-length}
+use Rattle.state_bytes.proofs.Paste.{PutFields, fields-none, fields-put, fields-all, fields-put-length}
 use Rattle.model.specs.declared.Thread.the-variants.{Idle}
 use Rattle.state_bytes.specs.Layout.{threadBytes}
 use Rattle.state_bytes.proofs.write.write_threads.Statement.{statement}
@@ -43,7 +44,7 @@ loop-again c =
     let called = c .before .before in
     let pass = called .before .before .before .before .loop in
     let args = called .before .before .before .before .before .before .args in
-    fields-put (pass .inv) (args .at + 5 * pass .t) (omega arith) (omega arith) (thread-bytes-length (getD (args .t3) (pass .t) Idle)) (called .put-thread .ensures)
+    fields-put (pass .inv) (args .at + 5 * pass .t) (omega arith) (omega arith) (thread-length (getD (args .t3) (pass .t) Idle)) (called .put-thread .ensures)
 
 same-length : tie.Need-same-length Inv-loop μ-loop
 same-length c = fields-put-length (c .before .loop .inv)

@@ -1,4 +1,4 @@
--- `graph::loader_thread::load_next` meets its contract: each way to a wait is one on which the model's loader waits, and else the stores
+-- `threads::loader_thread::load_next` meets its contract: each way to a wait is one on which the model's loader waits, and else the stores
 -- are the model's load. Assumes nothing.
 use mathlib.Core.Path.{refl}
 use mathlib.Core.Bool.{true, false}

@@ -1,4 +1,4 @@
--- `graph::loader_thread::loader_step` meets its contract, by the loader's state. Assumes nothing.
+-- `threads::loader_thread::loader_step` meets its contract, by the loader's state. Assumes nothing.
 use borrow.Author.Needs.{needs}
 use Rattle.threads.proofs.LoaderSteps.{worker-state-waits, walk-steps}
 use Rattle.threads.proofs.Readiness.{from-known, ready-beside}

@@ -1,4 +1,4 @@
--- `graph::worker_thread::clear_own` meets its contract: `clear` makes the thread idle exactly where it returns the node, whose command is
+-- `threads::worker_thread::clear_own` meets its contract: `clear` makes the thread idle exactly where it returns the node, whose command is
 -- then forgotten. Assumes nothing.
 use mathlib.Core.Option.{none}
 use borrow.Author.Needs.{needs}

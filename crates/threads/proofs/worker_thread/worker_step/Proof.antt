@@ -1,4 +1,4 @@
--- `graph::worker_thread::worker_step` meets its contract, by the worker's state. Assumes nothing.
+-- `threads::worker_thread::worker_step` meets its contract, by the worker's state. Assumes nothing.
 use Prim.Native.Nat.{_≤_}
 use mathlib.Core.Path.{sym, _∙_}
 use native.Mathlib.Omega.{arith}

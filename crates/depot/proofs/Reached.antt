@@ -1,0 +1,114 @@
+-- What the program prints is what the model's steps reach: an accepted opening leaves the opening state's lists, the call on them performs
+-- the schedule, and what is read of the lists left is the state reached. Assumes nothing.
+use Prim.Native.Nat.{ℕ, suc, _+_}
+use native.Mathlib.Omega.{arith}
+use mathlib.Core.Path.{_≡_, refl, ap, ap₂, _∙_}
+use mathlib.Core.Bool.{true}
+use mathlib.Core.List.{List, _++_, append-assoc}
+use lib.ListN.{length, getD, take}
+use Rattle.s10.specs.Text.{isWellFormed, checkDigit, keyOf}
+use Rattle.s10.specs.Outcome.{readText}
+use Rattle.command.specs.Read.{firstRefusal, readings, commandFrom, commandsIn}
+use Rattle.command.specs.Dependent.{areDependent}
+use Rattle.node_set.specs.Members.{noneBelow}
+use Rattle.model.specs.Store.{Store, layOut, lookUp, insert}
+use Rattle.model.specs.Serial.{Entry, serialAnswers}
+use Rattle.model.specs.Proof.Service.{serial-length}
+use Rattle.model.specs.Proof.Theorem.{all-serial, none-linked, demand-3}
+use Rattle.model.specs.Statement.{allWithin, serialAnswer}
+use Rattle.model.specs.Step.{Setup, State, upd, opened, steps, chainFrom}
+use Rattle.model.specs.Cases as Cases
+use Rattle.state_bytes.specs.Bytes.{numberAt, tabulate, fields}
+use Rattle.state_bytes.specs.Layout.{listsOf, stateIn, stateLength, lengthsFit}
+use Rattle.controller.specs.Calls.{accepted, openedWith, openOn}
+use Rattle.state_bytes.proofs.RoundTrip.{lists-answers}
+use Rattle.state_bytes.proofs.Bytes.{tabulate-is}
+use Rattle.controller.proofs.AcceptedOpening.{accepted-opening}
+use Rattle.controller.proofs.Demand3.{opening-performs}
+use Rattle.depot.specs.Text.{ascii}
+use Rattle.depot.specs.Program.{newline, decimalWithin, decimal, zeros, commandLine, commandLines, totals, report, printed, advanced, performed}
+use Rattle.depot.specs.Reached.{countOf, commandsOf, scheduleOf, setupOf, reached, Passes, PrintsReached, PrintsSerial, Example}
+use Rattle.depot.proofs.Chain.{chain-ends}
+use Rattle.depot.proofs.Output.{output-performed}
+
+-- the lines of lists that are read as their state
+report-of : (commands : List ℕ) (o : Setup) (s : State) → stateIn (listsOf o s) ≡ s
+    → report commands (listsOf o s) ≡ commandLines commands (tabulate (length (o .commands)) (λ i. s .answers (suc i))) ++ totals s
+unfolding report
+report-of commands o s e = ap (λ (t : State). commandLines commands (listsOf o s .answers) ++ totals t) e ∙ ap (λ (a : List ℕ). commandLines commands a ++ totals s) (lists-answers o s)
+
+-- the calls, one after the other
+pub prints-reached : PrintsReached
+unfolding performed advanced printed
+prints-reached input p =
+    let left = opening-performs (getD input 0 0) (getD input 1 0) (numberAt 2 2 input) (commandsOf input) _ (p .lists) (p .opens) (scheduleOf input) (p .named) in
+    output-performed input (p .short) (omega (arith, p .whole)) (p .whole) ∙ rw (p .opens, left .0) (report-of (commandsOf input) (setupOf input) (reached input) (left .1))
+
+-- ---- the serial run's lines
+
+-- the last line of a state whose chain is empty
+decimal-zero : decimal 0 ≡ ascii "0"
+unfolding decimal decimalWithin
+decimal-zero = refl
+
+empty-chain : (s : State) (n : ℕ) → s .next 0 ≡ 0 → s .store .used ≡ n → totals s ≡ ascii "store " ++ decimal n ++ ascii " chain 0\n"
+unfolding totals
+empty-chain s n none used =
+    rw (chain-ends 150 0 s none, used, decimal-zero, append-assoc (ascii "store " ++ decimal n ++ ascii " chain ") (ascii "0") newline)
+    (append-assoc (ascii "store " ++ decimal n) (ascii " chain ") (ascii "0\n"))
+
+-- the serial run's answer at a place
+serial-at : (o : Setup) (i : ℕ) → serialAnswer o (suc i) ≡ getD (serialAnswers (o .capacity) (o .commands)) i 0
+unfolding serialAnswer
+serial-at o i = refl
+
+-- and its entries are those in use
+laid-used : (capacity : ℕ) (es : List Entry) → layOut capacity es .used ≡ length es
+unfolding layOut
+laid-used capacity es = refl
+
+-- where every command is removed, the model's theorem gives the answers, the table and the empty chain
+pub prints-serial : PrintsSerial
+prints-serial input p all =
+    let o = setupOf input in
+    let accepted = accepted-opening (getD input 0 0) (getD input 1 0) (numberAt 2 2 input) (commandsOf input) _ (p .lists) (p .opens) .setup in
+    let answers = tabulate-is (length (o .commands)) (λ i. reached input .answers (suc i)) (serialAnswers (o .capacity) (o .commands)) 0
+    (serial-length (o .capacity) (o .commands)) (λ i h. all-serial o accepted (scheduleOf input) (p .named) all (suc i) (omega arith) (omega arith) ∙ serial-at o i) in
+    let table = demand-3 o accepted (scheduleOf input) (p .named) .table all .1 in
+    prints-reached input p ∙ ap₂ (λ (a t : List ℕ). commandLines (commandsOf input) a ++ t) answers
+    (empty-chain (reached input) _ (none-linked o accepted (scheduleOf input) (p .named) all) (ap (λ (st : Store). st .used) table ∙ laid-used _ _))
+
+-- ---- the document's example
+
+-- the input stopped after n turns
+abbrev stopped : ℕ → List ℕ
+stopped n = take (38 + n) Cases.input
+
+-- it passes the tests that are no inequalities, whatever n
+abbrev Accepts : List ℕ → Type 0
+Accepts input =
+    (openOn (getD input 0 0) (getD input 1 0) (numberAt 2 2 input) (commandsOf input) (zeros (numberAt 2 2 input) (countOf input))
+    ≡ accepted (listsOf (setupOf input) (opened (setupOf input))))
+    × (allWithin (getD input 1 0) (scheduleOf input) ≡ true)
+
+accepts-20 : Accepts (stopped 20)
+unfolding Cases.input numberAt openOn openedWith firstRefusal readings readText isWellFormed checkDigit keyOf zeros lengthsFit stateLength allWithin
+accepts-20 = (refl, refl)
+
+accepts-9 : Accepts (stopped 9)
+unfolding Cases.input numberAt openOn openedWith firstRefusal readings readText isWellFormed checkDigit keyOf zeros lengthsFit stateLength allWithin
+accepts-9 = (refl, refl)
+
+-- and the others
+whole-passes : Passes Cases.input
+unfolding Cases.input numberAt
+whole-passes = record { short = omega arith; whole = omega arith; lists = _; opens = accepts-20 .0; named = accepts-20 .1 }
+
+stopped-passes : Passes (stopped 9)
+unfolding Cases.input numberAt
+stopped-passes = record { short = omega arith; whole = omega arith; lists = _; opens = accepts-9 .0; named = accepts-9 .1 }
+
+-- what the state reached prints, by computation
+pub example : Example
+unfolding Cases.input numberAt steps opened upd noneBelow lookUp insert areDependent readings readText isWellFormed checkDigit keyOf commandsIn commandFrom tabulate fields commandLines commandLine decimal decimalWithin totals chainFrom
+example = record { k = prints-reached Cases.input whole-passes; l = prints-reached (take 47 Cases.input) stopped-passes }

