@@ -276,12 +276,14 @@ pub fn state_fits(state: &[u8], keys: &[u64]) -> bool
 pub fn threads_named(schedule: &[u8], workers: u8) -> bool
     ensures { λ r. ⌜ r ≡ allWithin workers (now (schedule .entry)) ⌝ }
 {
+    let mut largest = 0u8;
     let mut i = 0;
     while i < schedule.len() {
-        if schedule[i] > workers {
-            return false;
+        let t = schedule[i];
+        if t > largest {
+            largest = t;
         }
         i += 1;
     }
-    true
+    largest <= workers
 }
