@@ -24,7 +24,7 @@ use Rattle.state_bytes.proofs.Bytes.{below-or-past, tabulate-at, tabulate-past}
 use Rattle.state_bytes.proofs.Fill.{number-one}
 use Rattle.state_bytes.proofs.StateParts.{no-member}
 use Rattle.state_bytes.proofs.Tested.{each-passed}
-use Rattle.state_bytes.proofs.HandedBack.{Long, InRange}
+use Rattle.state_bytes.proofs.Passed.{Long, InRange}
 use Rattle.controller.proofs.Performing.{threadsOf, within-higher}
 
 -- ---- what is read

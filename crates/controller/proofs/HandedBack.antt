@@ -24,7 +24,7 @@ use Rattle.state_bytes.proofs.RoundTrip.{lists-state, lists-answers, lists-keys
 use Rattle.graph.proofs.Commands.{commands-length}
 use Rattle.state_bytes.proofs.Tested.{each-passed}
 use Rattle.state_bytes.proofs.Paste.{word-again}
-use Rattle.state_bytes.proofs.HandedBack.{Long, InRange, lengths-passed, state-passed}
+use Rattle.state_bytes.proofs.Passed.{Long, InRange, lengths-passed, state-passed}
 use Rattle.controller.proofs.Performing.{same-lists}
 
 -- ---- a thread's parts

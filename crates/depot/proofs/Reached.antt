@@ -26,8 +26,8 @@ use Rattle.state_bytes.proofs.Bytes.{tabulate-is}
 use Rattle.controller.proofs.AcceptedOpening.{accepted-opening}
 use Rattle.controller.proofs.Demand3.{opening-performs}
 use Rattle.depot.specs.Text.{ascii}
-use Rattle.depot.specs.Program.{newline, decimalWithin, decimal, zeros, commandLine, commandLines, totals, report, printed, advanced, performed}
-use Rattle.depot.specs.Reached.{countOf, commandsOf, scheduleOf, setupOf, reached, Passes, PrintsReached, PrintsSerial, Example}
+use Rattle.depot.specs.Program.{newline, decimalWithin, decimal, zeros, commandLine, commandLines, totals, report, printed, advanced, sizeOf, workersOf, capacityOf, commandsOf, scheduleOf, opening, performed}
+use Rattle.depot.specs.Reached.{setupOf, reached, Passes, PrintsReached, PrintsSerial, Example}
 use Rattle.depot.proofs.Chain.{chain-ends}
 use Rattle.depot.proofs.Output.{output-performed}
 
@@ -41,7 +41,7 @@ report-of commands o s e = ap (λ (t : State). commandLines commands (listsOf o 
 pub prints-reached : PrintsReached
 unfolding performed advanced printed
 prints-reached input p =
-    let left = opening-performs (getD input 0 0) (getD input 1 0) (numberAt 2 2 input) (commandsOf input) _ (p .lists) (p .opens) (scheduleOf input) (p .named) in
+    let left = opening-performs (sizeOf input) (workersOf input) (capacityOf input) (commandsOf input) _ (p .lists) (p .opens) (scheduleOf input) (p .named) in
     output-performed input (p .short) (omega (arith, p .whole)) (p .whole) ∙ rw (p .opens, left .0) (report-of (commandsOf input) (setupOf input) (reached input) (left .1))
 
 -- ---- the serial run's lines
@@ -71,7 +71,7 @@ laid-used capacity es = refl
 pub prints-serial : PrintsSerial
 prints-serial input p all =
     let o = setupOf input in
-    let accepted = accepted-opening (getD input 0 0) (getD input 1 0) (numberAt 2 2 input) (commandsOf input) _ (p .lists) (p .opens) .setup in
+    let accepted = accepted-opening (sizeOf input) (workersOf input) (capacityOf input) (commandsOf input) _ (p .lists) (p .opens) .setup in
     let answers = tabulate-is (length (o .commands)) (λ i. reached input .answers (suc i)) (serialAnswers (o .capacity) (o .commands)) 0
     (serial-length (o .capacity) (o .commands)) (λ i h. all-serial o accepted (scheduleOf input) (p .named) all (suc i) (omega arith) (omega arith) ∙ serial-at o i) in
     let table = demand-3 o accepted (scheduleOf input) (p .named) .table all .1 in
@@ -87,9 +87,7 @@ stopped n = take (38 + n) Cases.input
 -- it passes the tests that are no inequalities, whatever n
 abbrev Accepts : List ℕ → Type 0
 Accepts input =
-    (openOn (getD input 0 0) (getD input 1 0) (numberAt 2 2 input) (commandsOf input) (zeros (numberAt 2 2 input) (countOf input))
-    ≡ accepted (listsOf (setupOf input) (opened (setupOf input))))
-    × (allWithin (getD input 1 0) (scheduleOf input) ≡ true)
+    (opening input ≡ accepted (listsOf (setupOf input) (opened (setupOf input)))) × (allWithin (workersOf input) (scheduleOf input) ≡ true)
 
 accepts-20 : Accepts (stopped 20)
 unfolding Cases.input numberAt openOn openedWith firstRefusal readings readText isWellFormed checkDigit keyOf zeros lengthsFit stateLength allWithin

@@ -77,17 +77,34 @@ zeros capacity count = lists (replicate stateLength 0) (replicate capacity 0) (r
 -- ---- the program
 
 -- "graph size (1 byte), workers (1), room (2, high first), command count (2, high first), the commands, then a dealing to the end"
+abbrev pub sizeOf : List ℕ → ℕ
+sizeOf input = getD input 0 0
+
+abbrev pub workersOf : List ℕ → ℕ
+workersOf input = getD input 1 0
+
+abbrev pub capacityOf : List ℕ → ℕ
+capacityOf input = numberAt 2 2 input
+
+abbrev pub countOf : List ℕ → ℕ
+countOf input = numberAt 2 4 input
+
+abbrev pub commandsOf : List ℕ → List ℕ
+commandsOf input = take (16 * countOf input) (drop 6 input)
+
+abbrev pub scheduleOf : List ℕ → List ℕ
+scheduleOf input = drop (6 + 16 * countOf input) input
+
+-- what opening answers, in lists of its own
+abbrev pub opening : List ℕ → Outcome
+opening input = openOn (sizeOf input) (workersOf input) (capacityOf input) (commandsOf input) (zeros (capacityOf input) (countOf input))
+
 unfoldable pub performed : List ℕ → List ℕ
-performed input =
-    let capacity : ℕ = numberAt 2 2 input in
-    let count : ℕ = numberAt 2 4 input in
-    let commands : List ℕ = take (16 * count) (drop 6 input) in
-    let schedule : List ℕ = drop (6 + 16 * count) input in
-    printed (advanced commands schedule) (openOn (getD input 0 0) (getD input 1 0) capacity commands (zeros capacity count))
+performed input = printed (advanced (commandsOf input) (scheduleOf input)) (opening input)
 
 -- "Input over 65,536 bytes is refused 5, before any other test. Next, input of fewer than 6 bytes, or ending before the end of the last
 -- counted command, is refused 4. Then come opening's tests, and last 11."
 unfoldable pub output : List ℕ → List ℕ
 output input =
     cond (ltb 65536 (length input)) (refusal 5)
-    (cond (ltb (length input) 6 || ltb (length input) (6 + 16 * numberAt 2 4 input)) (refusal 4) (performed input))
+    (cond (ltb (length input) 6 || ltb (length input) (6 + 16 * countOf input)) (refusal 4) (performed input))

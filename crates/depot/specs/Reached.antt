@@ -5,30 +5,21 @@ use Prim.Native.Nat.{ℕ, suc, _+_, _*_, _≤_}
 use mathlib.Core.Path.{_≡_}
 use mathlib.Core.Bool.{true}
 use mathlib.Core.List.{List, _++_}
-use lib.ListN.{length, getD, take, drop}
+use lib.ListN.{length, take}
 use Rattle.command.specs.Read.{commandsIn}
 use Rattle.model.specs.Step.{Setup, State, opened, steps}
 use Rattle.model.specs.Serial.{serialAnswers, serialEntries}
 use Rattle.model.specs.Statement.{allWithin, removed, EachCommand}
 use Rattle.model.specs.Cases as Cases
-use Rattle.state_bytes.specs.Bytes.{numberAt, tabulate}
+use Rattle.state_bytes.specs.Bytes.{tabulate}
 use Rattle.state_bytes.specs.Layout.{Lists}
-use Rattle.controller.specs.Calls.{openOn, accepted}
+use Rattle.controller.specs.Calls.{accepted}
 use Rattle.depot.specs.Text.{ascii}
-use Rattle.depot.specs.Program.{decimal, zeros, commandLines, totals, output}
+use Rattle.depot.specs.Program.{decimal, commandLines, totals, sizeOf, workersOf, capacityOf, countOf, commandsOf, scheduleOf, opening, output}
 
--- the parts of an input
-abbrev pub countOf : List ℕ → ℕ
-countOf input = numberAt 2 4 input
-
-abbrev pub commandsOf : List ℕ → List ℕ
-commandsOf input = take (16 * countOf input) (drop 6 input)
-
-abbrev pub scheduleOf : List ℕ → List ℕ
-scheduleOf input = drop (6 + 16 * countOf input) input
-
+-- the setup of an input
 abbrev pub setupOf : List ℕ → Setup
-setupOf input = record { size = getD input 0 0; workers = getD input 1 0; capacity = numberAt 2 2 input; commands = commandsIn (commandsOf input) }
+setupOf input = record { size = sizeOf input; workers = workersOf input; capacity = capacityOf input; commands = commandsIn (commandsOf input) }
 
 -- the state that the schedule reaches from the opening
 abbrev pub reached : List ℕ → State
@@ -39,8 +30,8 @@ pub record Passes (input : List ℕ) : Type 0 where
   pub short : length input ≤ 65536
   pub whole : 6 + 16 * countOf input ≤ length input
   pub lists : Lists
-  pub opens : openOn (getD input 0 0) (getD input 1 0) (numberAt 2 2 input) (commandsOf input) (zeros (numberAt 2 2 input) (countOf input)) ≡ accepted lists
-  pub named : allWithin (getD input 1 0) (scheduleOf input) ≡ true
+  pub opens : opening input ≡ accepted lists
+  pub named : allWithin (workersOf input) (scheduleOf input) ≡ true
 
 -- its lines are those of the state reached
 abbrev pub PrintsReached : Type 0
@@ -53,8 +44,8 @@ PrintsReached =
 abbrev pub PrintsSerial : Type 0
 PrintsSerial =
     (input : List ℕ) → Passes input → EachCommand (setupOf input) (λ c. removed (setupOf input) c (scheduleOf input) (opened (setupOf input)) ≡ true)
-    → output input ≡ commandLines (commandsOf input) (serialAnswers (numberAt 2 2 input) (commandsIn (commandsOf input)))
-    ++ (ascii "store " ++ decimal (length (serialEntries (numberAt 2 2 input) (commandsIn (commandsOf input)))) ++ ascii " chain 0\n")
+    → output input ≡ commandLines (commandsOf input) (serialAnswers (capacityOf input) (commandsIn (commandsOf input)))
+    ++ (ascii "store " ++ decimal (length (serialEntries (capacityOf input) (commandsIn (commandsOf input)))) ++ ascii " chain 0\n")
 
 -- "Output, whole", and "(l) the same stopped after 9 turns: answers 1000 and 0, store 1, chain 2"
 pub record Example : Type 0 where

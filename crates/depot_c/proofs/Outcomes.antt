@@ -21,7 +21,7 @@ use Rattle.depot_c.specs.Numbers.{numbersIn, bytesIn}
 use Rattle.depot_c.specs.Boundary.{areWhole, entries, decoded, encoded, answerOf, left}
 use Rattle.state_bytes.proofs.Bytes.{Bytes}
 use Rattle.state_bytes.proofs.Tested.{each-passed}
-use Rattle.state_bytes.proofs.HandedBack.{InRange, state-passed}
+use Rattle.state_bytes.proofs.Passed.{InRange, state-passed}
 use Rattle.depot_c.proofs.Entries.{numbers-length, numbers-read-back}
 
 -- ---- tests

@@ -11,7 +11,7 @@ use borrow.Author.Tests.{eq-eqb, ne-eqb, eqb-true}
 use denote.Enum.Declared.{tagOf}
 use types.Run.{OneOf}
 use Rattle.state_bytes.specs.Layout.{Lists, stateLength, handedBackFit, stateFits}
-use Rattle.state_bytes.proofs.HandedBack.{lengths-passed}
+use Rattle.state_bytes.proofs.Passed.{lengths-passed}
 use Rattle.panel.specs.declared.Report.{Report}
 use Rattle.panel.proofs.Report.{the-type}
 use Rattle.panel.specs.declared.Report.the-variants.{Reported, WrongLength, WrongState}

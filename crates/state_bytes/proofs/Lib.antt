@@ -5,4 +5,4 @@ pub mod Fill
 pub mod Paste
 pub mod Below
 pub mod Tested
-pub mod HandedBack
+pub mod Passed

@@ -272,7 +272,8 @@ pub fn state_fits(state: &[u8], keys: &[u64]) -> bool
     keys_ascend(keys, used)
 }
 
-// Refusal 11: whether every byte of a schedule names a thread up to the worker count.
+// Refusal 11: whether every byte of a schedule names a thread up to the worker count. The largest byte decides: a loop with one way out is
+// compiled to take many bytes at a time.
 pub fn threads_named(schedule: &[u8], workers: u8) -> bool
     ensures { λ r. ⌜ r ≡ allWithin workers (now (schedule .entry)) ⌝ }
 {

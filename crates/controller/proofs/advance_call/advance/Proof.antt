@@ -10,7 +10,7 @@ use borrow.Author.Tests.{not-true, not-false}
 use Rattle.model.specs.Statement.{allWithin}
 use Rattle.state_bytes.specs.Layout.{Lists, lists, stateLength, setupIn, stateFits, handedBackFit}
 use Rattle.controller.specs.Performed.{Passes}
-use Rattle.state_bytes.proofs.HandedBack as HandedBack
+use Rattle.state_bytes.proofs.Passed as Passed
 use Rattle.controller.proofs.Handed.{workers-in}
 use Rattle.controller.proofs.Advancing.{refuses-lengths, refuses-state, refuses-thread, accepts, refused-so, accepted-so}
 use borrow.Author.Needs.{needs}
@@ -48,7 +48,7 @@ lengths-passed : (c : tie.Else1) → handedBackFit (given (entry1 (c .before))) 
 lengths-passed c = lengths-is (c .before) ∙ not-false _ (c .if1 .left)
 
 long : (c : tie.Else1) → length (entry1 (c .before) .args .state .now) ≡ stateLength
-long c = HandedBack.lengths-passed (given (entry1 (c .before))) (commandsOf (entry1 (c .before))) (lengths-passed c) .state
+long c = Passed.lengths-passed (given (entry1 (c .before))) (commandsOf (entry1 (c .before))) (lengths-passed c) .state
 
 state-passed : (c : tie.Else2) → stateFits (given (entry2 (c .before))) ≡ true
 state-passed c = state-is (c .before) ∙ not-false _ (c .if2 .left)

@@ -8,7 +8,7 @@ use lib.ListN.{length}
 use Rattle.model.specs.Step.{State, steps}
 use Rattle.model.specs.declared.Counters.{Counters}
 use Rattle.state_bytes.specs.Layout.{Lists, lists, listsOf, setupIn, stateLength}
-use Rattle.state_bytes.proofs.HandedBack.{Long, InRange, lengths-passed, state-passed}
+use Rattle.state_bytes.proofs.Passed.{Long, InRange, lengths-passed, state-passed}
 use Rattle.controller.proofs.Handed.{ReadOut, fit-count, fit-named, fit-capacity, fit-commands, read-shows, read-placed, read-ready, read-within, zeros}
 use borrow.Author.Needs.{needs}
 use Rattle.controller.proofs.advance_call.run.Statement.{statement}

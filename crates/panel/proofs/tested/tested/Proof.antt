@@ -7,7 +7,7 @@ use mathlib.Core.Bool.{true}
 use mathlib.Core.List.{List}
 use lib.ListN.{length, replicate, length-replicate}
 use Rattle.state_bytes.specs.Layout.{Lists, lists, handedBackFit}
-use Rattle.state_bytes.proofs.HandedBack as HandedBack
+use Rattle.state_bytes.proofs.Passed as Passed
 use Rattle.panel.proofs.Reporting.{refuses-lengths, refuses-report, refuses-state, reports}
 use Rattle.panel.proofs.tested.tested.Statement.{statement}
 use Rattle.panel.proofs.tested.tested.Tie as tie
@@ -64,7 +64,7 @@ returns-2 c l list state keys chutes answers commands = refuses-report l list _ 
 state-fits-requires : tie.Need-state-fits-requires
 state-fits-requires c κs =
     let start = entry1 (c .before .before) in
-    HandedBack.lengths-passed (someLists start) (someCommands start) (lengths-passed (c .before) (some-given start)) .state
+    Passed.lengths-passed (someLists start) (someCommands start) (lengths-passed (c .before) (some-given start)) .state
 
 returns-3 : tie.Need-returns-3
 returns-3 c l list state keys chutes answers commands =

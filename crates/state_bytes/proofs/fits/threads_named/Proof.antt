@@ -64,9 +64,11 @@ loop-again c =
     let largest : (leb (turn .loop .largest) limit && leb step limit) ≡ leb (c .if1 .largest) limit =
     ⊎-elim (λ w. larger-decides (turn .loop .largest) step limit (omega (arith, w .0 .taken)) ∙ ap (λ (n : ℕ). leb n limit) (sym (w .1)))
     (λ w. and-comm (leb (turn .loop .largest) limit) (leb step limit) ∙ larger-decides step (turn .loop .largest) limit (w .0 .left) ∙ ap (λ (n : ℕ). leb n limit) (sym (w .1)))
-    (c .if1 .came) in
-    (omega arith, turn .loop .inv .1 ∙ ap (λ (t : Bool). leb (turn .loop .largest) limit && t) (within-from limit (turn .loop .i) schedule (c .before .before .loop-test .taken))
-    ∙ sym (and-assoc (leb (turn .loop .largest) limit) (leb step limit) rest) ∙ ap (λ (t : Bool). t && rest) largest)
+    (c .if1 .came) in (
+      omega arith,
+      turn .loop .inv .1 ∙ ap (λ (t : Bool). leb (turn .loop .largest) limit && t) (within-from limit (turn .loop .i) schedule (c .before .before .loop-test .taken))
+          ∙ sym (and-assoc (leb (turn .loop .largest) limit) (leb step limit) rest) ∙ ap (λ (t : Bool). t && rest) largest,
+    )
 
 returns : tie.Need-returns Inv-loop μ-loop
 returns c =
