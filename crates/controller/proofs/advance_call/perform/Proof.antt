@@ -17,11 +17,16 @@ abbrev μ-loop : tie.MeasureT-loop
 μ-loop state keys₀ chutes₀ answers₀ commands schedule settings counters₀ next₀ seq₀ executing₀ locked₀ waits₀ kinds₀ item-keys₀ item-chutes₀ threads₀ i₀ keys chutes answers counters next seq executing locked waits kinds item-keys item-chutes threads i =
     length schedule - i
 
+-- the function's entry, from the loop's head; and the turn that a step is made in
+abbrev start : tie.At-loop Inv-loop μ-loop → tie.Start Inv-loop μ-loop
+start c = c .before .before .before .before .before .before .before
+
+abbrev turn : tie.After-step Inv-loop μ-loop → tie.In-loop Inv-loop μ-loop
+turn c = c .before .before .before .before .before .before .before .before .before .before .before .before .before .before
+
 -- the thread that the schedule names next is one of the 65, and the next place is a number
-named : (c : tie.In-loop Inv-loop μ-loop) →
-    let schedule = c .before .before .before .before .before .before .before .before .args .schedule .now in
-    getD schedule (c .before .loop .i) 0 < 65
-named c = let start = c .before .before .before .before .before .before .before .before in omega (arith, each-within 64 (start .args .schedule .now) (start .pre .named) (c .before .loop .i))
+named : (c : tie.In-loop Inv-loop μ-loop) → getD (start (c .before) .args .schedule .now) (c .before .loop .i) 0 < 65
+named c = let begin = start (c .before) in omega (arith, each-within 64 (begin .args .schedule .now) (begin .pre .named) (c .before .loop .i))
 
 next-fits : (c : tie.In-loop Inv-loop μ-loop) → c .before .loop .i + 1 < 2 ^ 64
 next-fits c = omega arith
@@ -45,25 +50,26 @@ step-requires : tie.Need-step-requires Inv-loop μ-loop
 step-requires c κs = let pass = c .before .before .before .before .before .before .before .before .before .before .before .before .before .before .loop in ready-for _ (pass .inv .within _) (pass .inv .ready)
 
 mul-threads : tie.Need-mul-threads Inv-loop μ-loop
-mul-threads c = omega (arith, named (c .before .before .before .before .before .before .before .before .before .before .before .before .before .before .before .before .before .before .before .before))
+mul-threads c = omega (arith, named (turn (c .before .before .before .before .before .before)))
 
 array-set-from-threads : tie.Need-array-set-from-threads Inv-loop μ-loop
-array-set-from-threads c = named (c .before .before .before .before .before .before .before .before .before .before .before .before .before .before .before .before .before .before .before .before)
+array-set-from-threads c = named (turn (c .before .before .before .before .before .before))
 
 add-i : tie.Need-add-i Inv-loop μ-loop
-add-i c = omega (arith, next-fits (c .before .before .before .before .before .before .before .before .before .before .before .before .before .before .before .before .before .before .before .before .before))
+add-i c = omega (arith, next-fits (turn (c .before .before .before .before .before .before .before)))
 
 loop-less : tie.Need-loop-less Inv-loop μ-loop
-loop-less c = omega (arith, c .before .before .before .before .before .before .before .before .before .before .before .before .before .before .before .before .before .before .before .before .before .loop-test .taken)
+loop-less c = omega (arith, turn (c .before .before .before .before .before .before .before) .loop-test .taken)
 
 loop-again : tie.Need-loop-again Inv-loop μ-loop
 loop-again c =
-    let called = c .before .before .before .before .before .before .before .step in
-    let pass = c .before .before .before .before .before .before .before .before .before .before .before .before .before .before .before .before .before .before .before .before .before in
+    let after = c .before .before .before .before .before .before .before in
+    let called = after .step in
+    let pass = turn after in
     along-more (called .result .thread) (pass .before .loop .inv) (pass .loop-test .taken) (named pass) (called .ensures) (called .kept .1 .1 .1 .1 .1 .1 .1 .1 .0) (called .kept .1 .1 .1 .1 .1 .1 .1 .1 .1 .0) (called .kept .1 .1 .1 .1 .1 .1 .1 .1 .1 .1 .0)
 
 write-state-requires : tie.Need-write-state-requires Inv-loop μ-loop
-write-state-requires c κs = c .before .before .before .before .before .before .before .before .before .before .before .before .before .before .pre .long
+write-state-requires c κs = start (c .before .before .before .before .before .before .before) .pre .long
 
 same-length : tie.Need-same-length Inv-loop μ-loop
 same-length c = c .before .before .write-state .kept .0
@@ -81,7 +87,7 @@ returns : tie.Need-returns Inv-loop μ-loop
 returns c =
     let after = c .before .before .before .before .before .before .before .before .before in
     let pass = after .before .loop in
-    performed (c .before .before .before .before .before .before .before .before .before .before .before .before .before .before .before .before .before .args .settings) (pass .counters) (pass .next) (pass .seq) (pass .executing) (pass .locked) (pass .waits) (pass .keys) (pass .chutes) (pass .answers) _
+    performed (start (after .before) .args .settings) (pass .counters) (pass .next) (pass .seq) (pass .executing) (pass .locked) (pass .waits) (pass .keys) (pass .chutes) (pass .answers) _
     (pass .inv) (after .loop-test .left) (c .before .before .write-state .ensures)
 
 pub perform-spec : {M : Type 1} → statement M

@@ -27,81 +27,124 @@ range c = state-passed (given c) (c .pre .state)
 long : (c : tie.Start) → length (c .args .state .now) ≡ stateLength
 long c = lengths c .state
 
+-- the function's entry, from the place after each call
+abbrev start1 : tie.After-settings-in → tie.Start
+start1 c = c .before .before .before .before .before .before .before .before
+
+abbrev start2 : tie.After-counters-in → tie.Start
+start2 c = start1 (c .before .before)
+
+abbrev start3 : tie.After-read-bytes → tie.Start
+start3 c = start2 (c .before .before .before)
+
+abbrev start4 : tie.After-read-numbers → tie.Start
+start4 c = start3 (c .before .before .before .before)
+
+abbrev start5 : tie.After-read-flags → tie.Start
+start5 c = start4 (c .before .before .before .before)
+
+abbrev start6 : tie.After-read-flags2 → tie.Start
+start6 c = start5 (c .before .before .before .before)
+
+abbrev start7 : tie.After-read-sets → tie.Start
+start7 c = start6 (c .before .before .before .before)
+
 settings-in-requires : tie.Need-settings-in-requires
 settings-in-requires c κs = long (c .before .before .before .before .before .before .before)
 
 counters-in-requires : tie.Need-counters-in-requires
-counters-in-requires c κs = long (c .before .before .before .before .before .before .before .before .before)
+counters-in-requires c κs = long (start1 (c .before))
 
 slice-aggregate-read-bytes : tie.Need-slice-aggregate-read-bytes
 slice-aggregate-read-bytes c = search needs
 
 read-bytes-requires : tie.Need-read-bytes-requires
 unfolding stateLength
-read-bytes-requires c κs = omega (arith, long (c .before .before .before .before .before .before .before .before .before .before .before .before))
+read-bytes-requires c κs = omega (arith, long (start2 (c .before .before)))
 
 slice-aggregate-read-numbers : tie.Need-slice-aggregate-read-numbers
 slice-aggregate-read-numbers c = search needs
 
 read-numbers-requires : tie.Need-read-numbers-requires
 unfolding stateLength
-read-numbers-requires c κs = omega (arith, long (c .before .before .before .before .before .before .before .before .before .before .before .before .before .before .before .before))
+read-numbers-requires c κs = omega (arith, long (start3 (c .before .before .before)))
 
 slice-aggregate-read-flags : tie.Need-slice-aggregate-read-flags
 slice-aggregate-read-flags c = search needs
 
 read-flags-requires : tie.Need-read-flags-requires
 unfolding stateLength
-read-flags-requires c κs = omega (arith, long (c .before .before .before .before .before .before .before .before .before .before .before .before .before .before .before .before .before .before .before .before))
+read-flags-requires c κs = omega (arith, long (start4 (c .before .before .before)))
 
 slice-aggregate-read-flags-2 : tie.Need-slice-aggregate-read-flags-2
 slice-aggregate-read-flags-2 c = search needs
 
 read-flags-requires-2 : tie.Need-read-flags-requires-2
 unfolding stateLength
-read-flags-requires-2 c κs = omega (arith, long (c .before .before .before .before .before .before .before .before .before .before .before .before .before .before .before .before .before .before .before .before .before .before .before .before))
+read-flags-requires-2 c κs = omega (arith, long (start5 (c .before .before .before)))
 
 slice-aggregate-read-sets : tie.Need-slice-aggregate-read-sets
 slice-aggregate-read-sets c = search needs
 
 read-sets-requires : tie.Need-read-sets-requires
-read-sets-requires c κs = (long (c .before .before .before .before .before .before .before .before .before .before .before .before .before .before .before .before .before .before .before .before .before .before .before .before .before .before .before .before), refl)
+read-sets-requires c κs = (long (start6 (c .before .before .before)), refl)
 
 read-threads-requires : tie.Need-read-threads-requires
-read-threads-requires c κs = long (c .before .before .before .before .before .before .before .before .before .before .before .before .before .before .before .before .before .before .before .before .before .before .before .before .before .before .before .before .before .before .before)
+read-threads-requires c κs = long (start7 (c .before .before))
 
--- the function's entry
+-- the places after the calls, from the last back to the function's entry
+abbrev at-waits : tie.After-read-threads → tie.After-read-sets
+at-waits c = c .before .before .before
+
+abbrev at-locked : tie.After-read-threads → tie.After-read-flags2
+at-locked c = at-waits c .before .before .before .before
+
+abbrev at-executing : tie.After-read-threads → tie.After-read-flags
+at-executing c = at-locked c .before .before .before .before
+
+abbrev at-seq : tie.After-read-threads → tie.After-read-numbers
+at-seq c = at-executing c .before .before .before .before
+
+abbrev at-next : tie.After-read-threads → tie.After-read-bytes
+at-next c = at-seq c .before .before .before .before
+
+abbrev at-counters : tie.After-read-threads → tie.After-counters-in
+at-counters c = at-next c .before .before .before
+
+abbrev at-settings : tie.After-read-threads → tie.After-settings-in
+at-settings c = at-counters c .before .before
+
 abbrev entry : tie.After-read-threads → tie.Start
-entry c = c .before .before .before .before .before .before .before .before .before .before .before .before .before .before .before .before .before .before .before .before .before .before .before .before .before .before .before .before .before .before .before .before
+entry c = start1 (at-settings c)
 
--- the arrays, each as its call leaves it
+-- the counters and the arrays, each as its call leaves it
 abbrev countersOf : tie.After-read-threads → Counters
-countersOf c = c .before .before .before .before .before .before .before .before .before .before .before .before .before .before .before .before .before .before .before .before .before .before .counters-in .result
+countersOf c = at-counters c .counters-in .result
 
 abbrev nextOf : tie.After-read-threads → List ℕ
-nextOf c = c .before .before .before .before .before .before .before .before .before .before .before .before .before .before .before .before .before .before .before .read-bytes .last .1 .1 .0
+nextOf c = at-next c .read-bytes .last .1 .1 .0
 
 abbrev seqOf : tie.After-read-threads → List ℕ
-seqOf c = c .before .before .before .before .before .before .before .before .before .before .before .before .before .before .before .read-numbers .last .1 .1 .0
+seqOf c = at-seq c .read-numbers .last .1 .1 .0
 
 abbrev executingOf : tie.After-read-threads → List Bool
-executingOf c = c .before .before .before .before .before .before .before .before .before .before .before .read-flags .last .1 .1 .0
+executingOf c = at-executing c .read-flags .last .1 .1 .0
 
 abbrev lockedOf : tie.After-read-threads → List Bool
-lockedOf c = c .before .before .before .before .before .before .before .read-flags2 .last .1 .1 .0
+lockedOf c = at-locked c .read-flags2 .last .1 .1 .0
 
 abbrev waitsOf : tie.After-read-threads → List (List ℕ)
-waitsOf c = c .before .before .before .read-sets .last .1 .0
+waitsOf c = at-waits c .read-sets .last .1 .0
 
 -- they are what stands in the lists
 read-out : (c : tie.After-read-threads) → ReadOut (given (entry c)) (countersOf c) (nextOf c) (seqOf c) (executingOf c) (lockedOf c) (waitsOf c) (c .read-threads .result)
 read-out c = record {
-  counters = c .before .before .before .before .before .before .before .before .before .before .before .before .before .before .before .before .before .before .before .before .before .before .counters-in .ensures;
-  next-is = c .before .before .before .before .before .before .before .before .before .before .before .before .before .before .before .before .before .before .before .read-bytes .ensures;
-  seq-is = c .before .before .before .before .before .before .before .before .before .before .before .before .before .before .before .read-numbers .ensures;
-  executing-is = c .before .before .before .before .before .before .before .before .before .before .before .read-flags .ensures;
-  locked-is = c .before .before .before .before .before .before .before .read-flags2 .ensures;
-  waits-is = c .before .before .before .read-sets .ensures;
+  counters = at-counters c .counters-in .ensures;
+  next-is = at-next c .read-bytes .ensures;
+  seq-is = at-seq c .read-numbers .ensures;
+  executing-is = at-executing c .read-flags .ensures;
+  locked-is = at-locked c .read-flags2 .ensures;
+  waits-is = at-waits c .read-sets .ensures;
   threads-are = c .read-threads .ensures;
 }
 
@@ -146,7 +189,7 @@ returns c =
     let start = entry at in
     let commands = start .args .commands .now in
     let o = setupIn (start .args .state .now) commands in
-    called .perform .ensures o (at .before .before .before .before .before .before .before .before .before .before .before .before .before .before .before .before .before .before .before .before .before .before .before .before .settings-in .ensures commands (fit-count (given start) commands (lengths start)))
+    called .perform .ensures o (at-settings at .settings-in .ensures commands (fit-count (given start) commands (lengths start)))
     (fit-commands (given start) commands) (fit-capacity (given start) commands (lengths start))
     ∙ ap (λ (s : State). listsOf o (steps o (start .args .schedule .now) s)) (read-shows (given start) (read-out at))
 

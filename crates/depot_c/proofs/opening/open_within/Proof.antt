@@ -1,13 +1,39 @@
 -- `depot_c::opening::open_within` meets its contract: the numbers are read, the proved call is made, and what it leaves is written. Assumes nothing.
 use native.Mathlib.Omega.{arith}
 use borrow.Author.Needs.{needs}
-use mathlib.Core.Path.{_∙_}
+use mathlib.Core.Path.{_≡_, _∙_}
 use lib.ListN.{length}
-use Rattle.state_bytes.specs.Layout.{Lists}
+use Rattle.state_bytes.specs.Layout.{Lists, lists}
 use Rattle.controller.specs.Calls.{Outcome, openOn}
+use Rattle.depot_c.specs.Boundary.{entries, answerOf}
 use Rattle.depot_c.proofs.Outcomes.{opening-place-below, entries-read-back, answer-on, written-on, refused-on}
 use Rattle.depot_c.proofs.opening.open_within.Statement.{statement}
 use Rattle.depot_c.proofs.opening.open_within.Tie as tie
+
+-- the places after the calls, from the answer back to the function's entry
+abbrev called : tie.After-opening-answer → tie.After-open
+called c = c .before .before .before .before .before .before .before .before .before
+
+abbrev read : tie.After-open → tie.After-read-lists
+read c = c .before .before .before .before .before .before .before .before .before .before .before
+
+abbrev start : tie.After-read-lists → tie.Start
+start c = c .before .before .before .before .before .before .before .before .before .before .before .before .before .before .before
+
+abbrev entry : tie.After-opening-answer → tie.Start
+entry c = start (read (called c))
+
+-- the proved call on the numbers of the lists that the function gets
+abbrev outcome : tie.Start → Lists → Outcome
+outcome c l = openOn (c .args .size) (c .args .workers) (c .args .capacity) (c .args .commands .now) l
+
+-- its answer is the one on the entries
+answer-is : (c : tie.After-opening-answer)
+    → c .opening-answer .result ≡ answerOf (outcome (entry c) (entries (lists (entry c .args .state .now) (entry c .args .keys .now) (entry c .args .chutes .now) (entry c .args .answers .now))))
+answer-is c =
+    let args = entry c .args in
+    c .opening-answer .ensures ∙ answer-on (args .state .now) (args .keys .now) (args .chutes .now) (args .answers .now) (outcome (entry c)) (read (called c) .read-lists .ensures)
+    (called c .«open» .ensures .0) (called c .«open» .ensures .1 .0)
 
 read-lists-requires : tie.Need-read-lists-requires
 read-lists-requires c κs = search needs
@@ -21,9 +47,8 @@ opening-answer-requires c κs = rw (c .before .before .before .before .before .b
 write-lists-requires : tie.Need-write-lists-requires
 write-lists-requires c κs =
     let call = c .before .before .before .before .before .before .before .before .before .before .before .before .before .before .before .before in
-    let read = call .before .before .before .before .before .before .before .before .before .before .before in
-    let pre = read .before .before .before .before .before .before .before .before .before .before .before .before .before .before .before .pre in
-    let first = read .read-lists .kept .1 .1 .1 in
+    let pre = start (read call) .pre in
+    let first = read call .read-lists .kept .1 .1 .1 in
     let then = call .«open» .kept .1 in
     record {
       keys-fit = omega (arith, pre .keys-fit, first .0, then .0);
@@ -55,21 +80,18 @@ same-length-7 c = search needs
 returns : tie.Need-returns
 returns c =
     let answer = c .before .before .before .before .before .before .before .before .before .before .before .before .before .before in
-    let call = answer .before .before .before .before .before .before .before .before .before in
-    let read = call .before .before .before .before .before .before .before .before .before .before .before in
-    let start = read .before .before .before .before .before .before .before .before .before .before .before .before .before .before .before in
-    let args = start .args in
-    let f : Lists → Outcome = openOn (args .size) (args .workers) (args .capacity) (args .commands .now) in
-    let s = args .state .now in
-    let k = args .keys .now in
-    let ch = args .chutes .now in
-    let a = args .answers .now in
-    let lent = read .read-lists .ensures in
-    let e = call .«open» .ensures in
-    let whole = entries-read-back s k ch a (length (args .key-room .now)) (length (args .chute-room .now)) (length (args .answer-room .now))
-    (start .pre .keys-fit) (start .pre .chutes-fit) (start .pre .answers-fit)
-    (λ i. omega (arith, read .before .before .before .before .before .before .before .before .before .before .before .before .before .slice-known2 .given i)) (λ i. omega (arith, read .before .before .before .before .before .before .before .before .before .before .before .before .slice-known3 .given i)) (λ i. omega (arith, read .before .before .before .before .before .before .before .before .before .before .before .slice-known4 .given i)) in
-    (answer .opening-answer .ensures ∙ answer-on s k ch a f lent (e .0) (e .1 .0), written-on s k ch a f lent whole (e .1 .1) (c .before .before .before .before .before .before .write-lists .ensures))
+    let before = read (called answer) in
+    let begin = entry answer in
+    let args = begin .args in
+    let whole = entries-read-back (args .state .now) (args .keys .now) (args .chutes .now) (args .answers .now) (length (args .key-room .now)) (length (args .chute-room .now))
+    (length (args .answer-room .now)) (begin .pre .keys-fit) (begin .pre .chutes-fit) (begin .pre .answers-fit)
+    (λ i. omega (arith, before .before .before .before .before .before .before .before .before .before .before .before .before .before .slice-known2 .given i))
+    (λ i. omega (arith, before .before .before .before .before .before .before .before .before .before .before .before .before .slice-known3 .given i))
+    (λ i. omega (arith, before .before .before .before .before .before .before .before .before .before .before .before .slice-known4 .given i)) in (
+      answer-is answer,
+      written-on (args .state .now) (args .keys .now) (args .chutes .now) (args .answers .now) (outcome begin) (before .read-lists .ensures) whole
+          (called answer .«open» .ensures .1 .1) (c .before .before .before .before .before .before .write-lists .ensures),
+    )
 
 same-length-8 : tie.Need-same-length-8
 same-length-8 c = search needs
@@ -95,19 +117,11 @@ same-length-14 c = search needs
 returns-2 : tie.Need-returns-2
 returns-2 c =
     let answer = c .before in
-    let call = answer .before .before .before .before .before .before .before .before .before in
-    let read = call .before .before .before .before .before .before .before .before .before .before .before in
-    let start = read .before .before .before .before .before .before .before .before .before .before .before .before .before .before .before in
-    let args = start .args in
-    let f : Lists → Outcome = openOn (args .size) (args .workers) (args .capacity) (args .commands .now) in
-    let s = args .state .now in
-    let k = args .keys .now in
-    let ch = args .chutes .now in
-    let a = args .answers .now in
-    let lent = read .read-lists .ensures in
-    let e = call .«open» .ensures in
-    let is = answer .opening-answer .ensures ∙ answer-on s k ch a f lent (e .0) (e .1 .0) in
-    (is, refused-on s k ch a f lent (e .1 .1) (λ z. c .if1 .left (is ∙ z)))
+    let args = entry answer .args in (
+      answer-is answer,
+      refused-on (args .state .now) (args .keys .now) (args .chutes .now) (args .answers .now) (outcome (entry answer)) (read (called answer) .read-lists .ensures)
+          (called answer .«open» .ensures .1 .1) (λ z. c .if1 .left (answer-is answer ∙ z)),
+    )
 
 pub open-within-spec : {M : Type 1} → statement M
 open-within-spec =
