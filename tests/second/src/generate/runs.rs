@@ -264,12 +264,14 @@ mod tests {
         assert_eq!(depot.met("program"), [0, 1, 2, 3, 4, 5, 7, 8, 9, 10, 11]);
     }
 
-    /// Each answer that there is, sets in each of their words, and full chains.
+    /// Each answer that there is, sets in each of their words, full chains, and more than half of
+    /// the runs to the end.
     #[test]
     fn runs_meet_every_answer_and_large_sets() {
         let mut answers = BTreeMap::<u16, usize>::new();
         let mut words = [0; 3];
         let mut longest = 0;
+        let (mut runs, mut finished) = (0, 0);
         for index in (FIXED..FIXED + 2000).filter(|index| (index - FIXED) % ROUND <= 16) {
             let mut playing = Play::new(&Second);
             play(1, index, &mut playing).expect("the second program is itself");
@@ -286,12 +288,15 @@ mod tests {
                 words = [0, 1, 2].map(|word| words[word] + set[word].count_ones());
             }
             longest = longest.max(run.chain().count());
+            runs += 1;
+            finished += usize::from(run.is_finished());
         }
         let kinds: Vec<u16> = answers.keys().copied().collect();
         assert_eq!(kinds, [0, 512, 1000, 1001, 1002, 1003], "{answers:?}");
         assert!(answers.values().all(|count| *count > 300), "{answers:?}");
         assert!(words.iter().all(|members| *members > 1000), "{words:?}");
         assert!(longest >= 129, "{longest}");
+        assert!(2 * finished > runs, "{finished} of {runs}");
     }
 
     /// A depot that writes wrong answers once is seen, and its steps show it again.

@@ -5,7 +5,7 @@ use crate::random::Random;
 use crate::run::{Party, Run};
 
 /// Turns with which a run is brought to its end, at the most.
-const MOST: usize = 20_000;
+const MOST: usize = 60_000;
 
 /// Who gets the next turn.
 enum Policy {
