@@ -13,8 +13,8 @@ use command::Command;
 use libc::STDIN_FILENO;
 use libc::STDOUT_FILENO;
 use perform::perform;
-use report::number_at;
 use report::put_refusal;
+use state_bytes::number_at;
 
 // The longest input, and the length of what stands before the commands.
 const LONGEST: usize = 65536;
@@ -39,7 +39,7 @@ fn run(input: &[u8], out: &mut [u8]) -> usize
     if length < end {
         return put_refusal(out, 4);
     }
-    let capacity = number_at(input, 2);
+    let capacity = number_at(input, 2) as u64;
     perform(
         out,
         &input[HEAD..end],

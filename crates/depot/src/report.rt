@@ -3,7 +3,6 @@ ghost use Prim.Native.Nat.{_+_, _*_, _≤_, _<_};
 ghost use mathlib.Core.Path.{_≡_};
 ghost use mathlib.Core.List.{[], _++_};
 ghost use lib.ListN.{length};
-ghost use Rattle.state_bytes.specs.Bytes.{numberAt};
 ghost use Rattle.state_bytes.specs.Layout.{lists, stateIn};
 ghost use Rattle.model.specs.Step.{chainFrom};
 ghost use Rattle.depot.specs.Program.{decimal, space, kindName, refusal, commandLine, commandLines, totals, report};
@@ -15,24 +14,14 @@ use crate::text::put_number;
 use crate::text::put_text;
 use command::Command;
 use command::Kind;
+use state_bytes::NEXT;
+use state_bytes::USED;
+use state_bytes::number_at;
 
-// Where the state bytes have the count of used store entries and the next index of node 0; how many nodes the table has, and a chain at most.
-const USED: usize = 8;
-
-const NEXT: usize = 11;
-
+// How many nodes the table has, and a chain at most.
 const NODES: usize = 151;
 
 const LONGEST_CHAIN: usize = 150;
-
-// The number that two bytes write, the high one first.
-pub fn number_at(bytes: &[u8], at: usize) -> u64
-    requires { ⌜ at + 2 ≤ length (now bytes) ⌝ }
-    ensures { λ r. ⌜ r ≡ numberAt 2 at (now (bytes .entry)) ⌝ }
-    ensures { λ r. ⌜ r < 65536 ⌝ }
-{
-    bytes[at] as u64 * 256 + bytes[at + 1] as u64
-}
 
 // The line of a refusal.
 pub fn put_refusal(out: &mut [u8], number: u64) -> usize
@@ -136,7 +125,7 @@ fn put_totals(out: &mut [u8], at: usize, state: &[u8]) -> usize
     ensures { λ r. ⌜ Wrote (totals (stateIn (lists (now (state .entry)) [] [] []))) at (now (out .entry)) (now (out .exit)) r ⌝ }
 {
     let at = put_text(out, at, b"store ");
-    let at = put_number(out, at, number_at(state, USED));
+    let at = put_number(out, at, number_at(state, USED) as u64);
     let at = put_text(out, at, b" chain ");
     let at = put_number(out, at, chain_length(state) as u64);
     put_byte(out, at, NEWLINE)

@@ -41,6 +41,9 @@ returns-2 c =
 number-at-requires : tie.Need-number-at-requires
 number-at-requires c κs = search needs
 
+cast-count : tie.Need-cast-count
+cast-count c = search needs
+
 mul-end : tie.Need-mul-end
 mul-end c = search needs
 
@@ -60,11 +63,14 @@ returns-3 c =
     let count = test .before in
     let a = count .before .before .before .before .before .args in
     let wrote = last .put-refusal3 .ensures in
-    let cut = rw (count .number-at .ensures .0) at (test .if3 .taken) in
+    let cut = rw (count .number-at .ensures) at (test .if3 .taken) in
     (wrote-taken wrote ∙ sym (output-cut (a .input .now) (count .before .before .if1 .left) (count .before .if2 .left) cut), wrote-counts wrote)
 
 number-at-requires-2 : tie.Need-number-at-requires-2
 number-at-requires-2 c κs = search needs
+
+cast-capacity : tie.Need-cast-capacity
+cast-capacity c = search needs
 
 sub-perform : tie.Need-sub-perform
 sub-perform c = search needs
@@ -111,10 +117,10 @@ returns-4 c =
     let count = test .before in
     let a = count .before .before .before .before .before .args in
     let wrote = last .perform .ensures in
-    let whole = rw (count .number-at .ensures .0) at (test .if3 .left) in
+    let whole = rw (count .number-at .ensures) at (test .if3 .left) in
     let cut : 6 + 16 * count .number-at .result - 6 ≡ 16 * count .number-at .result = omega arith in
     let rest = take-all (length (a .input .now) - (6 + 16 * count .number-at .result)) (drop (6 + 16 * count .number-at .result) (a .input .now)) (simp length-drop (omega arith)) in
-    let text = rw (cut, rest, count .number-at .ensures .0, capacity .number-at2 .ensures .0) at wrote in
+    let text = rw (cut, rest, count .number-at .ensures, capacity .number-at2 .ensures) at wrote in
     (wrote-taken text ∙ sym (output-performed (a .input .now) (count .before .before .if1 .left) (count .before .if2 .left) whole), wrote-counts text)
 
 pub run-spec : {M : Type 1} → statement M
@@ -128,12 +134,14 @@ run-spec =
     same-length-2
     returns-2
     number-at-requires
+    cast-count
     mul-end
     add-end
     put-refusal-requires-3
     same-length-3
     returns-3
     number-at-requires-2
+    cast-capacity
     sub-perform
     part-perform-start
     part-perform-end

@@ -26,6 +26,9 @@ put-text-requires c κs = search needs
 number-at-requires : tie.Need-number-at-requires
 number-at-requires c κs = search needs
 
+cast-put-number : tie.Need-cast-put-number
+cast-put-number c = search needs
+
 put-number-requires : tie.Need-put-number-requires
 put-number-requires c κs = omega (arith, used-length c)
 
@@ -65,7 +68,7 @@ returns c =
     let second-end = two .put-number .ensures .end in
     let third-end = three .put-text2 .ensures .end in
     let fourth-end = four .put-number2 .ensures .end in
-    let second = rw (used .number-at .ensures .0) at (two .put-number .ensures) in
+    let second = rw (used .number-at .ensures) at (two .put-number .ensures) in
     let fourth = rw (chain .chain-length .ensures .0) at (four .put-number2 .ensures) in
     wrote-then (omega arith)
     (wrote-then (omega arith)
@@ -80,6 +83,7 @@ put-totals-spec =
     slice-aggregate-put-text
     put-text-requires
     number-at-requires
+    cast-put-number
     put-number-requires
     slice-aggregate-put-text-2
     put-text-requires-2
