@@ -12,7 +12,8 @@ use Rattle.s10.specs.Outcome as Identifier
 use Rattle.command.specs.declared.Command.{Command}
 use Rattle.command.specs.Read.{Outcome, accepted, refused, chuteFits, readCommand, partsOf, readings, ListOutcome, allAccepted, refusedAt, firstRefusal, commandFrom, commandsIn}
 use Rattle.command.proofs.Laws.{accepted-chute-fits}
-use Rattle.model.specs.Step.{Setup, opened, commandAt}
+use Rattle.model.specs.Setup.{Setup, commandAt}
+use Rattle.model.specs.Step.{opened}
 use Rattle.model.specs.Statement.{Accepted}
 use Rattle.graph.proofs.Commands.{commands-length}
 use Rattle.state_bytes.specs.Layout.{Lists, listsOf, lengthsFit}

@@ -11,7 +11,8 @@ use lib.Dec.{leb, ltb}
 use borrow.Author.Tests.{lt-ltb, le-leb}
 use Rattle.model.specs.Serial.{Entry}
 use Rattle.model.specs.Store.{layOut}
-use Rattle.model.specs.Step.{Setup, State, opened, steps}
+use Rattle.model.specs.Setup.{Setup}
+use Rattle.model.specs.Step.{State, opened, steps}
 use Rattle.model.specs.Statement.{Accepted, allWithin, Holds}
 use Rattle.model.specs.Proof.Serial.{Ascending}
 use Rattle.model.specs.Proof.Service.{entries-ascending}
@@ -55,7 +56,7 @@ laid-ascends capacity es h = ascends-where (length es) _ (next-larger es _ h)
 -- ---- the calls
 
 -- the definition of the answers read, unfolded once
-answer-in : (l : Lists) (c : ℕ) → stateIn l .answers c ≡ getD (0 ∷ l .answers) c 0
+answer-in : (l : Lists) (c : ℕ) → stateIn l .service .answers c ≡ getD (0 ∷ l .answers) c 0
 unfolding stateIn
 answer-in l c = refl
 
@@ -80,7 +81,7 @@ module _ (o : Setup) (acc : Accepted o) (ts : List ℕ) (within : allWithin (o .
   formed : Formed o (steps o ts (opened o))
   formed = steps-formed o (accepted-formed o acc) ts within (opened o) (opened-formed o (acc .size .0) (accepted-formed o acc))
 
-  ascending : ascends (steps o ts (opened o) .store .used) (steps o ts (opened o) .store .keys) ≡ true
+  ascending : ascends (steps o ts (opened o) .service .store .used) (steps o ts (opened o) .service .store .keys) ≡ true
   ascending = rw (table-at-any-moment o acc ts within) (laid-ascends (o .capacity) _ (entries-ascending o _))
 
   read-back : stateIn (listsOf o (steps o ts (opened o))) ≡ steps o ts (opened o)
@@ -130,8 +131,8 @@ module _ (o : Setup) (acc : Accepted o) (commands : List ℕ) (same : o .command
     state-is : stateIn l ≡ steps o ts (opened o)
     state-is = rw (r .1) (read-back o acc ts (r .0))
 
-    answer-is : (c : ℕ) → getD (0 ∷ l .answers) c 0 ≡ steps o ts (opened o) .answers c
-    answer-is c = sym (answer-in l c) ∙ ap (λ (s : State). s .answers c) state-is
+    answer-is : (c : ℕ) → getD (0 ∷ l .answers) c 0 ≡ steps o ts (opened o) .service .answers c
+    answer-is c = sym (answer-in l c) ∙ ap (λ (s : State). s .service .answers c) state-is
 
     -- a schedule that names known threads is accepted
     more-accepted : (more : List ℕ) → allWithin (o .workers) more ≡ true → advanceOn l commands more ≡ accepted (listsOf o (steps o (ts ++ more) (opened o)))
@@ -146,7 +147,7 @@ module _ (o : Setup) (acc : Accepted o) (commands : List ℕ) (same : o .command
         let read-last : stateIn (listsOf o last) ≡ last = read-back o acc (ts ++ f .0) (within-append (o .workers) ts (f .0) (r .0) (f .1)) in
         record {
           answer = λ c low high. answer-is c ∙ model .answer c low high;
-          table = λ all. (λ c low high. rw (answer-is c) (model .table all .0 c low high), ap (λ (s : State). s .store) state-is ∙ model .table all .1);
+          table = λ all. (λ c low high. rw (answer-is c) (model .table all .0 c low high), ap (λ (s : State). s .service .store) state-is ∙ model .table all .1);
           finish = (f .0, listsOf o last, more-accepted (f .0) (f .1), f .2, λ t h. ap (λ (s : State). s .threads t) read-last ∙ f .3 t h);
         }
 

@@ -156,13 +156,13 @@ module _ (l : Lists) (commands : List ℕ) (bytes : Bytes (l .state)) (lengths :
       numbers-again 1 0 (omega arith) ▸ numbers-again 1 1 (omega arith) ▸ numbers-again 2 2 (omega arith)
       ▸ (ap (bytesOf 2) (count) ∙ numbers-again 2 4 (omega arith))
       ▸ numbers-again 2 6 (omega arith) ▸ numbers-again 2 8 (omega arith) ▸ numbers-again 1 10 (omega arith)
-      ▸ run-again (λ n. bytesOf 1 (stateIn l .next n)) 11 (λ n h. at-first (bytesOf 1) _ _ n 151 h ∙ byte-here b long bytes (11 + n) (omega arith))
-      ▸ fields-of 2 151 (λ n. bytesOf 2 (stateIn l .seq n)) 162 b (λ n h. at-first (bytesOf 2) _ _ n 151 h ∙ numbers-again 2 (162 + 2 * n) (omega arith))
-      ▸ run-again (λ n. flagByte (stateIn l .executing n)) 464
+      ▸ run-again (λ n. bytesOf 1 (stateIn l .graph .next n)) 11 (λ n h. at-first (bytesOf 1) _ _ n 151 h ∙ byte-here b long bytes (11 + n) (omega arith))
+      ▸ fields-of 2 151 (λ n. bytesOf 2 (stateIn l .graph .seq n)) 162 b (λ n h. at-first (bytesOf 2) _ _ n 151 h ∙ numbers-again 2 (162 + 2 * n) (omega arith))
+      ▸ run-again (λ n. flagByte (stateIn l .graph .executing n)) 464
       (λ n h. at-first flagByte _ _ n 151 h ∙ flag-here b long bytes (464 + n) (omega arith) (range .executing n h))
-      ▸ run-again (λ n. flagByte (stateIn l .locked n)) 615
+      ▸ run-again (λ n. flagByte (stateIn l .graph .locked n)) 615
       (λ n h. at-first flagByte _ _ n 151 h ∙ flag-here b long bytes (615 + n) (omega arith) (range .locked n h))
-      ▸ fields-of 24 151 (λ n. setBytes (stateIn l .waits n)) 766 b
+      ▸ fields-of 24 151 (λ n. setBytes (stateIn l .graph .waits n)) 766 b
       (λ n h. ap (λ (t : Bool). setBytes (λ y. cond t (member (setAt b n) y) false)) (lt-ltb n 151 h) ∙ set-here b long bytes n h)
       ▸ fields-of 5 65 (λ t. threadBytes (stateIn l .threads t)) 4390 b
       (λ t h. at-first threadBytes _ _ t 65 h ∙ thread-here b long bytes (numberAt 1 0 b) t h (range .threads t h)) ▸ tt
@@ -174,12 +174,12 @@ module _ (l : Lists) (commands : List ℕ) (bytes : Bytes (l .state)) (lengths :
       parts-joined (setupIn (l .state) commands) (stateIn l) ∙ parts-of parts partLengths 0 (l .state) parts-again ∙ take-all 4715 (l .state) (omega (arith, long))
 
   -- there are as many answers as commands
-  answers-again : tabulate (length (setupIn (l .state) commands .commands)) (λ i. stateIn l .answers (suc i)) ≡ l .answers
+  answers-again : tabulate (length (setupIn (l .state) commands .commands)) (λ i. stateIn l .service .answers (suc i)) ≡ l .answers
   unfolding setupIn stateIn
   answers-again = tabulate-elements (length (commandsIn commands)) (l .answers) 0 (lengths .answers ∙ sym (count))
 
 -- the store's lists are the caller's
-store-in : (l : Lists) → (stateIn l .store .keys ≡ l .keys) × (stateIn l .store .chutes ≡ l .chutes)
+store-in : (l : Lists) → (stateIn l .service .store .keys ≡ l .keys) × (stateIn l .service .store .chutes ≡ l .chutes)
 unfolding stateIn
 store-in l = (refl, refl)
 

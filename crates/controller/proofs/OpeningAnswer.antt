@@ -10,7 +10,8 @@ use lib.Dec.{eqb, leb}
 use borrow.Author.Tests.{eqb-true}
 use denote.Enum.Declared.{tagOf}
 use types.Run.{OneOf}
-use Rattle.model.specs.Step.{Setup, opened}
+use Rattle.model.specs.Setup.{Setup}
+use Rattle.model.specs.Step.{opened}
 use Rattle.model.specs.Statement.{Accepted}
 use Rattle.controller.specs.declared.«open_call».Opening.{Opening}
 use Rattle.controller.specs.declared.«open_call».Opening.the-variants.{Opened, WrongGraphSize, WrongWorkers, WrongCapacity, WrongListLength, TooManyCommands, WrongLength, UnknownKindAt, MalformedAt, WrongCheckDigitAt, WrongChuteAt}

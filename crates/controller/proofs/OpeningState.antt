@@ -14,7 +14,9 @@ use Rattle.node_set.proofs.Bits.{bit-of-zero}
 use Rattle.node_set.proofs.Words.{zeros, no-member-of-zeros}
 use Rattle.model.specs.declared.Thread.the-variants.{Idle}
 use Rattle.model.specs.Store.{layOut}
-use Rattle.model.specs.Step.{Setup, node, noNode, firstNext, opened}
+use Rattle.model.specs.Setup.{Setup}
+use Rattle.model.specs.Graph.{noNode, firstNext}
+use Rattle.model.specs.Step.{node, opened}
 use Rattle.model.specs.Proof.Tests.{eqb-cases}
 use Rattle.model.specs.declared.Counters.{Counters}
 use Rattle.state_bytes.specs.Bytes.{tabulate}

@@ -12,7 +12,9 @@ use lib.Seq.{take-suc, take-all, getD-set-same, getD-set-other}
 use borrow.Author.Tests.{leb-true, le-leb}
 use Rattle.model.specs.declared.Thread.{Thread}
 use Rattle.model.specs.declared.Thread.the-variants.{Idle}
-use Rattle.model.specs.Step.{Setup, State, upd, step, steps}
+use Rattle.model.specs.Upd.{upd}
+use Rattle.model.specs.Setup.{Setup}
+use Rattle.model.specs.Step.{State, step, steps}
 use Rattle.model.specs.Statement.{allWithin}
 use Rattle.model.specs.Proof.Tests.{eqb-cases}
 use Rattle.model.specs.Proof.Upd.{upd-at, upd-other}

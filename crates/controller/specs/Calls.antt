@@ -5,7 +5,8 @@ use mathlib.Core.List.{List}
 use lib.ListN.{length}
 use lib.Dec.{eqb, leb}
 use Rattle.command.specs.Read.{ListOutcome, allAccepted, refusedAt, firstRefusal, readings, commandsIn}
-use Rattle.model.specs.Step.{Setup, opened, steps}
+use Rattle.model.specs.Setup.{Setup}
+use Rattle.model.specs.Step.{opened, steps}
 use Rattle.model.specs.Statement.{allWithin}
 use Rattle.controller.specs.declared.«open_call».Opening.{Opening}
 use Rattle.controller.specs.declared.«open_call».Opening.the-variants.{Opened, WrongGraphSize, WrongWorkers, WrongCapacity, WrongListLength, TooManyCommands, WrongLength, UnknownKindAt, MalformedAt, WrongCheckDigitAt, WrongChuteAt}

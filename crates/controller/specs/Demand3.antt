@@ -7,7 +7,8 @@ use lib.ListN.{getD}
 use Rattle.model.specs.declared.Thread.the-variants.{Idle}
 use Rattle.model.specs.Serial.{serialEntries}
 use Rattle.model.specs.Store.{layOut}
-use Rattle.model.specs.Step.{Setup, opened}
+use Rattle.model.specs.Setup.{Setup}
+use Rattle.model.specs.Step.{opened}
 use Rattle.model.specs.Statement.{wrote, removed, EachCommand, serialAnswer}
 use Rattle.command.specs.Read.{commandsIn}
 use Rattle.state_bytes.specs.Layout.{Lists, stateIn}
@@ -51,7 +52,7 @@ pub record HoldsAfter (o : Setup) (commands : List ℕ) (l : Lists) (ts : List �
   pub answer : EachCommand o (λ c. getD (0 ∷ l .answers) c 0 ≡ cond (wrote o c ts (opened o)) (serialAnswer o c) 0)
   -- "When all commands are removed, every answer is given and the chute table is that run's, entry for entry."
   pub table : EachCommand o (λ c. removed o c ts (opened o) ≡ true) →
-      EachCommand o (λ c. 1 ≤ getD (0 ∷ l .answers) c 0) × (stateIn l .store ≡ layOut (o .capacity) (serialEntries (o .capacity) (o .commands)))
+      EachCommand o (λ c. 1 ≤ getD (0 ∷ l .answers) c 0) × (stateIn l .service .store ≡ layOut (o .capacity) (serialEntries (o .capacity) (o .commands)))
   -- "And some further dealing is accepted and leaves every command removed and every party idle"
   pub finish : (more : List ℕ) × (m : Lists) × (advanceOn l commands more ≡ accepted m) × EachCommand o (λ c. removed o c (ts ++ more) (opened o) ≡ true)
       × ((t : ℕ) → t ≤ o .workers → stateIn m .threads t ≡ Idle)

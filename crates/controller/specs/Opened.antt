@@ -4,7 +4,8 @@ use mathlib.Core.Path.{_≡_}
 use mathlib.Core.Bool.{cond}
 use mathlib.Core.List.{List}
 use lib.Dec.{eqb}
-use Rattle.model.specs.Step.{Setup, opened}
+use Rattle.model.specs.Setup.{Setup}
+use Rattle.model.specs.Step.{opened}
 use Rattle.command.specs.Read.{commandsIn}
 use Rattle.controller.specs.declared.«open_call».Opening.{Opening}
 use Rattle.state_bytes.specs.declared.Settings.{Settings}

@@ -6,7 +6,8 @@ use mathlib.Core.List.{List}
 use lib.ListN.{length, getD}
 use Rattle.model.specs.declared.Thread.{Thread}
 use Rattle.model.specs.declared.Thread.the-variants.{Idle}
-use Rattle.model.specs.Step.{Setup, steps}
+use Rattle.model.specs.Setup.{Setup}
+use Rattle.model.specs.Step.{steps}
 use Rattle.model.specs.Statement.{allWithin}
 use Rattle.model.specs.declared.Counters.{Counters}
 use Rattle.graph.specs.Arrays.{Within}

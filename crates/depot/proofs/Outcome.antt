@@ -14,7 +14,7 @@ use Rattle.s10.specs.Outcome as Identifier
 use Rattle.command.specs.declared.Kind.{Kind}
 use Rattle.command.specs.Read.{firstRefusal, partsOf, readings, readCommand, withChute, isKind, kindOf, chuteFits, chuteOf}
 use Rattle.command.specs.Read as Command
-use Rattle.model.specs.Step.{Setup}
+use Rattle.model.specs.Setup.{Setup}
 use Rattle.model.specs.Statement.{allWithin}
 use Rattle.state_bytes.specs.Layout.{Lists, stateLength, setupIn, stateFits, lengthsFit, handedBackFit}
 use Rattle.controller.specs.Calls.{Outcome, accepted, refused, numberOf, kept, openedWith, openOn, advanceOn}

@@ -16,7 +16,10 @@ use Rattle.model.specs.Serial.{Entry, serialAnswers}
 use Rattle.model.specs.Proof.Service.{serial-length}
 use Rattle.model.specs.Proof.Theorem.{all-serial, none-linked, demand-3}
 use Rattle.model.specs.Statement.{allWithin, serialAnswer}
-use Rattle.model.specs.Step.{Setup, State, upd, opened, steps, chainFrom}
+use Rattle.model.specs.Upd.{upd}
+use Rattle.model.specs.Setup.{Setup}
+use Rattle.model.specs.Graph.{chainFrom}
+use Rattle.model.specs.Step.{State, opened, steps}
 use Rattle.model.specs.Cases as Cases
 use Rattle.state_bytes.specs.Bytes.{numberAt, tabulate, fields}
 use Rattle.state_bytes.specs.Layout.{listsOf, stateIn, stateLength, lengthsFit}
@@ -33,9 +36,9 @@ use Rattle.depot.proofs.Output.{output-performed}
 
 -- the lines of lists that are read as their state
 report-of : (commands : List ℕ) (o : Setup) (s : State) → stateIn (listsOf o s) ≡ s
-    → report commands (listsOf o s) ≡ commandLines commands (tabulate (length (o .commands)) (λ i. s .answers (suc i))) ++ totals s
+    → report commands (listsOf o s) ≡ commandLines commands (tabulate (length (o .commands)) (λ i. s .service .answers (suc i))) ++ totals s
 unfolding report
-report-of commands o s e = ap (λ (t : State). commandLines commands (listsOf o s .answers) ++ totals t) e ∙ ap (λ (a : List ℕ). commandLines commands a ++ totals s) (lists-answers o s)
+report-of commands o s e = ap (λ (t : State). commandLines commands (listsOf o s .service .answers) ++ totals t) e ∙ ap (λ (a : List ℕ). commandLines commands a ++ totals s) (lists-answers o s)
 
 -- the calls, one after the other
 pub prints-reached : PrintsReached
@@ -51,7 +54,7 @@ decimal-zero : decimal 0 ≡ ascii "0"
 unfolding decimal decimalWithin
 decimal-zero = refl
 
-empty-chain : (s : State) (n : ℕ) → s .next 0 ≡ 0 → s .store .used ≡ n → totals s ≡ ascii "store " ++ decimal n ++ ascii " chain 0\n"
+empty-chain : (s : State) (n : ℕ) → s .graph .next 0 ≡ 0 → s .service .store .used ≡ n → totals s ≡ ascii "store " ++ decimal n ++ ascii " chain 0\n"
 unfolding totals
 empty-chain s n none used =
     rw (chain-ends 150 0 s none, used, decimal-zero, append-assoc (ascii "store " ++ decimal n ++ ascii " chain ") (ascii "0") newline)

@@ -7,7 +7,8 @@ use lib.Dec.{ltb}
 use Rattle.command.specs.declared.Kind.{Kind}
 use Rattle.command.specs.declared.Kind.the-variants.{Insert, Delete, Read, Update}
 use Rattle.command.specs.Read.{kindOf}
-use Rattle.model.specs.Step.{State, chainFrom}
+use Rattle.model.specs.Graph.{chainFrom}
+use Rattle.model.specs.Step.{State}
 use Rattle.state_bytes.specs.Bytes.{numberAt, fields}
 use Rattle.state_bytes.specs.Layout.{Lists, lists, stateLength, stateIn}
 use Rattle.controller.specs.Calls.{Outcome, accepted, refused, openOn, advanceOn}
@@ -53,7 +54,7 @@ commandLines commands answers =
 
 -- "then `store`, entries used, `chain`, records linked"
 unfoldable pub totals : State → List ℕ
-totals s = ascii "store " ++ decimal (s .store .used) ++ ascii " chain " ++ decimal (length (chainFrom 150 0 s)) ++ newline
+totals s = ascii "store " ++ decimal (s .service .store .used) ++ ascii " chain " ++ decimal (length (chainFrom 150 0 s)) ++ newline
 
 -- all lines, from the lists that the calls leave
 unfoldable pub report : List ℕ → Lists → List ℕ

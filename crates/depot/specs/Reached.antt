@@ -7,7 +7,8 @@ use mathlib.Core.Bool.{true}
 use mathlib.Core.List.{List, _++_}
 use lib.ListN.{length, take}
 use Rattle.command.specs.Read.{commandsIn}
-use Rattle.model.specs.Step.{Setup, State, opened, steps}
+use Rattle.model.specs.Setup.{Setup}
+use Rattle.model.specs.Step.{State, opened, steps}
 use Rattle.model.specs.Serial.{serialAnswers, serialEntries}
 use Rattle.model.specs.Statement.{allWithin, removed, EachCommand}
 use Rattle.model.specs.Cases as Cases

@@ -4,7 +4,7 @@ ghost use mathlib.Core.Path.{_≡_};
 ghost use mathlib.Core.List.{[], _++_};
 ghost use lib.ListN.{length};
 ghost use Rattle.state_bytes.specs.Layout.{lists, stateIn};
-ghost use Rattle.model.specs.Step.{chainFrom};
+ghost use Rattle.model.specs.Graph.{chainFrom};
 ghost use Rattle.depot.specs.Program.{decimal, space, kindName, refusal, commandLine, commandLines, totals, report};
 ghost use Rattle.depot.specs.Wrote.{Wrote};
 use crate::text::NEWLINE;

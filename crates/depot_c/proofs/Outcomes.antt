@@ -11,7 +11,7 @@ use borrow.Author.Tests.{leb-true, eqb-true, le-leb}
 use Rattle.command.specs.Read.{firstRefusal, readings, commandsIn}
 use Rattle.command.specs.Read as Command
 use Rattle.command.proofs.Laws.{length-readings}
-use Rattle.model.specs.Step.{Setup}
+use Rattle.model.specs.Setup.{Setup}
 use Rattle.model.specs.Statement.{allWithin}
 use Rattle.model.specs.Proof.Tests.{fails}
 use Rattle.state_bytes.specs.Bytes.{numberAt}

@@ -8,7 +8,8 @@ use lib.ListN.{length, getD, set}
 use lib.Dec.{eqb}
 use lib.Seq.{getD-set-same, getD-set-other}
 use Rattle.node_set.specs.Members.{member}
-use Rattle.model.specs.Step.{upd, noNode}
+use Rattle.model.specs.Upd.{upd}
+use Rattle.model.specs.Graph.{noNode}
 use Rattle.model.specs.Proof.Upd.{upd-at, upd-other, upd-cases, upd-map}
 use Rattle.model.specs.Proof.Tests.{eqb-cases}
 use Rattle.graph.specs.Arrays.{numbers, sets, Nodes}

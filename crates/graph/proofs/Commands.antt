@@ -13,7 +13,8 @@ use lib.Seq.{drop-drop}
 use Rattle.command.specs.declared.Command.{Command}
 use Rattle.command.specs.Read.{readCommand, parts, partsOf, readings, commandFrom, commandsIn}
 use Rattle.command.proofs.Laws.{length-readings}
-use Rattle.model.specs.Step.{upd, commandAt}
+use Rattle.model.specs.Upd.{upd}
+use Rattle.model.specs.Setup.{commandAt}
 use Rattle.model.specs.Proof.Upd.{upd-at, upd-other}
 use Rattle.model.specs.Proof.Tests.{eqb-cases}
 use Rattle.graph.specs.Arrays.{numbers}

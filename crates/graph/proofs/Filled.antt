@@ -10,7 +10,7 @@ use lib.Dec.{eqb}
 use borrow.Author.Count.{below-more}
 use borrow.Author.Tests.{eq-eqb, ne-eqb}
 use Rattle.command.specs.declared.Command.{Command}
-use Rattle.model.specs.Step.{commandAt}
+use Rattle.model.specs.Setup.{commandAt}
 use Rattle.graph.specs.Items.{keptAt, Kept}
 use Rattle.graph.proofs.Commands.{none-at-zero}
 

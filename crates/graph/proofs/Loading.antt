@@ -9,7 +9,10 @@ use borrow.Author.Tests.{eq-eqb, ne-eqb}
 use Rattle.node_set.specs.declared.Node.{Node}
 use Rattle.node_set.specs.Members.{member}
 use Rattle.model.specs.declared.Thread.the-variants.{Idle, Loading}
-use Rattle.model.specs.Step.{State, upd, node, bothDependent, commandOf, setThread, setLocked, setExecuting, setNext, setWaits, stepOn, link, addDependence, loaderWalk}
+use Rattle.model.specs.Upd.{upd}
+use Rattle.model.specs.Setup.{bothDependent}
+use Rattle.model.specs.Graph.{setLocked, setExecuting, setNext, setWaits}
+use Rattle.model.specs.Step.{State, node, commandOf, setThread, stepOn, link, addDependence, loaderWalk}
 use Rattle.model.specs.Proof.Upd.{upd-at, upd-other, upd-id}
 use Rattle.model.specs.Proof.Tests.{eqb-cases}
 use Rattle.graph.specs.Arrays.{numbers, flags, sets, withGraph, Linked}
@@ -18,10 +21,10 @@ use Rattle.graph.specs.Memory.{LoaderWalks}
 
 -- a state with other sets
 abbrev withWaits : (ℕ → ℕ → Bool) → State → State
-withWaits waits s = withGraph (s .next) (s .seq) (s .executing) (s .locked) waits (s .free) s
+withWaits waits s = withGraph (s .graph .next) (s .graph .seq) (s .graph .executing) (s .graph .locked) waits (s .graph .free) s
 
 -- a choice between two states that differ in their sets is a choice between the sets
-sets-picked : (b : Bool) (n : ℕ) (set : ℕ → Bool) (s : State) → cond b (setWaits n set s) s ≡ withWaits (cond b (upd (s .waits) n set) (s .waits)) s
+sets-picked : (b : Bool) (n : ℕ) (set : ℕ → Bool) (s : State) → cond b (setWaits n set s) s ≡ withWaits (cond b (upd (s .graph .waits) n set) (s .graph .waits)) s
 unfolding setWaits
 sets-picked true n set s = refl
 sets-picked false n set s = refl
@@ -59,4 +62,4 @@ module _ (at own : Node) (next : List ℕ) (executing locked : List Bool) (waits
     unfolding loaderWalk addDependence bothDependent commandOf stepOn setThread setLocked setWaits
     loader-steps locked′ waits′ unlocked-y own-in y-in stored added o s nx ex lk wt kept th =
         rw (nx, ex, lk, wt, next-is, ne-eqb y 0 more, unlocked-y, stored, added, ← kept y y-in, ← kept (own .0) own-in)
-        (ap (setThread 0 (Loading (node y) own)) (sets-picked (bothDependent (keptAt kinds keys chutes y) (keptAt kinds keys chutes (own .0))) (own .0) (upd (sets waits (own .0)) y true) (stepOn (at .0) y (withGraph (numbers next) (s .seq) (flags executing) (flags locked) (sets waits) (s .free) s))))
+        (ap (setThread 0 (Loading (node y) own)) (sets-picked (bothDependent (keptAt kinds keys chutes y) (keptAt kinds keys chutes (own .0))) (own .0) (upd (sets waits (own .0)) y true) (stepOn (at .0) y (withGraph (numbers next) (s .graph .seq) (flags executing) (flags locked) (sets waits) (s .graph .free) s))))

@@ -10,7 +10,9 @@ use Rattle.node_set.specs.declared.Node.{Node}
 use Rattle.node_set.specs.Members.{noneBelow}
 use Rattle.model.specs.declared.Thread.{Thread}
 use Rattle.model.specs.declared.Thread.the-variants.{Idle, Searching, Holding, Walking, Clearing}
-use Rattle.model.specs.Step.{State, upd, node, setThread, setLocked, setExecuting, setNext, setSeq, setFree, setWaits, stepOn, enter, leave, ready, examine, searching, bypass, walking, return, clearing}
+use Rattle.model.specs.Upd.{upd}
+use Rattle.model.specs.Graph.{setLocked, setExecuting, setNext, setSeq, setFree, setWaits}
+use Rattle.model.specs.Step.{State, node, setThread, stepOn, enter, leave, ready, examine, searching, bypass, walking, return, clearing}
 use Rattle.model.specs.Proof.Upd.{upd-id}
 use Rattle.graph.specs.Arrays.{numbers, flags, sets, PutBack, Entered, Searches, Walks, ClearsOn}
 use Rattle.graph.proofs.Bridge.{value}
@@ -45,7 +47,7 @@ module _ (at : Node) (next : List ℕ) (executing locked : List Bool) (waits : L
         rw (value nx (at .0) ∙ next-is, ne-eqb y 0 more, value lk y ∙ shut, upd-id (s .threads) t (Searching at) (sym th), ← lk, ← ex)
 
     -- Whether the next node is ready is read from the arrays.
-    ready-is : (s : State) → s .executing ≡ flags executing → s .waits ≡ sets waits → ready s y ≡ (not (flags executing y) && noneBelow 192 (sets waits y))
+    ready-is : (s : State) → s .graph .executing ≡ flags executing → s .graph .waits ≡ sets waits → ready (s .graph) y ≡ (not (flags executing y) && noneBelow 192 (sets waits y))
     unfolding ready
     ready-is s ex wt = rw (value ex y, value wt y)
 

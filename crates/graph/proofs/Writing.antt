@@ -6,7 +6,9 @@ use mathlib.Core.Option.{none, some}
 use native.Mathlib.Omega.{arith}
 use lib.ListN.{length, set}
 use Rattle.command.specs.declared.Command.{Command}
-use Rattle.model.specs.Step.{upd, write, writeKind, writeFor, setStore, setAnswer}
+use Rattle.model.specs.Upd.{upd}
+use Rattle.model.specs.Service.{write, writeKind, writeFor}
+use Rattle.model.specs.Step.{setStore, setAnswer}
 use Rattle.store.specs.Lists.{storeOf}
 use Rattle.graph.specs.Memory.{answersOf, Writes}
 use Rattle.graph.proofs.Bridge.{set-is-upd}

@@ -8,7 +8,7 @@ use lib.ListN.{getD}
 use lib.Dec.{eqb}
 use Rattle.command.specs.declared.Command.{Command}
 use Rattle.command.specs.Read.{kindOf}
-use Rattle.model.specs.Step.{commandAt}
+use Rattle.model.specs.Setup.{commandAt}
 use Rattle.graph.specs.declared.items.Item.{Item}
 use Rattle.graph.specs.declared.items.Item.the-variants.{Nothing, Of}
 

@@ -10,7 +10,10 @@ use Rattle.node_set.specs.declared.Node.{Node}
 use Rattle.model.specs.declared.Thread.{Thread}
 use Rattle.model.specs.declared.Thread.the-variants.{Loading}
 use Rattle.model.specs.Store.{Store}
-use Rattle.model.specs.Step.{Setup, State, upd, step, setThread, loaderWalk, writeFor}
+use Rattle.model.specs.Upd.{upd}
+use Rattle.model.specs.Setup.{Setup}
+use Rattle.model.specs.Service.{writeFor}
+use Rattle.model.specs.Step.{State, step, setThread, loaderWalk}
 use Rattle.store.specs.Lists.{storeOf}
 use Rattle.model.specs.declared.Counters.{Counters}
 use Rattle.graph.specs.Arrays.{numbers, flags, sets, Nodes, Within, withGraph}
@@ -52,13 +55,13 @@ shown m threads = record {
 -- a state with another store and other answers
 abbrev pub withService : Store → (ℕ → ℕ) → State → State
 withService store answers s = record {
-  next = s .next;
-  seq = s .seq;
-  executing = s .executing;
-  locked = s .locked;
-  waits = s .waits;
-  free = s .free;
-  loaded = s .loaded;
+  next = s .graph .next;
+  seq = s .graph .seq;
+  executing = s .graph .executing;
+  locked = s .graph .locked;
+  waits = s .graph .waits;
+  free = s .graph .free;
+  loaded = s .graph .loaded;
   threads = s .threads;
   store = store;
   answers = answers;
@@ -67,14 +70,14 @@ withService store answers s = record {
 -- the loader's walk on the arrays: on every state that they show, the model's
 abbrev pub LoaderWalks : Node → Node → List ℕ → List Bool → List Bool → List (List ℕ) → List ℕ → List ℕ → List ℕ → Thread → List ℕ → List Bool → List Bool → List (List ℕ) → Type 0
 LoaderWalks at own next executing locked waits kinds keys chutes r next′ executing′ locked′ waits′ =
-    (o : Setup) (s : State) → s .next ≡ numbers next → s .executing ≡ flags executing → s .locked ≡ flags locked → s .waits ≡ sets waits
-    → Kept (o .commands) (s .seq) kinds keys chutes → s .threads 0 ≡ Loading at own
-    → loaderWalk o (at .0) (own .0) (s .next (at .0)) s ≡ setThread 0 r (withGraph (numbers next′) (s .seq) (flags executing′) (flags locked′) (sets waits′) (s .free) s)
+    (o : Setup) (s : State) → s .graph .next ≡ numbers next → s .graph .executing ≡ flags executing → s .graph .locked ≡ flags locked → s .graph .waits ≡ sets waits
+    → Kept (o .commands) (s .graph .seq) kinds keys chutes → s .threads 0 ≡ Loading at own
+    → loaderWalk o (at .0) (own .0) (s .graph .next (at .0)) s ≡ setThread 0 r (withGraph (numbers next′) (s .graph .seq) (flags executing′) (flags locked′) (sets waits′) (s .graph .free) s)
 
 -- the writing of a command's answer: on every state with this store and these answers, the model's
 abbrev pub Writes : Option Command → ℕ → ℕ → List ℕ → List ℕ → List ℕ → ℕ → List ℕ → List ℕ → List ℕ → ℕ → Type 0
 Writes item place found keys chutes answers used keys′ chutes′ answers′ used′ =
-    (o : Setup) (s : State) → o .capacity ≡ length keys → s .store ≡ storeOf keys chutes used → s .answers ≡ answersOf answers
+    (o : Setup) (s : State) → o .capacity ≡ length keys → s .service .store ≡ storeOf keys chutes used → s .service .answers ≡ answersOf answers
     → writeFor o item place found s ≡ withService (storeOf keys′ chutes′ used′) (answersOf answers′) s
 
 -- what a step needs of its memory: node numbers that are nodes', each node's command kept, and a list of as many commands as answers

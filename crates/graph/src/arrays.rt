@@ -3,7 +3,7 @@
 ghost use mathlib.Core.Path.{_≡_};
 ghost use Prim.Native.Nat.{_≤_};
 ghost use Rattle.node_set.specs.Members.{member};
-ghost use Rattle.model.specs.Step.{upd};
+ghost use Rattle.model.specs.Upd.{upd};
 ghost use Rattle.graph.specs.Arrays.{numbers, flags, sets};
 
 // Sets the next index of a node.

@@ -3,7 +3,7 @@
 ghost use mathlib.Core.Path.{_≡_};
 ghost use mathlib.Core.Bool.{Bool, true, false};
 ghost use Prim.Native.Nat.{ℕ, _≤_};
-ghost use Rattle.model.specs.Step.{upd};
+ghost use Rattle.model.specs.Upd.{upd};
 ghost use Rattle.graph.specs.Arrays.{flags, Nodes, Within, Loaded, PutBack, Entered, Searches, Walks, ClearsOn};
 use crate::arrays::set_flag;
 use crate::arrays::set_next;

@@ -7,7 +7,7 @@ ghost use Prim.Native.Nat.{ℕ, _+_, _*_, _≤_};
 ghost use lib.ListN.{length, take, drop};
 ghost use lib.Dec.{eqb};
 ghost use Rattle.command.specs.Read.{readCommand, commandFrom};
-ghost use Rattle.model.specs.Step.{bothDependent};
+ghost use Rattle.model.specs.Setup.{bothDependent};
 ghost use Rattle.graph.specs.Items.{itemOf, keptAt};
 use command::Command;
 use command::Kind;

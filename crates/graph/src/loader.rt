@@ -2,7 +2,8 @@
 ghost use mathlib.Core.Path.{_≡_};
 ghost use mathlib.Core.Bool.{true, cond};
 ghost use Prim.Native.Nat.{_≤_};
-ghost use Rattle.model.specs.Step.{upd, bothDependent};
+ghost use Rattle.model.specs.Upd.{upd};
+ghost use Rattle.model.specs.Setup.{bothDependent};
 ghost use Rattle.graph.specs.Arrays.{sets, Nodes, Within, Linked};
 ghost use Rattle.graph.specs.Items.{keptAt};
 ghost use Rattle.graph.specs.Memory.{LoaderWalks};

@@ -5,7 +5,7 @@ ghost use Prim.Native.Nat.{_≤_};
 ghost use lib.ListN.{length};
 ghost use Rattle.command.specs.declared.Command.{Command as Cmd};
 ghost use Rattle.command.specs.declared.Kind.the-variants.{Insert};
-ghost use Rattle.model.specs.Step.{foundFor, writeKind, write as writing};
+ghost use Rattle.model.specs.Service.{foundFor, writeKind, write as writing};
 ghost use Rattle.store.specs.Lists.{storeOf};
 ghost use Rattle.graph.specs.Items.{itemOf};
 ghost use Rattle.graph.specs.Memory.{Writes};

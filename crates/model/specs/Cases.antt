@@ -15,7 +15,10 @@ use Rattle.command.specs.Dependent.{areDependent}
 use Rattle.node_set.specs.Members.{noneBelow}
 use Rattle.model.specs.Serial.{serve}
 use Rattle.model.specs.Store.{lookUp, insert}
-use Rattle.model.specs.Step.{Setup, State, upd, opened, steps, chainFrom}
+use Rattle.model.specs.Upd.{upd}
+use Rattle.model.specs.Setup.{Setup}
+use Rattle.model.specs.Graph.{chainFrom}
+use Rattle.model.specs.Step.{State, opened, steps}
 
 -- AA000000005AA and ZZ999999995ZZ
 unfoldable pub firstText : List ℕ
@@ -49,7 +52,7 @@ after n = steps setup (take n (drop 38 input)) (opened setup)
 -- what the program prints of a state: the two answers, "`store`, entries used, `chain`, records linked"
 unfoldable pub printed : State → List ℕ
 unfolding chainFrom
-printed s = s .answers 1 ∷ s .answers 2 ∷ s .store .used ∷ length (chainFrom 150 0 s) ∷ []
+printed s = s .service .answers 1 ∷ s .service .answers 2 ∷ s .service .store .used ∷ length (chainFrom 150 0 (s .graph)) ∷ []
 
 pub record Marked : Type 0 where
   -- "serial 00000000 has check digit 5"

@@ -1,5 +1,9 @@
+pub mod Upd
+pub mod Setup
 pub mod Serial
 pub mod Store
+pub mod Graph
+pub mod Service
 pub mod Step
 pub mod Statement
 pub mod Cases

@@ -6,6 +6,7 @@ pub mod Serial
 pub mod Store
 pub mod Write
 pub mod Service
+pub mod Consistent
 pub mod Chain
 pub mod Formed
 pub mod Finish

@@ -13,7 +13,8 @@ use Rattle.model.specs.declared.Thread.{Thread}
 use Rattle.model.specs.declared.Thread.the-variants.{Idle, Loading, Searching, Holding, LookedUp, Written, Walking, Clearing}
 use Rattle.model.specs.Serial.{serialAnswers, serialEntries}
 use Rattle.model.specs.Store.{layOut}
-use Rattle.model.specs.Step.{Setup, State, opened, commandAt, step, steps}
+use Rattle.model.specs.Setup.{Setup, commandAt}
+use Rattle.model.specs.Step.{State, opened, step, steps}
 
 -- what an accepted opening has been tested for, as far as the theorem needs it
 pub record Accepted (o : Setup) : Type 0 where
@@ -35,7 +36,7 @@ writes Idle s = 0
 writes (Loading at own) s = 0
 writes (Searching at) s = 0
 writes (Holding own) s = 0
-writes (LookedUp own found) s = s .seq (own .0)
+writes (LookedUp own found) s = s .graph .seq (own .0)
 writes (Written own) s = 0
 writes (Walking at own) s = 0
 writes (Clearing at own) s = 0
@@ -50,7 +51,7 @@ returns (Holding own) s = 0
 returns (LookedUp own found) s = 0
 returns (Written own) s = 0
 returns (Walking at own) s = 0
-returns (Clearing at own) s = cond (eqb (s .next (at .0)) 0) (s .seq (own .0)) 0
+returns (Clearing at own) s = cond (eqb (s .graph .next (at .0)) 0) (s .graph .seq (own .0)) 0
 
 -- whether some step of a schedule, begun in a state, writes the answer of command c, or returns its node
 module _ (o : Setup) (c : ℕ) where
@@ -73,10 +74,10 @@ serialAnswer o c = getD (0 ∷ serialAnswers (o .capacity) (o .commands)) c 0
 -- the three parts, after a schedule
 pub record Holds (o : Setup) (ts : List ℕ) : Type 0 where
   -- "Each answer is 0 before its command's writing turn, and from that turn on the one that running the whole list [..] gives."
-  pub answer : EachCommand o (λ c. steps o ts (opened o) .answers c ≡ cond (wrote o c ts (opened o)) (serialAnswer o c) 0)
+  pub answer : EachCommand o (λ c. steps o ts (opened o) .service .answers c ≡ cond (wrote o c ts (opened o)) (serialAnswer o c) 0)
   -- "When all commands are removed, every answer is given and the chute table is that run's, entry for entry."
   pub table : EachCommand o (λ c. removed o c ts (opened o) ≡ true) →
-      EachCommand o (λ c. 1 ≤ steps o ts (opened o) .answers c) × (steps o ts (opened o) .store ≡ layOut (o .capacity) (serialEntries (o .capacity) (o .commands)))
+      EachCommand o (λ c. 1 ≤ steps o ts (opened o) .service .answers c) × (steps o ts (opened o) .service .store ≡ layOut (o .capacity) (serialEntries (o .capacity) (o .commands)))
   -- "And some further dealing is accepted and leaves every command removed and every party idle"
   pub finish : (more : List ℕ) × (allWithin (o .workers) more ≡ true) × EachCommand o (λ c. removed o c (ts ++ more) (opened o) ≡ true)
       × ((t : ℕ) → t ≤ o .workers → steps o (ts ++ more) (opened o) .threads t ≡ Idle)

@@ -9,7 +9,8 @@ use lib.ListN.{length, getD, set, replicate}
 use lib.Dec.{eqb}
 use borrow.Author.Tests.{lt-ltb, le-ltb, ne-eqb, eqb-true}
 use Rattle.node_set.specs.Members.{member, countBelow}
-use Rattle.model.specs.Step.{State, chainFrom}
+use Rattle.model.specs.Graph.{chainFrom}
+use Rattle.model.specs.Step.{State}
 use Rattle.state_bytes.specs.Bytes.{tabulate}
 use Rattle.state_bytes.specs.Layout.{Lists, stateIn, setAt}
 use Rattle.state_bytes.proofs.Fill.{Filled, filled-none, filled-more, filled-all}
@@ -43,47 +44,47 @@ count-within (suc k) test = omega (arith, one-at-most (test k), count-within k t
 
 module _ (l : Lists) (n : ℕ) where
   -- a number that no node has is followed by none and waits for none
-  pub next-past : 150 < n → 0 ≡ stateIn l .next n
+  pub next-past : 150 < n → 0 ≡ stateIn l .graph .next n
   unfolding stateIn
   next-past h =
       let past : 151 ≤ n = omega arith in
       rw (le-ltb n 151 past)
 
-  waits-past : 150 < n → (y : ℕ) → stateIn l .waits n y ≡ false
+  waits-past : 150 < n → (y : ℕ) → stateIn l .graph .waits n y ≡ false
   unfolding stateIn
   waits-past h y =
       let past : 151 ≤ n = omega arith in
       rw (le-ltb n 151 past)
 
-  pub count-past : 150 < n → 0 ≡ countBelow 192 (stateIn l .waits n)
-  count-past h = sym (count-same 192 (stateIn l .waits n) (λ y. false) (waits-past h) ∙ count-none 192)
+  pub count-past : 150 < n → 0 ≡ countBelow 192 (stateIn l .graph .waits n)
+  count-past h = sym (count-same 192 (stateIn l .graph .waits n) (λ y. false) (waits-past h) ∙ count-none 192)
 
   -- a node has what the bytes say
-  pub next-read : (b : List ℕ) → l .state ≡ b → n ≤ 150 → getD b (11 + n) 0 ≡ stateIn l .next n
+  pub next-read : (b : List ℕ) → l .state ≡ b → n ≤ 150 → getD b (11 + n) 0 ≡ stateIn l .graph .next n
   unfolding stateIn
   next-read b same h =
       let among : n < 151 = omega arith in
       rw (lt-ltb n 151 among, same)
 
-  waits-read : (b : List ℕ) → l .state ≡ b → n ≤ 150 → (y : ℕ) → member (setAt b n) y ≡ stateIn l .waits n y
+  waits-read : (b : List ℕ) → l .state ≡ b → n ≤ 150 → (y : ℕ) → member (setAt b n) y ≡ stateIn l .graph .waits n y
   unfolding stateIn
   waits-read b same h y =
       let among : n < 151 = omega arith in
       rw (lt-ltb n 151 among, same)
 
   pub count-read : (b : List ℕ) {set : List ℕ} {r : ℕ} → l .state ≡ b → n ≤ 150 → set ≡ setAt b n → r ≡ countBelow 192 (member set)
-      → r ≡ countBelow 192 (stateIn l .waits n)
+      → r ≡ countBelow 192 (stateIn l .graph .waits n)
   count-read b same h is counted =
-      counted ∙ ap (λ (set : List ℕ). countBelow 192 (member set)) is ∙ count-same 192 (member (setAt b n)) (stateIn l .waits n) (waits-read b same h)
+      counted ∙ ap (λ (set : List ℕ). countBelow 192 (member set)) is ∙ count-same 192 (member (setAt b n)) (stateIn l .graph .waits n) (waits-read b same h)
 
 -- ---- the walk
 
 -- the node behind a node, and a node's count; 0 is followed by 0 and counts 0
 unfoldable pub after : State → ℕ → ℕ
-after s y = cond (eqb y 0) 0 (s .next y)
+after s y = cond (eqb y 0) 0 (s .graph .next y)
 
 unfoldable pub shown : State → ℕ → ℕ
-shown s y = cond (eqb y 0) 0 (countBelow 192 (s .waits y))
+shown s y = cond (eqb y 0) 0 (countBelow 192 (s .graph .waits y))
 
 -- where a walk from a node stands after i steps, and what it has counted there
 unfoldable pub walked : State → ℕ → ℕ → ℕ
@@ -113,10 +114,10 @@ ended-counts f (suc k) each = ap₂ _∷_ (sym (each 0)) (ended-counts (λ i. f 
 -- ---- the report is what the walk counts
 
 abbrev counts : State → ℕ → ℕ → List ℕ
-counts s k x = map (λ (n : ℕ). countBelow 192 (s .waits n)) (chainFrom k x s) ++ replicate (k - length (chainFrom k x s)) 0
+counts s k x = map (λ (n : ℕ). countBelow 192 (s .graph .waits n)) (chainFrom k x s) ++ replicate (k - length (chainFrom k x s)) 0
 
 -- behind the last node there are zeros
-counts-end : (s : State) (k x : ℕ) → eqb (s .next x) 0 ≡ true → counts s (suc k) x ≡ replicate (suc k) 0
+counts-end : (s : State) (k x : ℕ) → eqb (s .graph .next x) 0 ≡ true → counts s (suc k) x ≡ replicate (suc k) 0
 unfolding chainFrom
 counts-end s k x e =
     let all : suc k - 0 ≡ suc k = omega arith in
@@ -126,41 +127,41 @@ counts-end s k x e =
 one-less : (m n : ℕ) → suc m - suc n ≡ m - n
 one-less m n = omega arith
 
-counts-next : (s : State) (k x : ℕ) → eqb (s .next x) 0 ≡ false → counts s (suc k) x ≡ countBelow 192 (s .waits (s .next x)) ∷ counts s k (s .next x)
+counts-next : (s : State) (k x : ℕ) → eqb (s .graph .next x) 0 ≡ false → counts s (suc k) x ≡ countBelow 192 (s .graph .waits (s .graph .next x)) ∷ counts s k (s .graph .next x)
 unfolding chainFrom
 counts-next s k x e =
-    let y : ℕ = s .next x in
-    rw e (ap (λ (m : ℕ). countBelow 192 (s .waits y) ∷ (map (λ (n : ℕ). countBelow 192 (s .waits n)) (chainFrom k y s) ++ replicate m 0)) (one-less k (length (chainFrom k y s))))
+    let y : ℕ = s .graph .next x in
+    rw e (ap (λ (m : ℕ). countBelow 192 (s .graph .waits y) ∷ (map (λ (n : ℕ). countBelow 192 (s .graph .waits n)) (chainFrom k y s) ++ replicate m 0)) (one-less k (length (chainFrom k y s))))
 
 -- and so it is by the walk
-walked-first : (s : State) (k y : ℕ) → eqb y 0 ≡ false → tabulate (suc k) (walkedCount s y) ≡ countBelow 192 (s .waits y) ∷ tabulate k (walkedCount s (s .next y))
+walked-first : (s : State) (k y : ℕ) → eqb y 0 ≡ false → tabulate (suc k) (walkedCount s y) ≡ countBelow 192 (s .graph .waits y) ∷ tabulate k (walkedCount s (s .graph .next y))
 unfolding tabulate walked after shown
 walked-first s k y e = rw e
 
 -- whether or not there is a next node
-counts-either : (s : State) (k x : ℕ) → ((y : ℕ) → counts s k y ≡ tabulate k (walkedCount s (s .next y)))
-    → (t : Bool) → eqb (s .next x) 0 ≡ t → counts s (suc k) x ≡ tabulate (suc k) (walkedCount s (s .next x))
+counts-either : (s : State) (k x : ℕ) → ((y : ℕ) → counts s k y ≡ tabulate k (walkedCount s (s .graph .next y)))
+    → (t : Bool) → eqb (s .graph .next x) 0 ≡ t → counts s (suc k) x ≡ tabulate (suc k) (walkedCount s (s .graph .next x))
 counts-either s k x rest true e =
     counts-end s k x e ∙ ended-counts (walkedCount s 0) (suc k) (walked-end s)
-    ∙ ap (λ (y : ℕ). tabulate (suc k) (walkedCount s y)) (sym (eqb-true (s .next x) 0 e))
+    ∙ ap (λ (y : ℕ). tabulate (suc k) (walkedCount s y)) (sym (eqb-true (s .graph .next x) 0 e))
 counts-either s k x rest false e =
-    counts-next s k x e ∙ ap (λ (more : List ℕ). countBelow 192 (s .waits (s .next x)) ∷ more) (rest (s .next x)) ∙ sym (walked-first s k (s .next x) e)
+    counts-next s k x e ∙ ap (λ (more : List ℕ). countBelow 192 (s .graph .waits (s .graph .next x)) ∷ more) (rest (s .graph .next x)) ∙ sym (walked-first s k (s .graph .next x) e)
 
-counts-walked : (s : State) (k x : ℕ) → counts s k x ≡ tabulate k (walkedCount s (s .next x))
+counts-walked : (s : State) (k x : ℕ) → counts s k x ≡ tabulate k (walkedCount s (s .graph .next x))
 unfolding tabulate chainFrom
 counts-walked s zero x = refl
-counts-walked s (suc k) x = counts-either s k x (counts-walked s k) (eqb (s .next x) 0) refl
+counts-walked s (suc k) x = counts-either s k x (counts-walked s k) (eqb (s .graph .next x) 0) refl
 
 -- ---- the loop
 
 -- The first i entries are written, and the walk stands at node n.
 pub record Counted (s : State) (entries : List ℕ) (n i : ℕ) : Type 0 where
-  pub filled : Filled (walkedCount s (s .next 0)) 150 entries i
-  pub stands : n ≡ walked s (s .next 0) i
+  pub filled : Filled (walkedCount s (s .graph .next 0)) 150 entries i
+  pub stands : n ≡ walked s (s .graph .next 0) i
 
 module _ {s : State} {entries : List ℕ} {n : ℕ} where
   -- at first it stands behind the head
-  pub counted-none : n ≡ s .next 0 → length entries ≡ 150 → Counted s entries n 0
+  pub counted-none : n ≡ s .graph .next 0 → length entries ≡ 150 → Counted s entries n 0
   unfolding walked
   counted-none is long = record { filled = filled-none long; stands = is }
 
@@ -168,13 +169,13 @@ module _ {s : State} {entries : List ℕ} {n : ℕ} where
   pub counted-end : {i : ℕ} → Counted s entries n i → i < 150 → n ≡ 0 → Counted s (set entries i 0) n (i + 1)
   unfolding after shown
   counted-end {i} c h e =
-      let at : walked s (s .next 0) i ≡ 0 = sym (c .stands) ∙ e in
+      let at : walked s (s .graph .next 0) i ≡ 0 = sym (c .stands) ∙ e in
       record { filled = filled-more 0 (c .filled) h (rw at); stands = e ∙ sym (rw (add-one, walked-more, at)) }
 
-  pub counted-more : {i v m : ℕ} → Counted s entries n i → i < 150 → (n ≡ 0 → ⊥) → v ≡ countBelow 192 (s .waits n) → m ≡ s .next n → Counted s (set entries i v) m (i + 1)
+  pub counted-more : {i v m : ℕ} → Counted s entries n i → i < 150 → (n ≡ 0 → ⊥) → v ≡ countBelow 192 (s .graph .waits n) → m ≡ s .graph .next n → Counted s (set entries i v) m (i + 1)
   unfolding after shown
   counted-more {i} {v} {m} c h some is next =
-      let at : walked s (s .next 0) i ≡ n = sym (c .stands) in
+      let at : walked s (s .graph .next 0) i ≡ n = sym (c .stands) in
       record {
         filled = filled-more v (c .filled) h (is ∙ sym (rw (at, ne-eqb n 0 some)));
         stands = next ∙ sym (rw (add-one, walked-more, at, ne-eqb n 0 some));

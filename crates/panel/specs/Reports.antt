@@ -7,7 +7,8 @@ use lib.Dec.{eqb, leb}
 use Rattle.node_set.specs.Members.{countBelow}
 use Rattle.model.specs.declared.Thread.{Thread}
 use Rattle.model.specs.declared.Thread.the-variants.{Idle, Loading, Searching, Holding, LookedUp, Written, Walking, Clearing}
-use Rattle.model.specs.Step.{State, node, chainFrom}
+use Rattle.model.specs.Graph.{chainFrom}
+use Rattle.model.specs.Step.{State, node}
 use Rattle.state_bytes.specs.Bytes.{tabulate, fields, numberAt}
 use Rattle.state_bytes.specs.Layout.{Lists, stateFits, handedBackFit}
 use Rattle.panel.specs.declared.Report.{Report}
@@ -39,7 +40,7 @@ unfoldable pub pendingCounts : State → List ℕ
 unfolding chainFrom countBelow
 pendingCounts s =
     let nodes : List ℕ = chainFrom 150 0 s in
-    map (λ (n : ℕ). countBelow 192 (s .waits n)) nodes ++ replicate (150 - length nodes) 0
+    map (λ (n : ℕ). countBelow 192 (s .graph .waits n)) nodes ++ replicate (150 - length nodes) 0
 
 -- ---- worker status
 

@@ -19,7 +19,7 @@ const LAST_NODE: u8 = 150;
 // The node behind a node, 0 for none; a number that no node has is followed by none.
 fn next_of(state: &[u8], n: u8) -> u8
     requires { ⌜ length (now state) ≡ stateLength ⌝ }
-    ensures { λ r. ⌜ ((l : Lists) → l .state ≡ now (state .entry) → r ≡ stateIn l .next n) ⌝ }
+    ensures { λ r. ⌜ ((l : Lists) → l .state ≡ now (state .entry) → r ≡ stateIn l .graph .next n) ⌝ }
 {
     if n > LAST_NODE {
         return 0;
@@ -30,7 +30,7 @@ fn next_of(state: &[u8], n: u8) -> u8
 // How many nodes a node waits for; a number that no node has waits for none.
 fn count_of(state: &[u8], n: u8) -> u8
     requires { ⌜ length (now state) ≡ stateLength ⌝ }
-    ensures { λ r. ⌜ ((l : Lists) → l .state ≡ now (state .entry) → r ≡ countBelow 192 (stateIn l .waits n)) ⌝ }
+    ensures { λ r. ⌜ ((l : Lists) → l .state ≡ now (state .entry) → r ≡ countBelow 192 (stateIn l .graph .waits n)) ⌝ }
 {
     if n > LAST_NODE {
         return 0;

@@ -14,7 +14,8 @@ use Rattle.node_set.proofs.Words.{member-of-word}
 use Rattle.node_set.proofs.Laws.{word-of-is-word-of}
 use Rattle.model.specs.declared.Thread.{Thread}
 use Rattle.model.specs.declared.Thread.the-variants.{Idle}
-use Rattle.model.specs.Step.{Setup, State}
+use Rattle.model.specs.Setup.{Setup}
+use Rattle.model.specs.Step.{State}
 use Rattle.model.specs.declared.Counters.{Counters}
 use Rattle.graph.specs.Arrays.{numbers, flags, sets}
 use Rattle.state_bytes.specs.declared.Settings.{Settings}

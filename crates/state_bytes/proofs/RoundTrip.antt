@@ -12,7 +12,8 @@ use Rattle.node_set.proofs.Laws.{word-of-is-word-of}
 use Rattle.model.specs.Proof.Tests.{fails}
 use Rattle.model.specs.declared.Thread.{Thread}
 use Rattle.model.specs.declared.Thread.the-variants.{Idle, Loading, Searching, Holding, LookedUp, Written, Walking, Clearing}
-use Rattle.model.specs.Step.{Setup, State}
+use Rattle.model.specs.Setup.{Setup}
+use Rattle.model.specs.Step.{State}
 use Rattle.model.specs.Proof.Chain.Invariant.{isLoader, isWorker}
 use Rattle.model.specs.Proof.Formed.{ThreadFormed, SetupFormed, Formed}
 use Rattle.command.specs.Read.{commandsIn}
@@ -28,21 +29,21 @@ pub record Laid (o : Setup) (s : State) (l : Lists) : Type 0 where
   pub workers : numberAt 1 1 (l .state) ≡ o .workers
   pub capacity : numberAt 2 2 (l .state) ≡ o .capacity
   pub count : numberAt 2 4 (l .state) ≡ length (o .commands)
-  pub loaded : numberAt 2 6 (l .state) ≡ s .loaded
-  pub used : numberAt 2 8 (l .state) ≡ s .store .used
-  pub free : numberAt 1 10 (l .state) ≡ s .free
-  pub next : (n : ℕ) → n < 151 → getD (l .state) (11 + n) 0 ≡ s .next n
-  pub seq : (n : ℕ) → n < 151 → numberAt 2 (162 + 2 * n) (l .state) ≡ s .seq n
-  pub executing : (n : ℕ) → n < 151 → getD (l .state) (464 + n) 0 ≡ cond (s .executing n) 1 0
-  pub locked : (n : ℕ) → n < 151 → getD (l .state) (615 + n) 0 ≡ cond (s .locked n) 1 0
-  pub waits : (n : ℕ) → n < 151 → setAt (l .state) n ≡ wordsOf (s .waits n)
+  pub loaded : numberAt 2 6 (l .state) ≡ s .graph .loaded
+  pub used : numberAt 2 8 (l .state) ≡ s .service .store .used
+  pub free : numberAt 1 10 (l .state) ≡ s .graph .free
+  pub next : (n : ℕ) → n < 151 → getD (l .state) (11 + n) 0 ≡ s .graph .next n
+  pub seq : (n : ℕ) → n < 151 → numberAt 2 (162 + 2 * n) (l .state) ≡ s .graph .seq n
+  pub executing : (n : ℕ) → n < 151 → getD (l .state) (464 + n) 0 ≡ cond (s .graph .executing n) 1 0
+  pub locked : (n : ℕ) → n < 151 → getD (l .state) (615 + n) 0 ≡ cond (s .graph .locked n) 1 0
+  pub waits : (n : ℕ) → n < 151 → setAt (l .state) n ≡ wordsOf (s .graph .waits n)
   pub tag : (t : ℕ) → t < 65 → getD (l .state) (4390 + 5 * t) 0 ≡ tagOf (s .threads t)
   pub at : (t : ℕ) → t < 65 → getD (l .state) (4391 + 5 * t) 0 ≡ atOf (s .threads t)
   pub own : (t : ℕ) → t < 65 → getD (l .state) (4392 + 5 * t) 0 ≡ ownOf (s .threads t)
   pub found : (t : ℕ) → t < 65 → numberAt 2 (4393 + 5 * t) (l .state) ≡ foundOf (s .threads t)
-  pub answers : l .answers ≡ tabulate (length (o .commands)) (λ i. s .answers (suc i))
-  pub keys : l .keys ≡ s .store .keys
-  pub chutes : l .chutes ≡ s .store .chutes
+  pub answers : l .answers ≡ tabulate (length (o .commands)) (λ i. s .service .answers (suc i))
+  pub keys : l .keys ≡ s .service .store .keys
+  pub chutes : l .chutes ≡ s .service .store .chutes
 
 -- a flag is 1 or 0
 flag-read : (b : Bool) → getD (flagByte b) 0 0 ≡ cond b 1 0
@@ -58,20 +59,20 @@ module _ (o : Setup) (s : State) where
       rw e (lies-element (lies-field 1 151 f one l n h) 0 (omega (arith, one n)))
 
   -- one word of a set
-  word-read : (n : ℕ) → n < 151 → (i : ℕ) (set : ℕ → Bool) → i < 3 → getD (setParts (s .waits n)) i [] ≡ bytesOf 8 (wordOf 64 set)
+  word-read : (n : ℕ) → n < 151 → (i : ℕ) (set : ℕ → Bool) → i < 3 → getD (setParts (s .graph .waits n)) i [] ≡ bytesOf 8 (wordOf 64 set)
       → (at : ℕ) → at ≡ 766 + 24 * n + total (take i (8 ∷ 8 ∷ 8 ∷ [])) → numberAt 8 at (stateBytes o s) ≡ wordOf 64 set
   word-read n h i set k part at place =
-      let set-lies = lies-field 24 151 (λ m. setBytes (s .waits m)) (λ m. set-length (s .waits m)) (part-lies o s 11 (omega arith)) n h in
-      let word-lies = lies-part (setParts (s .waits n)) (8 ∷ 8 ∷ 8 ∷ []) (set-lengths (s .waits n)) (rw set-parts at set-lies) i k in
+      let set-lies = lies-field 24 151 (λ m. setBytes (s .graph .waits m)) (λ m. set-length (s .graph .waits m)) (part-lies o s 11 (omega arith)) n h in
+      let word-lies = lies-part (setParts (s .graph .waits n)) (8 ∷ 8 ∷ 8 ∷ []) (set-lengths (s .graph .waits n)) (rw set-parts at set-lies) i k in
       lies-number 8 (wordOf 64 set) (word-of-is-word-of 64 set .fits) (rw (place, ← part) word-lies)
 
   -- its three words are the set's
-  set-read : (n : ℕ) → n < 151 → setAt (stateBytes o s) n ≡ wordsOf (s .waits n)
+  set-read : (n : ℕ) → n < 151 → setAt (stateBytes o s) n ≡ wordsOf (s .graph .waits n)
   unfolding setAt
   set-read n h =
-      let first = word-read n h 0 (s .waits n) (omega arith) refl (766 + 24 * n) (omega arith) in
-      let second = word-read n h 1 (λ b. s .waits n (64 + b)) (omega arith) refl (774 + 24 * n) (omega arith) in
-      let third = word-read n h 2 (λ b. s .waits n (128 + b)) (omega arith) refl (782 + 24 * n) (omega arith) in
+      let first = word-read n h 0 (s .graph .waits n) (omega arith) refl (766 + 24 * n) (omega arith) in
+      let second = word-read n h 1 (λ b. s .graph .waits n (64 + b)) (omega arith) refl (774 + 24 * n) (omega arith) in
+      let third = word-read n h 2 (λ b. s .graph .waits n (128 + b)) (omega arith) refl (782 + 24 * n) (omega arith) in
       rw (first, second, third)
 
   -- a thread's parts
@@ -91,20 +92,20 @@ module _ (o : Setup) (s : State) where
 
   -- the bytes of a formed state are read field by field, since each number fits its bytes
   state-laid : SetupFormed o → Formed o s → (l : Lists) → l .state ≡ stateBytes o s
-      → l .answers ≡ tabulate (length (o .commands)) (λ i. s .answers (suc i)) → l .keys ≡ s .store .keys → l .chutes ≡ s .store .chutes → Laid o s l
+      → l .answers ≡ tabulate (length (o .commands)) (λ i. s .service .answers (suc i)) → l .keys ≡ s .service .store .keys → l .chutes ≡ s .service .store .chutes → Laid o s l
   state-laid fo fs l state answers keys chutes = record {
     long = rw state (state-length o s);
     size = rw state (lies-number 1 (o .size) (omega (arith, fo .size)) (part-lies o s 0 (omega arith)));
     workers = rw state (lies-number 1 (o .workers) (omega (arith, fo .workers)) (part-lies o s 1 (omega arith)));
     capacity = rw state (lies-number 2 (o .capacity) (omega (arith, fo .capacity)) (part-lies o s 2 (omega arith)));
     count = rw state (lies-number 2 (length (o .commands)) (omega (arith, fo .count)) (part-lies o s 3 (omega arith)));
-    loaded = rw state (lies-number 2 (s .loaded) (omega (arith, fo .count, fs .loaded-fits)) (part-lies o s 4 (omega arith)));
-    used = rw state (lies-number 2 (s .store .used) (omega (arith, fo .capacity, fs .used-fits)) (part-lies o s 5 (omega arith)));
-    free = rw state (lies-number 1 (s .free) (omega (arith, fo .size, fs .free-fits)) (part-lies o s 6 (omega arith)));
-    next = λ n h. rw state (byte-read _ (λ m. bytes-length 1 (s .next m)) 11 (part-lies o s 7 (omega arith)) n h ∙ ap (λ (r : List ℕ). getD r 0 0) (one-byte (s .next n) (omega (arith, fo .size, fs .next-fits n))));
-    seq = λ n h. rw state (lies-number 2 (s .seq n) (omega (arith, fo .count, fs .seq-fits n)) (lies-field 2 151 _ (λ m. bytes-length 2 (s .seq m)) (part-lies o s 8 (omega arith)) n h));
-    executing = λ n h. rw state (byte-read _ (λ m. flag-length (s .executing m)) 464 (part-lies o s 9 (omega arith)) n h ∙ flag-read (s .executing n));
-    locked = λ n h. rw state (byte-read _ (λ m. flag-length (s .locked m)) 615 (part-lies o s 10 (omega arith)) n h ∙ flag-read (s .locked n));
+    loaded = rw state (lies-number 2 (s .graph .loaded) (omega (arith, fo .count, fs .loaded-fits)) (part-lies o s 4 (omega arith)));
+    used = rw state (lies-number 2 (s .service .store .used) (omega (arith, fo .capacity, fs .used-fits)) (part-lies o s 5 (omega arith)));
+    free = rw state (lies-number 1 (s .graph .free) (omega (arith, fo .size, fs .free-fits)) (part-lies o s 6 (omega arith)));
+    next = λ n h. rw state (byte-read _ (λ m. bytes-length 1 (s .graph .next m)) 11 (part-lies o s 7 (omega arith)) n h ∙ ap (λ (r : List ℕ). getD r 0 0) (one-byte (s .graph .next n) (omega (arith, fo .size, fs .next-fits n))));
+    seq = λ n h. rw state (lies-number 2 (s .graph .seq n) (omega (arith, fo .count, fs .seq-fits n)) (lies-field 2 151 _ (λ m. bytes-length 2 (s .graph .seq m)) (part-lies o s 8 (omega arith)) n h));
+    executing = λ n h. rw state (byte-read _ (λ m. flag-length (s .graph .executing m)) 464 (part-lies o s 9 (omega arith)) n h ∙ flag-read (s .graph .executing n));
+    locked = λ n h. rw state (byte-read _ (λ m. flag-length (s .graph .locked m)) 615 (part-lies o s 10 (omega arith)) n h ∙ flag-read (s .graph .locked n));
     waits = λ n h. rw state (set-read n h);
     tag = λ t h. rw state (thread-read t h 0 (omega arith) (4390 + 5 * t) (omega arith));
     at = λ t h. rw state (thread-read t h 1 (omega arith) (4391 + 5 * t) (omega arith));
@@ -120,15 +121,15 @@ module _ (o : Setup) (s : State) where
   unfolding listsOf
   lists-state = refl
 
-  pub lists-answers : listsOf o s .answers ≡ tabulate (length (o .commands)) (λ i. s .answers (suc i))
+  pub lists-answers : listsOf o s .service .answers ≡ tabulate (length (o .commands)) (λ i. s .service .answers (suc i))
   unfolding listsOf
   lists-answers = refl
 
-  pub lists-keys : listsOf o s .keys ≡ s .store .keys
+  pub lists-keys : listsOf o s .keys ≡ s .service .store .keys
   unfolding listsOf
   lists-keys = refl
 
-  pub lists-chutes : listsOf o s .chutes ≡ s .store .chutes
+  pub lists-chutes : listsOf o s .chutes ≡ s .service .store .chutes
   unfolding listsOf
   lists-chutes = refl
 
@@ -230,17 +231,17 @@ thread-fits size t (Clearing at own) h r = both (both (both (both (both (both re
 
 module _ (o : Setup) (s : State) (fo : SetupFormed o) (fs : Formed o s) (l : Lists) (laid : Laid o s l) where
   -- the answers are kept from the first command on, and are 0 before and past them
-  read-answer : (c : ℕ) → getD (0 ∷ l .answers) c 0 ≡ s .answers c
+  read-answer : (c : ℕ) → getD (0 ∷ l .answers) c 0 ≡ s .service .answers c
   read-answer zero = sym (fs .answers-none)
   read-answer (suc i) =
-      let given : ℕ → ℕ = λ j. s .answers (suc j) in
+      let given : ℕ → ℕ = λ j. s .service .answers (suc j) in
       rw (laid .answers)
       (below-or-past i (length (o .commands)) (tabulate-at (length (o .commands)) given 0 i)
       (λ h. tabulate-past (length (o .commands)) given 0 i h ∙ sym (fs .answers-past (suc i) (omega arith))))
 
   -- a set has no member past the graph size, so its words are all of it
-  read-member : (n y : ℕ) → n < 151 → member (setAt (l .state) n) y ≡ s .waits n y
-  read-member n y h = rw (laid .waits n h) (members-of-words (s .waits n) (λ z past. fails (s .waits n z) (λ e. omega (arith, fo .size, fs .waits-fit n z e))) y)
+  read-member : (n y : ℕ) → n < 151 → member (setAt (l .state) n) y ≡ s .graph .waits n y
+  read-member n y h = rw (laid .waits n h) (members-of-words (s .graph .waits n) (λ z past. fails (s .graph .waits n z) (λ e. omega (arith, fo .size, fs .waits-fit n z e))) y)
 
   -- a thread is made of its parts
   read-thread : (t : ℕ) → t < 65 → threadAt (l .state) t ≡ s .threads t
@@ -251,11 +252,11 @@ module _ (o : Setup) (s : State) (fo : SetupFormed o) (fs : Formed o s) (l : Lis
   pub read-state : stateIn l ≡ s
   unfolding stateIn
   read-state = λ i. record {
-    next = fun-ext (λ n. first-and-past 151 n _ 0 (s .next n) (laid .next n) (fs .next-past n)) i;
-    seq = fun-ext (λ n. first-and-past 151 n _ 0 (s .seq n) (laid .seq n) (fs .seq-past n)) i;
-    executing = fun-ext (λ n. first-and-past 151 n _ false (s .executing n) (λ h. flag-again _ _ (laid .executing n h)) (fs .executing-past n)) i;
-    locked = fun-ext (λ n. first-and-past 151 n _ false (s .locked n) (λ h. flag-again _ _ (laid .locked n h)) (fs .locked-past n)) i;
-    waits = fun-ext (λ n. fun-ext (λ y. first-and-past 151 n _ false (s .waits n y) (read-member n y) (fs .waits-past n y))) i;
+    next = fun-ext (λ n. first-and-past 151 n _ 0 (s .graph .next n) (laid .next n) (fs .next-past n)) i;
+    seq = fun-ext (λ n. first-and-past 151 n _ 0 (s .graph .seq n) (laid .seq n) (fs .seq-past n)) i;
+    executing = fun-ext (λ n. first-and-past 151 n _ false (s .graph .executing n) (λ h. flag-again _ _ (laid .executing n h)) (fs .executing-past n)) i;
+    locked = fun-ext (λ n. first-and-past 151 n _ false (s .graph .locked n) (λ h. flag-again _ _ (laid .locked n h)) (fs .locked-past n)) i;
+    waits = fun-ext (λ n. fun-ext (λ y. first-and-past 151 n _ false (s .graph .waits n y) (read-member n y) (fs .waits-past n y))) i;
     free = laid .free i;
     loaded = laid .loaded i;
     threads = fun-ext (λ t. first-and-past 65 t _ Idle (s .threads t) (read-thread t) (fs .threads-past t)) i;
@@ -283,12 +284,12 @@ module _ (o : Setup) (s : State) (fo : SetupFormed o) (fs : Formed o s) (l : Lis
 
   -- its nodes and threads are within the graph size
   member-fits : (n : ℕ) → n < 151 → (y : ℕ) → y < 192 → (not (member (setAt (l .state) n) y) || leb y (o .size)) ≡ true
-  member-fits n h y _ = rw (read-member n y h) (implied (s .waits n y) (leb y (o .size)) (λ e. le-leb y (o .size) (fs .waits-fit n y e)))
+  member-fits n h y _ = rw (read-member n y h) (implied (s .graph .waits n y) (leb y (o .size)) (λ e. le-leb y (o .size) (fs .waits-fit n y e)))
 
   node-fits : (n : ℕ) → n < 151 → nodeFitsAt (l .state) (o .size) (length (o .commands)) n ≡ true
   node-fits n h =
       rw (node-tests (l .state) (o .size) (length (o .commands)) n, laid .next n h, laid .seq n h, laid .executing n h, laid .locked n h)
-      (both (both (both (both (le-leb _ _ (fs .next-fits n)) (le-leb _ _ (fs .seq-fits n))) (flag-small (s .executing n))) (flag-small (s .locked n)))
+      (both (both (both (both (le-leb _ _ (fs .next-fits n)) (le-leb _ _ (fs .seq-fits n))) (flag-small (s .graph .executing n))) (flag-small (s .graph .locked n)))
       (set-tests (setAt (l .state) n) (o .size) ∙ each-all-below 192 _ (member-fits n h)))
 
   thread-fits-at : (t : ℕ) → t < 65 → threadFitsAt (l .state) (o .size) t ≡ true
@@ -298,7 +299,7 @@ module _ (o : Setup) (s : State) (fo : SetupFormed o) (fs : Formed o s) (l : Lis
       (thread-fits (o .size) t (s .threads t) (fs .threads-fit t) (role-fits t (s .threads t) (λ e. rw e (fs .loader)) (fs .worker t)))
 
   -- and every test of the state passes
-  pub fit-state : 1 ≤ o .size → 1 ≤ o .workers → 1 ≤ o .capacity → ascends (s .store .used) (s .store .keys) ≡ true → stateFits l ≡ true
+  pub fit-state : 1 ≤ o .size → 1 ≤ o .workers → 1 ≤ o .capacity → ascends (s .service .store .used) (s .service .store .keys) ≡ true → stateFits l ≡ true
   fit-state some-size some-workers some-capacity ascending =
       rw (state-tests l, read-count, laid .size, laid .workers, laid .capacity, laid .loaded, laid .free, laid .used, laid .keys)
       (both (both (both (both (both (both settings (le-leb _ _ (fs .loaded-fits))) (le-leb _ _ (fs .free-fits)))
@@ -324,5 +325,5 @@ module _ (o : Setup) (s : State) (fo : SetupFormed o) (fs : Formed o s) where
   pub lists-fit : (commands : List ℕ) → length commands ≡ 16 * length (o .commands) → handedBackFit (listsOf o s) commands ≡ true
   lists-fit = fit-handed-back o s fo fs (listsOf o s) (lists-laid o s fo fs)
 
-  pub state-fits : 1 ≤ o .size → 1 ≤ o .workers → 1 ≤ o .capacity → ascends (s .store .used) (s .store .keys) ≡ true → stateFits (listsOf o s) ≡ true
+  pub state-fits : 1 ≤ o .size → 1 ≤ o .workers → 1 ≤ o .capacity → ascends (s .service .store .used) (s .service .store .keys) ≡ true → stateFits (listsOf o s) ≡ true
   state-fits = fit-state o s fo fs (listsOf o s) (lists-laid o s fo fs)

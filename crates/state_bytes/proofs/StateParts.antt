@@ -11,7 +11,8 @@ use Rattle.node_set.proofs.Words.{member-low, member-high}
 use Rattle.node_set.proofs.Laws.{word-of-is-word-of}
 use Rattle.model.specs.declared.Thread.{Thread}
 use Rattle.model.specs.declared.Thread.the-variants.{Idle, Loading, Searching, Holding, LookedUp, Written, Walking, Clearing}
-use Rattle.model.specs.Step.{Setup, State}
+use Rattle.model.specs.Setup.{Setup}
+use Rattle.model.specs.Step.{State}
 use Rattle.model.specs.Proof.Formed.{ThreadFormed}
 use Rattle.state_bytes.specs.Bytes.{bytesOf, fields}
 use Rattle.state_bytes.specs.Layout.{flagByte, setBytes, threadBytes, headBytes, stateBytes, threadOf}
@@ -163,20 +164,20 @@ module _ (o : Setup) (s : State) where
   -- the parts of a state's bytes, in order
   abbrev pub partsOf : List (List ℕ)
   partsOf =
-      bytesOf 1 (o .size) ∷ bytesOf 1 (o .workers) ∷ bytesOf 2 (o .capacity) ∷ bytesOf 2 (length (o .commands)) ∷ bytesOf 2 (s .loaded)
-      ∷ bytesOf 2 (s .store .used) ∷ bytesOf 1 (s .free) ∷ fields 151 (λ n. bytesOf 1 (s .next n)) ∷ fields 151 (λ n. bytesOf 2 (s .seq n))
-      ∷ fields 151 (λ n. flagByte (s .executing n)) ∷ fields 151 (λ n. flagByte (s .locked n)) ∷ fields 151 (λ n. setBytes (s .waits n))
+      bytesOf 1 (o .size) ∷ bytesOf 1 (o .workers) ∷ bytesOf 2 (o .capacity) ∷ bytesOf 2 (length (o .commands)) ∷ bytesOf 2 (s .graph .loaded)
+      ∷ bytesOf 2 (s .service .store .used) ∷ bytesOf 1 (s .graph .free) ∷ fields 151 (λ n. bytesOf 1 (s .graph .next n)) ∷ fields 151 (λ n. bytesOf 2 (s .graph .seq n))
+      ∷ fields 151 (λ n. flagByte (s .graph .executing n)) ∷ fields 151 (λ n. flagByte (s .graph .locked n)) ∷ fields 151 (λ n. setBytes (s .graph .waits n))
       ∷ fields 65 (λ t. threadBytes (s .threads t)) ∷ []
 
   -- the definitions, unfolded once
   pub head-joined : headBytes o s ≡ bytesOf 1 (o .size) ++ bytesOf 1 (o .workers) ++ bytesOf 2 (o .capacity) ++ bytesOf 2 (length (o .commands))
-      ++ bytesOf 2 (s .loaded) ++ bytesOf 2 (s .store .used) ++ bytesOf 1 (s .free)
+      ++ bytesOf 2 (s .graph .loaded) ++ bytesOf 2 (s .service .store .used) ++ bytesOf 1 (s .graph .free)
   unfolding headBytes
   head-joined = refl
 
-  pub state-joined : stateBytes o s ≡ headBytes o s ++ fields 151 (λ n. bytesOf 1 (s .next n)) ++ fields 151 (λ n. bytesOf 2 (s .seq n))
-      ++ fields 151 (λ n. flagByte (s .executing n)) ++ fields 151 (λ n. flagByte (s .locked n))
-      ++ fields 151 (λ n. setBytes (s .waits n)) ++ fields 65 (λ t. threadBytes (s .threads t))
+  pub state-joined : stateBytes o s ≡ headBytes o s ++ fields 151 (λ n. bytesOf 1 (s .graph .next n)) ++ fields 151 (λ n. bytesOf 2 (s .graph .seq n))
+      ++ fields 151 (λ n. flagByte (s .graph .executing n)) ++ fields 151 (λ n. flagByte (s .graph .locked n))
+      ++ fields 151 (λ n. setBytes (s .graph .waits n)) ++ fields 65 (λ t. threadBytes (s .threads t))
   unfolding stateBytes
   state-joined = refl
 
@@ -188,10 +189,10 @@ module _ (o : Setup) (s : State) where
   parts-lengths : HaveLengths partsOf partLengths
   parts-lengths =
       bytes-length 1 (o .size) ▸ bytes-length 1 (o .workers) ▸ bytes-length 2 (o .capacity) ▸ bytes-length 2 (length (o .commands))
-      ▸ bytes-length 2 (s .loaded) ▸ bytes-length 2 (s .store .used) ▸ bytes-length 1 (s .free)
-      ▸ fields-length 1 151 _ (λ n. bytes-length 1 (s .next n)) ▸ fields-length 2 151 _ (λ n. bytes-length 2 (s .seq n))
-      ▸ fields-length 1 151 _ (λ n. flag-length (s .executing n)) ▸ fields-length 1 151 _ (λ n. flag-length (s .locked n))
-      ▸ fields-length 24 151 _ (λ n. set-length (s .waits n)) ▸ fields-length 5 65 _ (λ t. thread-length (s .threads t)) ▸ tt
+      ▸ bytes-length 2 (s .graph .loaded) ▸ bytes-length 2 (s .service .store .used) ▸ bytes-length 1 (s .graph .free)
+      ▸ fields-length 1 151 _ (λ n. bytes-length 1 (s .graph .next n)) ▸ fields-length 2 151 _ (λ n. bytes-length 2 (s .graph .seq n))
+      ▸ fields-length 1 151 _ (λ n. flag-length (s .graph .executing n)) ▸ fields-length 1 151 _ (λ n. flag-length (s .graph .locked n))
+      ▸ fields-length 24 151 _ (λ n. set-length (s .graph .waits n)) ▸ fields-length 5 65 _ (λ t. thread-length (s .threads t)) ▸ tt
 
   -- together they are all the bytes
   pub state-length : length (stateBytes o s) ≡ 4715

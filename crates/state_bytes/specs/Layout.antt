@@ -8,7 +8,8 @@ use lib.Dec.{eqb, leb, ltb}
 use Rattle.node_set.specs.Members.{member, wordOf}
 use Rattle.model.specs.declared.Thread.{Thread}
 use Rattle.model.specs.declared.Thread.the-variants.{Idle, Loading, Searching, Holding, LookedUp, Written, Walking, Clearing}
-use Rattle.model.specs.Step.{Setup, State, node}
+use Rattle.model.specs.Setup.{Setup}
+use Rattle.model.specs.Step.{State, node}
 use Rattle.command.specs.Read.{commandsIn}
 use Rattle.state_bytes.specs.Bytes.{bytesOf, numberAt, tabulate, fields, allBelow}
 
@@ -55,24 +56,24 @@ unfoldable pub headBytes : Setup → State → List ℕ
 unfolding bytesOf
 headBytes o s =
     bytesOf 1 (o .size) ++ bytesOf 1 (o .workers) ++ bytesOf 2 (o .capacity) ++ bytesOf 2 (length (o .commands))
-    ++ bytesOf 2 (s .loaded) ++ bytesOf 2 (s .store .used) ++ bytesOf 1 (s .free)
+    ++ bytesOf 2 (s .graph .loaded) ++ bytesOf 2 (s .service .store .used) ++ bytesOf 1 (s .graph .free)
 
 -- then next indexes at 11, sequence numbers at 162, node states at 464, locks at 615, sets at 766, threads at 4390
 unfoldable pub stateBytes : Setup → State → List ℕ
 unfolding headBytes fields setBytes threadBytes
 stateBytes o s =
-    headBytes o s ++ fields 151 (λ n. bytesOf 1 (s .next n)) ++ fields 151 (λ n. bytesOf 2 (s .seq n))
-    ++ fields 151 (λ n. flagByte (s .executing n)) ++ fields 151 (λ n. flagByte (s .locked n))
-    ++ fields 151 (λ n. setBytes (s .waits n)) ++ fields 65 (λ t. threadBytes (s .threads t))
+    headBytes o s ++ fields 151 (λ n. bytesOf 1 (s .graph .next n)) ++ fields 151 (λ n. bytesOf 2 (s .graph .seq n))
+    ++ fields 151 (λ n. flagByte (s .graph .executing n)) ++ fields 151 (λ n. flagByte (s .graph .locked n))
+    ++ fields 151 (λ n. setBytes (s .graph .waits n)) ++ fields 65 (λ t. threadBytes (s .threads t))
 
 -- the caller's lists of a state
 unfoldable pub listsOf : Setup → State → Lists
 unfolding stateBytes tabulate
 listsOf o s = record {
   state = stateBytes o s;
-  answers = tabulate (length (o .commands)) (λ i. s .answers (suc i));
-  keys = s .store .keys;
-  chutes = s .store .chutes;
+  answers = tabulate (length (o .commands)) (λ i. s .service .answers (suc i));
+  keys = s .service .store .keys;
+  chutes = s .service .store .chutes;
 }
 
 -- ---- bytes as a state

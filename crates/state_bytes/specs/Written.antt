@@ -6,7 +6,8 @@ use mathlib.Core.List.{List}
 use lib.ListN.{length, getD}
 use Rattle.model.specs.declared.Thread.{Thread}
 use Rattle.model.specs.declared.Thread.the-variants.{Idle}
-use Rattle.model.specs.Step.{Setup, State}
+use Rattle.model.specs.Setup.{Setup}
+use Rattle.model.specs.Step.{State}
 use Rattle.model.specs.declared.Counters.{Counters}
 use Rattle.graph.specs.Arrays.{numbers, flags, sets}
 use Rattle.state_bytes.specs.declared.Settings.{Settings}
@@ -21,15 +22,15 @@ pub record Sets (c : Settings) (o : Setup) : Type 0 where
 
 -- the state's graph, threads and counters
 pub record Shown (k : Counters) (next seq : List ℕ) (executing locked : List Bool) (waits : List (List ℕ)) (threads : List Thread) (s : State) : Type 0 where
-  pub next-is : s .next ≡ numbers next
-  pub seq-is : s .seq ≡ numbers seq
-  pub executing-is : s .executing ≡ flags executing
-  pub locked-is : s .locked ≡ flags locked
-  pub waits-is : s .waits ≡ sets waits
+  pub next-is : s .graph .next ≡ numbers next
+  pub seq-is : s .graph .seq ≡ numbers seq
+  pub executing-is : s .graph .executing ≡ flags executing
+  pub locked-is : s .graph .locked ≡ flags locked
+  pub waits-is : s .graph .waits ≡ sets waits
   pub threads-are : (t : ℕ) → s .threads t ≡ getD threads t Idle
-  pub free-is : s .free ≡ k .free .0
-  pub loaded-is : s .loaded ≡ k .loaded
-  pub used-is : s .store .used ≡ k .used
+  pub free-is : s .graph .free ≡ k .free .0
+  pub loaded-is : s .graph .loaded ≡ k .loaded
+  pub used-is : s .service .store .used ≡ k .used
 
 abbrev pub Lays : Settings → Counters → List ℕ → List ℕ → List Bool → List Bool → List (List ℕ) → List Thread → List ℕ → Type 0
 Lays c k next seq executing locked waits threads bytes =

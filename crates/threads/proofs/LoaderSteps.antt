@@ -15,7 +15,10 @@ use Rattle.node_set.specs.declared.Node.{Node}
 use Rattle.model.specs.declared.Thread.{Thread}
 use Rattle.model.specs.declared.Thread.the-variants.{Idle, Loading, Searching, Holding, LookedUp, Written, Walking, Clearing}
 use Rattle.model.proofs.Thread.{the-type}
-use Rattle.model.specs.Step.{Setup, State, upd, node, step, loaderStep, loaderIdle, load, setThread, setLocked, setLoaded, setSeq, setNext, setFree}
+use Rattle.model.specs.Upd.{upd}
+use Rattle.model.specs.Setup.{Setup}
+use Rattle.model.specs.Graph.{setLocked, setLoaded, setSeq, setNext, setFree}
+use Rattle.model.specs.Step.{State, node, step, loaderStep, loaderIdle, load, setThread}
 use Rattle.model.specs.Proof.Upd.{upd-id}
 use Rattle.graph.specs.Arrays.{numbers, flags, Nodes, Within, Loaded}
 use Rattle.graph.specs.Items.{keptAt}

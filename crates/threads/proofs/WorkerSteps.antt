@@ -16,7 +16,11 @@ use Rattle.node_set.specs.declared.Node.{Node}
 use Rattle.model.specs.declared.Thread.{Thread}
 use Rattle.model.specs.declared.Thread.the-variants.{Idle, Loading, Searching, Holding, LookedUp, Written, Walking, Clearing}
 use Rattle.model.proofs.Thread.{the-type}
-use Rattle.model.specs.Step.{Setup, State, upd, node, step, workerStep, setThread, enter, commandOf, foundFor, holding, lookedUp, leave, return, clearing, setSeq, setFree, setNext, setExecuting, setLocked, setWaits, stepOn}
+use Rattle.model.specs.Upd.{upd}
+use Rattle.model.specs.Setup.{Setup}
+use Rattle.model.specs.Graph.{setSeq, setFree, setNext, setExecuting, setLocked, setWaits}
+use Rattle.model.specs.Service.{foundFor}
+use Rattle.model.specs.Step.{State, node, step, workerStep, setThread, enter, commandOf, holding, lookedUp, leave, return, clearing, stepOn}
 use Rattle.model.specs.Proof.Upd.{upd-id, upd-same}
 use Rattle.store.specs.Lists.{storeOf}
 use Rattle.graph.specs.Arrays.{numbers, flags, Nodes, Within, Shows, Entered, Searches, Walks, ClearsOn}
@@ -73,8 +77,8 @@ module _ (at own : Node) (free : ℕ) (next seq : List ℕ) (executing locked : 
       thread-is : clearing 0 (at .0) (own .0) y s .threads 0 ≡ r
       thread-is = ap (λ (s′ : State). s′ .threads 0) (steps s 0 showing refl refl) ∙ upd-same was 0 r
 
-      seq-is : clearing 0 (at .0) (own .0) y s .seq ≡ numbers seq′
-      seq-is = ap (λ (s′ : State). s′ .seq) (steps s 0 showing refl refl)
+      seq-is : clearing 0 (at .0) (own .0) y s .graph .seq ≡ numbers seq′
+      seq-is = ap (λ (s′ : State). s′ .graph .seq) (steps s 0 showing refl refl)
 
       clears : (a : Node) → r ≡ Clearing a own → r ≡ Idle → ⊥
       clears a e i = let z : _≡_ {A = ℕ} 0 1 = cc in omega arith

@@ -7,14 +7,18 @@ pub mod Keep
 pub mod Opening
 use Prim.Native.Nat.{ℕ, _≤_, _<_}
 use mathlib.Core.Path.{_≡_}
-use mathlib.Core.Bool.{true, false}
+use mathlib.Core.Bool.{Bool, true, false}
 use mathlib.Core.Option.{some}
-use lib.ListN.{length, getD}
+use lib.ListN.{length}
 use Rattle.command.specs.declared.Command.{Command}
 use Rattle.model.specs.declared.Thread.{Thread}
 use Rattle.model.specs.declared.Thread.the-variants.{Idle, Loading, Searching, Holding, LookedUp, Written, Walking, Clearing}
-use Rattle.model.specs.Step.{Setup, State, commandAt}
+use Rattle.model.specs.Setup.{Setup, commandAt}
+use Rattle.model.specs.Graph.{Graph}
+use Rattle.model.specs.Service.{Service}
+use Rattle.model.specs.Step.{State}
 use Rattle.model.specs.Proof.Chain.Invariant.{isLoader, isWorker}
+use Rattle.model.specs.Proof.Formed.Store.{StoreFormed}
 
 -- a thread's nodes are numbers up to the graph size, and what it found is a number of two bytes
 abbrev pub ThreadFormed : ℕ → Thread → Type 0
@@ -35,26 +39,40 @@ pub record SetupFormed (o : Setup) : Type 0 where
   pub count : length (o .commands) ≤ 4096
   pub chutes : (c : ℕ) (cmd : Command) → commandAt (o .commands) c ≡ some cmd → cmd .chute < 65536
 
+-- of a node: a number up to a bound, a flag, a set of nodes; nothing past node 150
+abbrev pub NumberAt : ℕ → ℕ → ℕ → Type 0
+NumberAt bound n x = (x ≤ bound) × (151 ≤ n → x ≡ 0)
+
+abbrev pub FlagAt : ℕ → Bool → Type 0
+FlagAt n b = 151 ≤ n → b ≡ false
+
+abbrev pub SetAt : ℕ → ℕ → (ℕ → Bool) → Type 0
+SetAt size n set = ((y : ℕ) → set y ≡ true → y ≤ size) × ((y : ℕ) → 151 ≤ n → set y ≡ false)
+
+-- of a thread: its nodes, its role, and idle past thread 64
+abbrev pub ThreadAt : ℕ → ℕ → Thread → Type 0
+ThreadAt size t v = ThreadFormed size v × (65 ≤ t → v ≡ Idle) × (t ≡ 0 → isLoader v ≡ true) × (1 ≤ t → isWorker v ≡ true)
+
+-- of an answer: there is none for command 0 and none past the last command
+abbrev pub AnswerAt : ℕ → ℕ → ℕ → Type 0
+AnswerAt count c a = (c ≡ 0 → a ≡ 0) × (count < c → a ≡ 0)
+
+-- ---- a state's groups
+
+pub record GraphFormed (o : Setup) (g : Graph) : Type 0 where
+  pub next : (n : ℕ) → NumberAt (o .size) n (g .next n)
+  pub seq : (n : ℕ) → NumberAt (length (o .commands)) n (g .seq n)
+  pub executing : (n : ℕ) → FlagAt n (g .executing n)
+  pub locked : (n : ℕ) → FlagAt n (g .locked n)
+  pub waits : (n : ℕ) → SetAt (o .size) n (g .waits n)
+  pub free : g .free ≤ o .size
+  pub loaded : g .loaded ≤ length (o .commands)
+
+pub record ServiceFormed (o : Setup) (v : Service) : Type 0 where
+  pub store : StoreFormed (o .capacity) (v .store)
+  pub answers : (c : ℕ) → AnswerAt (length (o .commands)) c (v .answers c)
+
 pub record Formed (o : Setup) (s : State) : Type 0 where
-  pub next-fits : (n : ℕ) → s .next n ≤ o .size
-  pub free-fits : s .free ≤ o .size
-  pub seq-fits : (n : ℕ) → s .seq n ≤ length (o .commands)
-  pub loaded-fits : s .loaded ≤ length (o .commands)
-  pub waits-fit : (x y : ℕ) → s .waits x y ≡ true → y ≤ o .size
-  pub threads-fit : (t : ℕ) → ThreadFormed (o .size) (s .threads t)
-  -- nothing past the 151 records and the 65 threads
-  pub next-past : (n : ℕ) → 151 ≤ n → s .next n ≡ 0
-  pub seq-past : (n : ℕ) → 151 ≤ n → s .seq n ≡ 0
-  pub executing-past : (n : ℕ) → 151 ≤ n → s .executing n ≡ false
-  pub locked-past : (n : ℕ) → 151 ≤ n → s .locked n ≡ false
-  pub waits-past : (n y : ℕ) → 151 ≤ n → s .waits n y ≡ false
-  pub threads-past : (t : ℕ) → 65 ≤ t → s .threads t ≡ Idle
-  pub loader : isLoader (s .threads 0) ≡ true
-  pub worker : (t : ℕ) → 1 ≤ t → isWorker (s .threads t) ≡ true
-  -- the store and the answers
-  pub keys-length : length (s .store .keys) ≡ o .capacity
-  pub chutes-length : length (s .store .chutes) ≡ o .capacity
-  pub used-fits : s .store .used ≤ o .capacity
-  pub chutes-fit : (i : ℕ) → getD (s .store .chutes) i 0 < 65536
-  pub answers-none : s .answers 0 ≡ 0
-  pub answers-past : (c : ℕ) → length (o .commands) < c → s .answers c ≡ 0
+  pub graph : GraphFormed o (s .graph)
+  pub threads : (t : ℕ) → ThreadAt (o .size) t (s .threads t)
+  pub service : ServiceFormed o (s .service)

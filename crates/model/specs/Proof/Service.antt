@@ -15,7 +15,8 @@ use Rattle.command.specs.declared.Command.{Command}
 use Rattle.command.specs.Dependent.{areDependent}
 use Rattle.model.specs.Serial.{Entry, Served, present, serveKind, serve}
 use Rattle.model.specs.Serial.{entriesAfter, answersFrom, serialAnswers, serialEntries}
-use Rattle.model.specs.Step.{Setup, upd, commandAt}
+use Rattle.model.specs.Upd.{upd}
+use Rattle.model.specs.Setup.{Setup, commandAt}
 use Rattle.model.specs.Statement.{Accepted, EachCommand, serialAnswer}
 use Rattle.model.specs.Proof.Tests.{none-some, eqb-cases}
 use Rattle.model.specs.Proof.Upd.{upd-same, upd-other}

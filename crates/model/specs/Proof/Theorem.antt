@@ -8,7 +8,8 @@ use mathlib.Core.List.{List}
 use mathlib.Core.Logic.{inl, ⊎-elim}
 use lib.ListN.{length}
 use Rattle.model.specs.Store.{layOut}
-use Rattle.model.specs.Step.{Setup, State, opened, steps}
+use Rattle.model.specs.Setup.{Setup}
+use Rattle.model.specs.Step.{State, opened, steps}
 use Rattle.model.specs.Statement.{Accepted, allWithin, wrote, removed, EachCommand, serialAnswer, Demand3}
 use Rattle.model.specs.Proof.Tests.{true-false, eqb-cases}
 use Rattle.model.specs.Proof.Service.{entriesOf, entries-all, serial-positive}
@@ -37,10 +38,10 @@ module _ (o : Setup) (acc : Accepted o) (ts : List ℕ) (within : allWithin (o .
   removed-is c low = steps-tell o acc c low ts within (opened o) (openedGhost o) (opened-meets o acc) .1 ∙ or-false (removed o c ts (opened o))
 
   -- "the table at any moment": the store is what the answered commands give when run alone in delivery order, after every step
-  pub table-at-any-moment : s .store ≡ layOut (o .capacity) (entriesOf o (g .written))
+  pub table-at-any-moment : s .service .store ≡ layOut (o .capacity) (entriesOf o (g .written))
   table-at-any-moment = reached .service .stored
 
-  answers-serial : EachCommand o (λ c. s .answers c ≡ cond (wrote o c ts (opened o)) (serialAnswer o c) 0)
+  answers-serial : EachCommand o (λ c. s .service .answers c ≡ cond (wrote o c ts (opened o)) (serialAnswer o c) 0)
   answers-serial c low high = reached .service .answered c low high ∙ ap (λ (b : Bool). cond b (serialAnswer o c) 0) (written-is c low)
 
   -- a removed command is answered
@@ -48,23 +49,23 @@ module _ (o : Setup) (acc : Accepted o) (ts : List ℕ) (within : allWithin (o .
   all-written all c low high = reached .progress .removed-written c (removed-is c low ∙ all c low high)
 
   -- as the serial run answers it
-  pub all-serial : EachCommand o (λ c. removed o c ts (opened o) ≡ true) → EachCommand o (λ c. s .answers c ≡ serialAnswer o c)
+  pub all-serial : EachCommand o (λ c. removed o c ts (opened o) ≡ true) → EachCommand o (λ c. s .service .answers c ≡ serialAnswer o c)
   all-serial all c low high = reached .service .answered c low high ∙ ap (λ (b : Bool). cond b (serialAnswer o c) 0) (all-written all c low high)
 
-  all-answered : EachCommand o (λ c. removed o c ts (opened o) ≡ true) → EachCommand o (λ c. 1 ≤ s .answers c)
+  all-answered : EachCommand o (λ c. removed o c ts (opened o) ≡ true) → EachCommand o (λ c. 1 ≤ s .service .answers c)
   all-answered all c low high = omega (arith, all-serial all c low high, serial-positive o acc c low high)
 
   -- and its node is linked no more: a linked one has a command that is not removed
-  pub none-linked : EachCommand o (λ c. removed o c ts (opened o) ≡ true) → s .next 0 ≡ 0
-  none-linked all = ⊎-elim (λ e. e .0) (λ e. absurd (linked-first (e .0))) (eqb-cases (s .next 0) 0)
+  pub none-linked : EachCommand o (λ c. removed o c ts (opened o) ≡ true) → s .graph .next 0 ≡ 0
+  none-linked all = ⊎-elim (λ e. e .0) (λ e. absurd (linked-first (e .0))) (eqb-cases (s .graph .next 0) 0)
     where
-      linked-first : (s .next 0 ≡ 0 → ⊥) → ⊥
+      linked-first : (s .graph .next 0 ≡ 0 → ⊥) → ⊥
       linked-first some =
-          let first = s .next 0 in
+          let first = s .graph .next 0 in
           let used = reached .order .linked-used first (reached .order .next-linked 0 (inl refl) some) in
           let few = reached .order .below first in
           let loaded = reached .order .loaded-count in
-          true-false _ (removed-is (s .seq first) used ∙ all (s .seq first) used (omega arith)) (reached .progress .removed-gone first used)
+          true-false _ (removed-is (s .graph .seq first) used ∙ all (s .graph .seq first) used (omega arith)) (reached .progress .removed-gone first used)
 
 pub demand-3 : Demand3
 demand-3 o acc ts within = record {

@@ -12,7 +12,7 @@ use Rattle.command.specs.declared.Kind.{Kind}
 use Rattle.command.specs.declared.Kind.the-variants.{Insert, Delete, Read, Update}
 use Rattle.model.specs.Serial.{Entry, Served, present, chuteAt, serveKind}
 use Rattle.model.specs.Store.{layOut, lookUp}
-use Rattle.model.specs.Step.{Write, write, writeKind}
+use Rattle.model.specs.Service.{Write, write, writeKind}
 use Rattle.model.specs.Proof.Serial.{Ascending, AllPositive, chuteAt-absent, chuteAt-present}
 use Rattle.model.specs.Proof.Store.{lookUp-is-chuteAt, insert-is-putIn, remove-is-takeOut, replace-is-setChute}
 

@@ -2,7 +2,7 @@
 use Prim.Native.Nat.{ℕ, _-_, _≤_}
 use native.Mathlib.Omega.{arith}
 use mathlib.Core.Path.{_≡_, ap, _∙_}
-use Rattle.model.specs.Step.{firstNext}
+use Rattle.model.specs.Graph.{firstNext}
 use Rattle.controller.proofs.OpeningState.{IsFirst, first-none, first-more}
 use Rattle.controller.proofs.open_call.first_next.Statement.{statement}
 use Rattle.controller.proofs.open_call.first_next.Tie as tie

@@ -2,7 +2,8 @@
 use mathlib.Core.Path.{sym, ap, _∙_}
 use Prim.Native.Nat.{ℕ}
 use borrow.Author.Needs.{needs}
-use Rattle.model.specs.Step.{firstNext, opened}
+use Rattle.model.specs.Graph.{firstNext}
+use Rattle.model.specs.Step.{opened}
 use Rattle.controller.proofs.OpeningState.{opened-shown}
 use Rattle.controller.proofs.open_call.write_opened.Statement.{statement}
 use Rattle.controller.proofs.open_call.write_opened.Tie as tie

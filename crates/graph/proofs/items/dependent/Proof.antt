@@ -1,6 +1,6 @@
 -- `items::dependent` meets its contract: by the cases of the two items. Assumes nothing.
 use borrow.Author.Needs.{needs}
-use Rattle.model.specs.Step.{bothDependent}
+use Rattle.model.specs.Setup.{bothDependent}
 use Rattle.graph.proofs.items.dependent.Statement.{statement}
 use Rattle.graph.proofs.items.dependent.Tie as tie
 

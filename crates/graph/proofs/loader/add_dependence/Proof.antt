@@ -3,7 +3,7 @@ use mathlib.Core.Path.{ap}
 use native.Mathlib.Omega.{arith}
 use borrow.Author.Tests.{lt-ltb}
 use borrow.Author.Needs.{needs}
-use Rattle.model.specs.Step.{upd}
+use Rattle.model.specs.Upd.{upd}
 use Rattle.graph.specs.Arrays.{sets}
 use Rattle.graph.proofs.Loading.{added-is-upd}
 use Rattle.graph.proofs.loader.add_dependence.Statement.{statement}

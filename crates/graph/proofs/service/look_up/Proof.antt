@@ -1,6 +1,6 @@
 -- `service::look_up` meets its contract: by the cases of the item. Assumes nothing.
 use borrow.Author.Needs.{needs}
-use Rattle.model.specs.Step.{foundFor}
+use Rattle.model.specs.Service.{foundFor}
 use Rattle.graph.proofs.service.look_up.Statement.{statement}
 use Rattle.graph.proofs.service.look_up.Tie as tie
 

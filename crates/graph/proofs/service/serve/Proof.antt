@@ -1,7 +1,7 @@
 -- `service::serve` meets its contract: each way out answers and stores as the definition does at its kind and tests. Assumes nothing.
 use borrow.Author.Tests.{eq-eqb, ne-eqb}
 use borrow.Author.Needs.{needs}
-use Rattle.model.specs.Step.{writeKind}
+use Rattle.model.specs.Service.{writeKind}
 use Rattle.graph.proofs.service.serve.Statement.{statement}
 use Rattle.graph.proofs.service.serve.Tie as tie
 

@@ -1,7 +1,7 @@
 -- `service::serve_insert` meets its contract: present is tested before full, and else the store inserts. Assumes nothing.
 use borrow.Author.Tests.{eq-eqb, ne-eqb, le-leb, lt-leb}
 use borrow.Author.Needs.{needs}
-use Rattle.model.specs.Step.{writeKind}
+use Rattle.model.specs.Service.{writeKind}
 use Rattle.graph.proofs.service.serve_insert.Statement.{statement}
 use Rattle.graph.proofs.service.serve_insert.Tie as tie
 

@@ -11,7 +11,9 @@ use mathlib.Core.Option.{none, some}
 use mathlib.Core.Logic.{_⊎_, inl, inr, ⊎-elim}
 use Rattle.model.specs.declared.Thread.{Thread}
 use Rattle.model.specs.declared.Thread.the-variants.{Idle, Loading, Searching, Holding, LookedUp, Written, Walking, Clearing}
-use Rattle.model.specs.Step.{Setup, State, upd, commandAt}
+use Rattle.model.specs.Upd.{upd}
+use Rattle.model.specs.Setup.{Setup, commandAt}
+use Rattle.model.specs.Step.{State}
 use Rattle.model.specs.Proof.Tests.{fails, true-false, none-some, le-cases}
 use Rattle.model.specs.Proof.Upd.{upd-other}
 use Rattle.model.specs.Proof.Chain.Invariant.{Ghost, Inv, On, In, ChainFrom, Order, at, executes, walks, clears, done, looked}
@@ -81,14 +83,14 @@ command-place cs (suc i) cmd e = omega arith
 
 module _ (o : Setup) (s : State) (g : Ghost) (i : Inv o s g) where
   -- a node with no command is not in the chain
-  pub unused-out : (x : ℕ) → s .seq x ≡ 0 → g .linked x ≡ false
+  pub unused-out : (x : ℕ) → s .graph .seq x ≡ 0 → g .linked x ≡ false
   unused-out x e = fails (g .linked x) (λ l. let u = i .order .linked-used x l in absurd (omega arith))
 
   -- a node that is executed, walked to, looked up for or cleared has a command
-  pub executes-used : (t x : ℕ) → executes (s .threads t) ≡ some x → 1 ≤ s .seq x
+  pub executes-used : (t x : ℕ) → executes (s .threads t) ≡ some x → 1 ≤ s .graph .seq x
   executes-used t x e = i .order .linked-used x (i .executing .own-linked t x e)
 
-  pub done-used : (t x : ℕ) → done (s .threads t) ≡ some x → 1 ≤ s .seq x
+  pub done-used : (t x : ℕ) → done (s .threads t) ≡ some x → 1 ≤ s .graph .seq x
   done-used t x e = ⊎-elim (λ h. executes-used t x h) (λ h. i .clearing .used t x h) (done-own (s .threads t) x e)
 
 -- where a node is neither the head nor in the chain, every node that is differs from it

@@ -7,7 +7,9 @@ use lib.ListN.{length}
 use lib.Dec.{eqb, leb}
 use Rattle.model.specs.declared.Thread.{Thread}
 use Rattle.model.specs.declared.Thread.the-variants.{Idle, Loading, Searching, Holding, LookedUp, Written, Walking, Clearing}
-use Rattle.model.specs.Step.{Setup, State, upd}
+use Rattle.model.specs.Upd.{upd}
+use Rattle.model.specs.Setup.{Setup}
+use Rattle.model.specs.Step.{State}
 use Rattle.model.specs.Proof.Chain.Invariant.{Ghost}
 
 abbrev pub tail : List ℕ → List ℕ
@@ -31,8 +33,8 @@ abbrev pub returning : ℕ → ℕ → Ghost → Ghost
 returning x c g = record { linked = g .linked; frees = x ∷ g .frees; written = g .written; removed = upd (g .removed) c true }
 
 unfoldable pub loaderGhost : Setup → Thread → State → Ghost → Ghost
-loaderGhost o Idle s g = cond (leb (length (o .commands)) (s .loaded) || eqb (s .free) 0 || s .locked 0) g (taken g)
-loaderGhost o (Loading a x) s g = cond (eqb (s .next (a .0)) 0) (linking (x .0) true g) g
+loaderGhost o Idle s g = cond (leb (length (o .commands)) (s .graph .loaded) || eqb (s .graph .free) 0 || s .graph .locked 0) g (taken g)
+loaderGhost o (Loading a x) s g = cond (eqb (s .graph .next (a .0)) 0) (linking (x .0) true g) g
 loaderGhost o (Searching a) s g = g
 loaderGhost o (Holding x) s g = g
 loaderGhost o (LookedUp x f) s g = g
@@ -45,11 +47,11 @@ workerGhost Idle s g = g
 workerGhost (Loading a x) s g = g
 workerGhost (Searching a) s g = g
 workerGhost (Holding x) s g = g
-workerGhost (LookedUp x f) s g = writing (s .seq (x .0)) g
+workerGhost (LookedUp x f) s g = writing (s .graph .seq (x .0)) g
 workerGhost (Written x) s g = g
 workerGhost (Walking a x) s g =
-    cond (eqb (s .next (a .0)) 0 || s .locked (s .next (a .0))) g (cond (eqb (s .next (a .0)) (x .0)) (linking (x .0) false g) g)
-workerGhost (Clearing a x) s g = cond (eqb (s .next (a .0)) 0) (returning (x .0) (s .seq (x .0)) g) g
+    cond (eqb (s .graph .next (a .0)) 0 || s .graph .locked (s .graph .next (a .0))) g (cond (eqb (s .graph .next (a .0)) (x .0)) (linking (x .0) false g) g)
+workerGhost (Clearing a x) s g = cond (eqb (s .graph .next (a .0)) 0) (returning (x .0) (s .graph .seq (x .0)) g) g
 
 unfoldable pub ghostStep : Setup → ℕ → State → Ghost → Ghost
 unfolding loaderGhost workerGhost

@@ -11,9 +11,11 @@ use lib.ListN.{length}
 use Rattle.model.specs.declared.Thread.{Thread}
 use Rattle.model.specs.declared.Thread.the-variants.{Idle, Loading, Searching, Holding, LookedUp, Written, Walking, Clearing}
 use Rattle.model.specs.Store.{Store, layOut}
-use Rattle.model.specs.Step.{Setup, State, commandAt, bothDependent, foundFor}
+use Rattle.model.specs.Setup.{Setup, commandAt, bothDependent}
+use Rattle.model.specs.Service.{foundFor}
+use Rattle.model.specs.Step.{State}
 use Rattle.model.specs.Statement.{EachCommand, serialAnswer}
-use Rattle.model.specs.Proof.Service.{ClosedDown, entriesOf}
+use Rattle.model.specs.Proof.Consistent.{Consistent}
 
 -- ---- what a thread's state says
 
@@ -252,14 +254,6 @@ pub record Progress (loaded : ℕ) (seq : ℕ → ℕ) (written removed : ℕ �
   pub removed-gone : (x : ℕ) → 1 ≤ seq x → removed (seq x) ≡ false
   pub accounted : (c : ℕ) → 1 ≤ c → c ≤ loaded → (removed c ≡ true) ⊎ ((x : ℕ) × (seq x ≡ c))
 
--- an answered command has every earlier command that it depends on answered; each answer is the serial run's; the store is what the
--- answered commands give when run alone in delivery order; a looked-up worker's `found` is what a lookup would find now
-pub record Service (o : Setup) (seq : ℕ → ℕ) (written : ℕ → Bool) (answers : ℕ → ℕ) (store : Store) (looked : ℕ → Option ℕ) (found : ℕ → ℕ) : Type 0 where
-  pub closed : ClosedDown o written
-  pub answered : EachCommand o (λ c. answers c ≡ cond (written c) (serialAnswer o c) 0)
-  pub stored : store ≡ layOut (o .capacity) (entriesOf o written)
-  pub look : (t x : ℕ) → looked t ≡ some x → found t ≡ foundFor (commandAt (o .commands) (seq x)) store
-
 -- thread 0 is the loader, the others are workers, and those past the worker count are idle
 pub record Roles (workers : ℕ) (threads : ℕ → Thread) : Type 0 where
   pub loader : isLoader (threads 0) ≡ true
@@ -269,15 +263,15 @@ pub record Roles (workers : ℕ) (threads : ℕ → Thread) : Type 0 where
 -- ---- the invariant
 
 pub record Inv (o : Setup) (s : State) (g : Ghost) : Type 0 where
-  pub order : Order (o .size) (s .loaded) (length (o .commands)) (s .seq) (g .linked) (s .next)
-  pub freeList : FreeList (o .size) (s .seq) (s .next) (s .free) (g .frees)
-  pub standing : Standing (g .linked) (s .locked) (λ t. at (s .threads t))
-  pub executing : Executing (s .seq) (g .linked) (s .executing) (λ t. executes (s .threads t))
-  pub walking : Walks (s .seq) (λ t. walks (s .threads t)) (λ t. at (s .threads t))
-  pub clearing : Clears (s .seq) (g .linked) (s .executing) (λ t. clears (s .threads t)) (λ t. at (s .threads t))
-  pub loading : Loads (s .loaded) (s .seq) (s .next) (g .linked) (s .executing) (λ t. loads (s .threads t))
-  pub partition : Partition (s .seq) (g .linked) (λ t. loads (s .threads t)) (λ t. clears (s .threads t))
-  pub sets : Sets o (s .seq) (g .linked) (s .executing) (s .waits) (λ t. at (s .threads t)) (λ t. loads (s .threads t)) (λ t. clears (s .threads t))
-  pub progress : Progress (s .loaded) (s .seq) (g .written) (g .removed) (λ t. done (s .threads t))
-  pub service : Service o (s .seq) (g .written) (s .answers) (s .store) (λ t. looked (s .threads t)) (λ t. found (s .threads t))
+  pub order : Order (o .size) (s .graph .loaded) (length (o .commands)) (s .graph .seq) (g .linked) (s .graph .next)
+  pub freeList : FreeList (o .size) (s .graph .seq) (s .graph .next) (s .graph .free) (g .frees)
+  pub standing : Standing (g .linked) (s .graph .locked) (λ t. at (s .threads t))
+  pub executing : Executing (s .graph .seq) (g .linked) (s .graph .executing) (λ t. executes (s .threads t))
+  pub walking : Walks (s .graph .seq) (λ t. walks (s .threads t)) (λ t. at (s .threads t))
+  pub clearing : Clears (s .graph .seq) (g .linked) (s .graph .executing) (λ t. clears (s .threads t)) (λ t. at (s .threads t))
+  pub loading : Loads (s .graph .loaded) (s .graph .seq) (s .graph .next) (g .linked) (s .graph .executing) (λ t. loads (s .threads t))
+  pub partition : Partition (s .graph .seq) (g .linked) (λ t. loads (s .threads t)) (λ t. clears (s .threads t))
+  pub sets : Sets o (s .graph .seq) (g .linked) (s .graph .executing) (s .graph .waits) (λ t. at (s .threads t)) (λ t. loads (s .threads t)) (λ t. clears (s .threads t))
+  pub progress : Progress (s .graph .loaded) (s .graph .seq) (g .written) (g .removed) (λ t. done (s .threads t))
+  pub service : Consistent o (s .graph .seq) (g .written) (s .service) (λ t. looked (s .threads t)) (λ t. found (s .threads t))
   pub roles : Roles (o .workers) (s .threads)

@@ -9,7 +9,8 @@ use lib.Dec.{eqb, leb}
 use borrow.Author.Tests.{eqb-true, eqb-false, leb-true, leb-false}
 use Rattle.model.specs.declared.Thread.{Thread}
 use Rattle.model.specs.declared.Thread.the-variants.{Idle, Loading, Searching, Holding, LookedUp, Written, Walking, Clearing}
-use Rattle.model.specs.Step.{Setup, State, step, steps, loaderStep, workerStep, loaderIdle, loaderWalk, enter, searching, examine, ready, walking, clearing}
+use Rattle.model.specs.Setup.{Setup}
+use Rattle.model.specs.Step.{State, step, steps, loaderStep, workerStep, loaderIdle, loaderWalk, enter, searching, examine, ready, walking, clearing}
 use Rattle.model.specs.Statement.{Accepted, allWithin}
 use Rattle.model.specs.Proof.Tests.{neither}
 use Rattle.model.specs.Proof.Chain.Invariant.{Ghost, Inv}
@@ -39,13 +40,13 @@ module _ (o : Setup) (acc : Accepted o) (s : State) (g : Ghost) (i : Inv o s g) 
   loader-keeps : (th : Thread) → s .threads 0 ≡ th → Inv o (loaderStep o th s) (loaderGhost o th s g)
   unfolding loaderStep loaderGhost loaderIdle loaderWalk
   loader-keeps Idle e =
-      by-both (leb (length (o .commands)) (s .loaded) || eqb (s .free) 0 || s .locked 0) (λ b. i) (λ b.
-      let k = neither (leb (length (o .commands)) (s .loaded) || eqb (s .free) 0) (s .locked 0) b in
-      let j = neither (leb (length (o .commands)) (s .loaded)) (eqb (s .free) 0) (k .0) in
-      node-loaded o s g i e (leb-false (length (o .commands)) (s .loaded) (j .0)) (eqb-false (s .free) 0 (j .1)) (k .1))
+      by-both (leb (length (o .commands)) (s .graph .loaded) || eqb (s .graph .free) 0 || s .graph .locked 0) (λ b. i) (λ b.
+      let k = neither (leb (length (o .commands)) (s .graph .loaded) || eqb (s .graph .free) 0) (s .graph .locked 0) b in
+      let j = neither (leb (length (o .commands)) (s .graph .loaded)) (eqb (s .graph .free) 0) (k .0) in
+      node-loaded o s g i e (leb-false (length (o .commands)) (s .graph .loaded) (j .0)) (eqb-false (s .graph .free) 0 (j .1)) (k .1))
   loader-keeps (Loading a x) e =
-      by-both (eqb (s .next (a .0)) 0) (λ b. node-linked o s g i a x e (eqb-true (s .next (a .0)) 0 b))
-      (λ b. by (s .locked (s .next (a .0))) (λ _. i) (λ u. loader-stepped o s g i a x e (eqb-false (s .next (a .0)) 0 b) u))
+      by-both (eqb (s .graph .next (a .0)) 0) (λ b. node-linked o s g i a x e (eqb-true (s .graph .next (a .0)) 0 b))
+      (λ b. by (s .graph .locked (s .graph .next (a .0))) (λ _. i) (λ u. loader-stepped o s g i a x e (eqb-false (s .graph .next (a .0)) 0 b) u))
   loader-keeps (Searching a) e = i
   loader-keeps (Holding x) e = i
   loader-keeps (LookedUp x f) e = i
@@ -56,25 +57,25 @@ module _ (o : Setup) (acc : Accepted o) (s : State) (g : Ghost) (i : Inv o s g) 
   module _ (t : ℕ) (low : 1 ≤ t) (high : t ≤ o .workers) where
     worker-keeps : (th : Thread) → s .threads t ≡ th → Inv o (workerStep o t th s) (workerGhost th s g)
     unfolding workerStep workerGhost enter searching examine walking clearing
-    worker-keeps Idle e = by (s .locked 0) (λ _. i) (search-entered o s g i t low high e)
+    worker-keeps Idle e = by (s .graph .locked 0) (λ _. i) (search-entered o s g i t low high e)
     worker-keeps (Loading a x) e = i
     worker-keeps (Searching a) e =
-        by (eqb (s .next (a .0)) 0) (λ b. search-left o s g i t low high a e)
-        (λ b. by (s .locked (s .next (a .0))) (λ _. i)
-        (λ u. by (ready s (s .next (a .0))) (node-taken o acc s g i t low high a e (eqb-false (s .next (a .0)) 0 b) u)
-        (λ r. search-stepped o s g i t low high a e (eqb-false (s .next (a .0)) 0 b) u)))
+        by (eqb (s .graph .next (a .0)) 0) (λ b. search-left o s g i t low high a e)
+        (λ b. by (s .graph .locked (s .graph .next (a .0))) (λ _. i)
+        (λ u. by (ready (s .graph) (s .graph .next (a .0))) (node-taken o acc s g i t low high a e (eqb-false (s .graph .next (a .0)) 0 b) u)
+        (λ r. search-stepped o s g i t low high a e (eqb-false (s .graph .next (a .0)) 0 b) u)))
     worker-keeps (Holding x) e = worker-looked-up o s g i t low high x e
     worker-keeps (LookedUp x f) e = worker-written o acc s g i t low high x f e
-    worker-keeps (Written x) e = by (s .locked 0) (λ _. i) (walk-entered o s g i t low high x e)
+    worker-keeps (Written x) e = by (s .graph .locked 0) (λ _. i) (walk-entered o s g i t low high x e)
     worker-keeps (Walking a x) e =
-        by-both (eqb (s .next (a .0)) 0 || s .locked (s .next (a .0))) (λ _. i) (λ b.
-        let k = neither (eqb (s .next (a .0)) 0) (s .locked (s .next (a .0))) b in
-        by-both (eqb (s .next (a .0)) (x .0))
-        (λ q. let own = eqb-true (s .next (a .0)) (x .0) q in node-bypassed o s g i t low high a x e own (ap (s .locked) (sym own) ∙ k .1))
-        (λ q. walk-stepped o s g i t low high a x e (eqb-false (s .next (a .0)) 0 (k .0)) (k .1) (eqb-false (s .next (a .0)) (x .0) q)))
+        by-both (eqb (s .graph .next (a .0)) 0 || s .graph .locked (s .graph .next (a .0))) (λ _. i) (λ b.
+        let k = neither (eqb (s .graph .next (a .0)) 0) (s .graph .locked (s .graph .next (a .0))) b in
+        by-both (eqb (s .graph .next (a .0)) (x .0))
+        (λ q. let own = eqb-true (s .graph .next (a .0)) (x .0) q in node-bypassed o s g i t low high a x e own (ap (s .graph .locked) (sym own) ∙ k .1))
+        (λ q. walk-stepped o s g i t low high a x e (eqb-false (s .graph .next (a .0)) 0 (k .0)) (k .1) (eqb-false (s .graph .next (a .0)) (x .0) q)))
     worker-keeps (Clearing a x) e =
-        by-both (eqb (s .next (a .0)) 0) (λ b. node-returned o s g i t low high a x e (eqb-true (s .next (a .0)) 0 b))
-        (λ b. by (s .locked (s .next (a .0))) (λ _. i) (λ u. worker-cleared o s g i t low high a x e (eqb-false (s .next (a .0)) 0 b) u))
+        by-both (eqb (s .graph .next (a .0)) 0) (λ b. node-returned o s g i t low high a x e (eqb-true (s .graph .next (a .0)) 0 b))
+        (λ b. by (s .graph .locked (s .graph .next (a .0))) (λ _. i) (λ u. worker-cleared o s g i t low high a x e (eqb-false (s .graph .next (a .0)) 0 b) u))
 
 -- a step of any thread up to the worker count
 pub keeps : (o : Setup) → Accepted o → (t : ℕ) → t ≤ o .workers → (s : State) (g : Ghost) → Inv o s g → Inv o (step o t s) (ghostStep o t s g)

@@ -5,7 +5,8 @@ use mathlib.Core.Path.{_≡_, sym, ap, _∙_}
 use mathlib.Core.Bool.{Bool}
 use mathlib.Core.Option.{Option, none, some}
 use mathlib.Core.Logic.{_⊎_, inl, inr, ⊎-elim}
-use Rattle.model.specs.Step.{Setup, upd}
+use Rattle.model.specs.Upd.{upd}
+use Rattle.model.specs.Setup.{Setup}
 use Rattle.model.specs.Proof.Tests.{none-some}
 use Rattle.model.specs.Proof.Upd.{upd-cases, upd-map, upd-id}
 use Rattle.model.specs.Proof.Chain.Invariant.{Pending, Waited, Sets, Clears}

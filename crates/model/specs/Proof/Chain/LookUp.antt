@@ -6,33 +6,34 @@ use mathlib.Core.Logic.{_⊎_, ⊎-elim}
 use Rattle.node_set.specs.declared.Node.{Node}
 use Rattle.model.specs.declared.Thread.{Thread}
 use Rattle.model.specs.declared.Thread.the-variants.{Holding, LookedUp}
-use Rattle.model.specs.Step.{Setup, State, upd, node, foundFor, commandOf, commandAt, holding, setThread}
+use Rattle.model.specs.Upd.{upd}
+use Rattle.model.specs.Setup.{Setup, commandAt}
+use Rattle.model.specs.Service.{foundFor}
+use Rattle.model.specs.Step.{State, node, commandOf, holding, serveTo}
 use Rattle.model.specs.Proof.Tests.{none-some}
 use Rattle.model.specs.Proof.Upd.{upd-cases}
-use Rattle.model.specs.Proof.Chain.Invariant.{Ghost, Inv, Service, at, loads, executes, clears, done, looked, found}
+use Rattle.model.specs.Proof.Consistent.{Consistent, lookups-consistent}
+use Rattle.model.specs.Proof.Chain.Invariant.{Ghost, Inv, at, loads, executes, clears, done, looked, found}
 use Rattle.model.specs.Proof.Chain.Kept.{kept}
 use Rattle.model.specs.Proof.Chain.Moves.{worker-role, walks-moved}
 
 module _ (o : Setup) (s : State) (g : Ghost) (i : Inv o s g) (t : ℕ) (low : 1 ≤ t) (high : t ≤ o .workers) (x : Node) (here : s .threads t ≡ Holding x) where
   abbrev f : ℕ
-  f = foundFor (commandAt (o .commands) (s .seq (x .0))) (s .store)
+  f = foundFor (commandAt (o .commands) (s .graph .seq (x .0))) (s .service .store)
 
   abbrev v : Thread
   v = LookedUp (node (x .0)) f
 
-  looked-service : Service o (s .seq) (g .written) (s .answers) (s .store) (λ u. looked (upd (s .threads) t v u)) (λ u. found (upd (s .threads) t v u))
-  looked-service = record {
-    closed = i .service .closed;
-    answered = i .service .answered;
-    stored = i .service .stored;
-    look = λ u z e. ⊎-elim (λ h. mine u z (h .1) e) (λ h. ap found (h .1) ∙ i .service .look u z (ap looked (sym (h .1)) ∙ e)) (upd-cases (s .threads) t v u);
-  }
+  looked-service : Consistent o (s .graph .seq) (g .written) (s .service) (λ u. looked (upd (s .threads) t v u)) (λ u. found (upd (s .threads) t v u))
+  looked-service =
+      lookups-consistent (i .service) (s .graph .seq) (λ u. looked (upd (s .threads) t v u)) (λ u. found (upd (s .threads) t v u))
+      (λ u z e. ⊎-elim (λ h. mine u z (h .1) e) (λ h. ap found (h .1) ∙ i .service .look u z (ap looked (sym (h .1)) ∙ e)) (upd-cases (s .threads) t v u))
     where
-      mine : (u z : ℕ) → upd (s .threads) t v u ≡ v → looked (upd (s .threads) t v u) ≡ some z → found (upd (s .threads) t v u) ≡ foundFor (commandAt (o .commands) (s .seq z)) (s .store)
-      mine u z h e = let p = ap looked h in let q : z ≡ x .0 = cc in ap found h ∙ ap (λ (k : ℕ). foundFor (commandAt (o .commands) (s .seq k)) (s .store)) (sym q)
+      mine : (u z : ℕ) → upd (s .threads) t v u ≡ v → looked (upd (s .threads) t v u) ≡ some z → found (upd (s .threads) t v u) ≡ foundFor (commandAt (o .commands) (s .graph .seq z)) (s .service .store)
+      mine u z h e = let p = ap looked h in let q : z ≡ x .0 = cc in ap found h ∙ ap (λ (k : ℕ). foundFor (commandAt (o .commands) (s .graph .seq k)) (s .service .store)) (sym q)
 
   pub worker-looked-up : Inv o (holding o t (x .0) s) g
-  unfolding holding commandOf setThread
+  unfolding holding commandOf serveTo
   worker-looked-up = record {
     order = i .order;
     freeList = i .freeList;

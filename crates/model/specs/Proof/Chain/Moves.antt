@@ -7,7 +7,10 @@ use mathlib.Core.Bool.{Bool, true}
 use mathlib.Core.Option.{none, some}
 use mathlib.Core.Logic.{_⊎_, ⊎-elim}
 use Rattle.model.specs.declared.Thread.{Thread}
-use Rattle.model.specs.Step.{Setup, State, upd}
+use Rattle.model.specs.Upd.{upd}
+use Rattle.model.specs.Setup.{Setup}
+use Rattle.model.specs.Graph.{graphOf}
+use Rattle.model.specs.Step.{State}
 use Rattle.model.specs.Proof.Upd.{upd-same, upd-other, upd-cases, upd-map}
 use Rattle.model.specs.Proof.Chain.Invariant.{Ghost, Inv, Standing, Walks, Roles, at, loads, executes, walks, clears, done, looked, found, isLoader, isWorker}
 use Rattle.model.specs.Proof.Chain.Kept.{kept, sets-kept, clears-kept, stays}
@@ -37,16 +40,9 @@ walks-moved {seq} threads t v mine k = record {
 -- the state with other locks and another state of thread t
 abbrev pub moved : State → (ℕ → Bool) → ℕ → Thread → State
 moved s locks t v = record {
-  next = s .next;
-  seq = s .seq;
-  executing = s .executing;
-  locked = locks;
-  waits = s .waits;
-  free = s .free;
-  loaded = s .loaded;
+  graph = graphOf (s .graph .next) (s .graph .seq) (s .graph .executing) locks (s .graph .waits) (s .graph .free) (s .graph .loaded);
   threads = upd (s .threads) t v;
-  store = s .store;
-  answers = s .answers;
+  service = s .service;
 }
 
 module _ (o : Setup) (s : State) (g : Ghost) (i : Inv o s g) (t : ℕ) (v : Thread) (locks : ℕ → Bool)
@@ -54,7 +50,7 @@ module _ (o : Setup) (s : State) (g : Ghost) (i : Inv o s g) (t : ℕ) (v : Thre
     (same-executes : executes v ≡ executes (s .threads t)) (same-done : done v ≡ done (s .threads t))
     (same-looked : looked v ≡ looked (s .threads t)) (same-found : found v ≡ found (s .threads t))
     (standing : Standing (g .linked) locks (upd (λ u. at (s .threads u)) t (at v)))
-    (walking : (x a : ℕ) → walks v ≡ some x → at v ≡ some a → s .seq a < s .seq x)
+    (walking : (x a : ℕ) → walks v ≡ some x → at v ≡ some a → s .graph .seq a < s .graph .seq x)
     (roles : Roles (o .workers) (upd (s .threads) t v)) where
   pub quiet-move : Inv o (moved s locks t v) g
   quiet-move = record {
@@ -64,12 +60,12 @@ module _ (o : Setup) (s : State) (g : Ghost) (i : Inv o s g) (t : ℕ) (v : Thre
     executing = rw (kept executes (s .threads) t v same-executes) (i .executing);
     walking = walks-moved (s .threads) t v walking (i .walking);
     clearing = rw (kept clears (s .threads) t v (no-clear′ ∙ sym no-clear), upd-map at (s .threads) t v)
-        (clears-kept (s .seq) (g .linked) (s .executing) (λ u. clears (s .threads u)) (λ u. at (s .threads u)) (upd (λ u. at (s .threads u)) t (at v))
+        (clears-kept (s .graph .seq) (g .linked) (s .graph .executing) (λ u. clears (s .threads u)) (λ u. at (s .threads u)) (upd (λ u. at (s .threads u)) t (at v))
         (stays (λ u. at (s .threads u)) (λ u. clears (s .threads u)) t (at v) no-clear) (i .clearing));
     loading = rw (kept loads (s .threads) t v (no-load′ ∙ sym no-load)) (i .loading);
     partition = rw (kept loads (s .threads) t v (no-load′ ∙ sym no-load), kept clears (s .threads) t v (no-clear′ ∙ sym no-clear)) (i .partition);
     sets = rw (kept loads (s .threads) t v (no-load′ ∙ sym no-load), kept clears (s .threads) t v (no-clear′ ∙ sym no-clear), upd-map at (s .threads) t v)
-        (sets-kept o (s .seq) (g .linked) (s .executing) (s .waits) (λ u. at (s .threads u)) (upd (λ u. at (s .threads u)) t (at v)) (λ u. loads (s .threads u)) (λ u. clears (s .threads u))
+        (sets-kept o (s .graph .seq) (g .linked) (s .graph .executing) (s .graph .waits) (λ u. at (s .threads u)) (upd (λ u. at (s .threads u)) t (at v)) (λ u. loads (s .threads u)) (λ u. clears (s .threads u))
         (stays (λ u. at (s .threads u)) (λ u. clears (s .threads u)) t (at v) no-clear) (stays (λ u. at (s .threads u)) (λ u. loads (s .threads u)) t (at v) no-load) (i .sets));
     progress = rw (kept done (s .threads) t v same-done) (i .progress);
     service = rw (kept looked (s .threads) t v same-looked, kept found (s .threads) t v same-found) (i .service);

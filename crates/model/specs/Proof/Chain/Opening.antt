@@ -9,10 +9,12 @@ use mathlib.Core.Option.{none, some}
 use mathlib.Core.Logic.{_⊎_, inl, inr, ⊎-elim}
 use borrow.Author.Tests.{le-leb, lt-ltb, le-ltb}
 use Rattle.model.specs.Store.{layOut}
-use Rattle.model.specs.Step.{Setup, opened, firstNext, noNode}
+use Rattle.model.specs.Setup.{Setup}
+use Rattle.model.specs.Graph.{firstNext, noNode, openedGraph}
+use Rattle.model.specs.Step.{opened}
 use Rattle.model.specs.Statement.{Accepted}
 use Rattle.model.specs.Proof.Tests.{true-false, none-some, eqb-cases}
-use Rattle.model.specs.Proof.Service.{entries-none}
+use Rattle.model.specs.Proof.Consistent.{opened-consistent}
 use Rattle.model.specs.Proof.Chain.Invariant.{Ghost, Inv, In, NoRepeat, ChainFrom, at}
 
 -- the k numbers from a on
@@ -64,7 +66,7 @@ first-is-1 zero h = absurd (omega arith)
 first-is-1 (suc k) h = refl
 
 pub opened-meets : (o : Setup) → Accepted o → Inv o (opened o) (openedGhost o)
-unfolding opened noNode
+unfolding opened openedGraph noNode
 opened-meets o acc = record {
   order = record {
     head-seq = refl;
@@ -93,7 +95,7 @@ opened-meets o acc = record {
   partition = record { one-of = λ x u. absurd (omega arith) };
   sets = record { unused-empty = λ x y e. refl; executing-empty = λ x y e. refl; linked-sound = λ x y e. no e; linked-complete = λ x y e. no e; loading-sound = λ t x l y e. none-is e; loading-complete = λ t x l y e. none-is e };
   progress = record { done-written = λ t x e. none-is e; written-done = λ c e. no e; removed-written = λ c e. no e; removed-loaded = λ c e. no e; removed-gone = λ x u. refl; accounted = λ c l h. absurd (omega arith) };
-  service = record { closed = λ j k a b p q l d e. no e; answered = λ c l h. refl; stored = ap (layOut (o .capacity)) (sym (entries-none o)); look = λ t x e. none-is e };
+  service = opened-consistent o (λ n. 0);
   roles = record { loader = refl; worker = λ t h. refl; rest = λ t h. refl };
 }
   where

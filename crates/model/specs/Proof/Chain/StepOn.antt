@@ -5,7 +5,7 @@ use mathlib.Core.Path.{_≡_, sym, ap, _∙_}
 use mathlib.Core.Bool.{Bool, true, false}
 use mathlib.Core.Option.{Option, some}
 use mathlib.Core.Logic.{_⊎_, inr, ⊎-elim}
-use Rattle.model.specs.Step.{upd}
+use Rattle.model.specs.Upd.{upd}
 use Rattle.model.specs.Proof.Tests.{true-false}
 use Rattle.model.specs.Proof.Upd.{upd-same, upd-other, upd-at, upd-cases}
 use Rattle.model.specs.Proof.Chain.Invariant.{On, Order, Standing}

@@ -15,7 +15,10 @@ use Rattle.model.specs.declared.Thread.{Thread}
 use Rattle.model.specs.declared.Thread.the-variants.{LookedUp, Written}
 use Rattle.model.specs.Serial.{Entry, serve, chuteAt}
 use Rattle.model.specs.Store.{layOut, lookUp}
-use Rattle.model.specs.Step.{Setup, State, upd, node, foundFor, commandOf, commandAt, bothDependent, write, writeKind, writeFor, lookedUp, setThread, setStore, setAnswer}
+use Rattle.model.specs.Upd.{upd}
+use Rattle.model.specs.Setup.{Setup, commandAt, bothDependent}
+use Rattle.model.specs.Service.{foundFor, write, writeKind, writeFor}
+use Rattle.model.specs.Step.{State, node, commandOf, lookedUp, serveTo}
 use Rattle.model.specs.Statement.{Accepted, serialAnswer}
 use Rattle.model.specs.Proof.Tests.{fails, true-false, none-some}
 use Rattle.model.specs.Proof.Upd.{upd-same, upd-other, upd-at, upd-cases, upd-map}
@@ -23,7 +26,8 @@ use Rattle.model.specs.Proof.Commute.{look-keeps}
 use Rattle.model.specs.Proof.Store.{trichotomy, lookUp-is-chuteAt}
 use Rattle.model.specs.Proof.Write.{written-as-served}
 use Rattle.model.specs.Proof.Service.{EarlierIn, entriesOf, served-next, closed-next, entries-ascending, entries-fit, entries-positive}
-use Rattle.model.specs.Proof.Chain.Invariant.{Ghost, Inv, Progress, Service, at, loads, executes, clears, done, looked, found}
+use Rattle.model.specs.Proof.Consistent.{written-service, written-consistent}
+use Rattle.model.specs.Proof.Chain.Invariant.{Ghost, Inv, Progress, at, loads, executes, clears, done, looked, found}
 use Rattle.model.specs.Proof.Chain.Ghost.{writing}
 use Rattle.model.specs.Proof.Chain.Kept.{kept}
 use Rattle.model.specs.Proof.Chain.Moves.{worker-role, walks-moved}
@@ -31,27 +35,27 @@ use Rattle.model.specs.Proof.Chain.Facts.{done-own, looked-own, clears-d
 
 module _ (o : Setup) (s : State) (g : Ghost) (i : Inv o s g) where
   -- a node with a command has the command of its place
-  pub node-command : (x : ℕ) → 1 ≤ s .seq x → (cmd : Command) × (commandAt (o .commands) (s .seq x) ≡ some cmd)
-  node-command x u = let b = i .order .below x in let c = i .order .loaded-count in some-command (o .commands) (s .seq x) u (omega arith)
+  pub node-command : (x : ℕ) → 1 ≤ s .graph .seq x → (cmd : Command) × (commandAt (o .commands) (s .graph .seq x) ≡ some cmd)
+  node-command x u = let b = i .order .below x in let c = i .order .loaded-count in some-command (o .commands) (s .graph .seq x) u (omega arith)
 
   -- a later dependent node of the chain waits for an earlier one, so it is not executing
-  pub executing-independent : (x z : ℕ) (a b : Command) → g .linked x ≡ true → s .executing x ≡ true → g .linked z ≡ true → s .seq z < s .seq x →
-      commandAt (o .commands) (s .seq z) ≡ some a → commandAt (o .commands) (s .seq x) ≡ some b → areDependent a b ≡ false
+  pub executing-independent : (x z : ℕ) (a b : Command) → g .linked x ≡ true → s .graph .executing x ≡ true → g .linked z ≡ true → s .graph .seq z < s .graph .seq x →
+      commandAt (o .commands) (s .graph .seq z) ≡ some a → commandAt (o .commands) (s .graph .seq x) ≡ some b → areDependent a b ≡ false
   unfolding bothDependent
   executing-independent x z a b lx ex lz lt p q =
       fails (areDependent a b) (λ d.
-      true-false (s .waits x z) (i .sets .linked-complete x z lx (record { used = i .order .linked-used z lz; earlier = lt; dependent = both d; pending = inl lz })) (i .sets .executing-empty x z ex))
+      true-false (s .graph .waits x z) (i .sets .linked-complete x z lx (record { used = i .order .linked-used z lz; earlier = lt; dependent = both d; pending = inl lz })) (i .sets .executing-empty x z ex))
     where
-      both : areDependent a b ≡ true → bothDependent (commandAt (o .commands) (s .seq z)) (commandAt (o .commands) (s .seq x)) ≡ true
+      both : areDependent a b ≡ true → bothDependent (commandAt (o .commands) (s .graph .seq z)) (commandAt (o .commands) (s .graph .seq x)) ≡ true
       both d = rw (p, q) d
 
   -- every earlier command that an executing node's command depends on is answered
-  pub earlier-answered : (x : ℕ) (cmd : Command) → g .linked x ≡ true → s .executing x ≡ true → commandAt (o .commands) (s .seq x) ≡ some cmd → EarlierIn o (g .written) (s .seq x) cmd
+  pub earlier-answered : (x : ℕ) (cmd : Command) → g .linked x ≡ true → s .graph .executing x ≡ true → commandAt (o .commands) (s .graph .seq x) ≡ some cmd → EarlierIn o (g .written) (s .graph .seq x) cmd
   earlier-answered x cmd lx ex q j a p lt d =
       let b = i .order .below x in
       ⊎-elim (λ r. i .progress .removed-written j r) (λ k. has-node (k .0) (k .1)) (i .progress .accounted j (command-place (o .commands) j a p) (omega arith))
     where
-      has-node : (z : ℕ) → s .seq z ≡ j → g .written j ≡ true
+      has-node : (z : ℕ) → s .graph .seq z ≡ j → g .written j ≡ true
       has-node z e =
           let u = command-place (o .commands) j a p in
           ⊎-elim (λ l. absurd (true-false (areDependent a cmd) d (executing-independent x z a cmd lx ex l (omega arith) (ap (commandAt (o .commands)) e ∙ p) q)))
@@ -65,7 +69,7 @@ module _ (o : Setup) (acc : Accepted o) (s : State) (g : Ghost) (i : Inv o s g) 
   n = x .0
 
   abbrev c : ℕ
-  c = s .seq n
+  c = s .graph .seq n
 
   abbrev v : Thread
   v = Written (node n)
@@ -79,7 +83,7 @@ module _ (o : Setup) (acc : Accepted o) (s : State) (g : Ghost) (i : Inv o s g) 
   n-linked : g .linked n ≡ true
   n-linked = i .executing .own-linked t n (ap executes here)
 
-  n-executing : s .executing n ≡ true
+  n-executing : s .graph .executing n ≡ true
   n-executing = i .executing .own-executing t n (ap executes here)
 
   n-used : 1 ≤ c
@@ -87,9 +91,9 @@ module _ (o : Setup) (acc : Accepted o) (s : State) (g : Ghost) (i : Inv o s g) 
 
   -- the command has no answer yet: whoever had written it would be another worker with the same node
   not-written : g .written c ≡ false
-  not-written = fails (g .written c) (λ w. ⊎-elim (λ r. true-false (g .removed c) r (i .progress .removed-gone n n-used)) (λ (k : (u : ℕ) × (z : ℕ) × (done (s .threads u) ≡ some z) × (s .seq z ≡ c)). other (k .0) (k .1) (k .2) (k .3)) (i .progress .written-done c w))
+  not-written = fails (g .written c) (λ w. ⊎-elim (λ r. true-false (g .removed c) r (i .progress .removed-gone n n-used)) (λ (k : (u : ℕ) × (z : ℕ) × (done (s .threads u) ≡ some z) × (s .graph .seq z ≡ c)). other (k .0) (k .1) (k .2) (k .3)) (i .progress .written-done c w))
     where
-      other : (u z : ℕ) → done (s .threads u) ≡ some z → s .seq z ≡ c → ⊥
+      other : (u z : ℕ) → done (s .threads u) ≡ some z → s .graph .seq z ≡ c → ⊥
       other u z d e =
           let q : n ≡ z = i .order .distinct n z n-used (sym e) in
           ⊎-elim (λ k. none-some (done (s .threads t)) (ap done here) (ap (λ (w : ℕ). done (s .threads w)) (sym (i .executing .alone u t z k (ap executes here ∙ ap some q))) ∙ d))
@@ -99,47 +103,19 @@ module _ (o : Setup) (acc : Accepted o) (s : State) (g : Ghost) (i : Inv o s g) 
     earlier : EarlierIn o (g .written) c cmd
     earlier = earlier-answered o s g i n cmd n-linked n-executing command
 
-    -- what the lookup found is what it would find now, so the write is the serial service on the answered commands' entries
-    served : writeKind (cmd .kind) (o .capacity) (cmd .key) (cmd .chute) f (s .store) ≡ write (serialAnswer o c) (layOut (o .capacity) (entriesOf o written′))
-    unfolding serve foundFor
-    served =
-        let e : f ≡ lookUp (cmd .key) (s .store) = sym (ap found here) ∙ (i .service .look t n (ap looked here) ∙ ap (λ (m : Option Command). foundFor m (s .store)) command) in
-        let k = served-next o (g .written) c cmd (i .service .closed) command not-written earlier in
-        rw (e, i .service .stored)
-        (written-as-served (o .capacity) (cmd .key) (cmd .chute) es (entries-ascending o (g .written)) (entries-positive o acc (g .written)) (entries-fit o (g .written)) (cmd .kind)
-        ∙ (ap (λ (a : ℕ). write a (layOut (o .capacity) (serve (o .capacity) cmd es .entries))) (k .0) ∙ ap (λ (l : List Entry). write (serialAnswer o c) (layOut (o .capacity) l)) (k .1)))
-
-    -- a lookup for an independent command finds after the write what it found before
-    found-kept : (b : Command) → areDependent b cmd ≡ false → lookUp (b .key) (s .store) ≡ lookUp (b .key) (layOut (o .capacity) (entriesOf o written′))
-    found-kept b free =
-        let k = served-next o (g .written) c cmd (i .service .closed) command not-written earlier in
-        ap (lookUp (b .key)) (i .service .stored)
-        ∙ (lookUp-is-chuteAt (o .capacity) (b .key) es (entries-ascending o (g .written)) (entries-fit o (g .written))
-        ∙ (sym (look-keeps (o .capacity) b cmd es free) ∙ (ap (chuteAt (b .key)) (k .1)
-        ∙ sym (lookUp-is-chuteAt (o .capacity) (b .key) (entriesOf o written′) (entries-ascending o written′) (entries-fit o written′)))))
-
     -- another looked-up worker's command is independent: the later of two dependent ones would wait for the earlier
-    independent : (u z : ℕ) → executes (s .threads u) ≡ some z → (u ≡ t → ⊥) → (b : Command) → commandAt (o .commands) (s .seq z) ≡ some b → areDependent b cmd ≡ false
+    independent : (u z : ℕ) → executes (s .threads u) ≡ some z → (u ≡ t → ⊥) → (b : Command) → commandAt (o .commands) (s .graph .seq z) ≡ some b → areDependent b cmd ≡ false
     independent u z own other b q =
         let lz = i .executing .own-linked u z own in
         let ez = i .executing .own-executing u z own in
         ⊎-elim (λ lt. executing-independent o s g i n z b cmd n-linked n-executing lz lt q command)
         (⊎-elim (λ eq. absurd (other (i .executing .alone u t z own (ap executes here ∙ ap some (i .order .distinct n z n-used (sym eq))))))
         (λ gt. dependence-is-symmetric b cmd ∙ executing-independent o s g i z n cmd b lz ez n-linked gt command q))
-        (trichotomy (s .seq z) c)
+        (trichotomy (s .graph .seq z) c)
 
-    look-kept : (u z : ℕ) → looked (s .threads u) ≡ some z → (u ≡ t → ⊥) → foundFor (commandAt (o .commands) (s .seq z)) (s .store) ≡ foundFor (commandAt (o .commands) (s .seq z)) (layOut (o .capacity) (entriesOf o written′))
-    unfolding foundFor
-    look-kept u z e other =
-        let own = looked-own (s .threads u) z e in
-        let b = node-command o s g i z (executes-used o s g i u z own) in
-        ap (λ (m : Option Command). foundFor m (s .store)) (b .1)
-        ∙ (found-kept (b .0) (independent u z own other (b .0) (b .1))
-        ∙ sym (ap (λ (m : Option Command). foundFor m (layOut (o .capacity) (entriesOf o written′))) (b .1)))
-
-    written-progress : Progress (s .loaded) (s .seq) written′ (g .removed) (upd (λ u. done (s .threads u)) t (some n))
+    written-progress : Progress (s .graph .loaded) (s .graph .seq) written′ (g .removed) (upd (λ u. done (s .threads u)) t (some n))
     written-progress = record {
-      done-written = λ u z e. ⊎-elim (λ h. upd-at (g .written) c true (s .seq z) (ap (s .seq) (let q : z ≡ n = cc in q))) (λ h. more-written (s .seq z) (i .progress .done-written u z (sym (h .1) ∙ e))) (upd-cases (λ u. done (s .threads u)) t (some n) u);
+      done-written = λ u z e. ⊎-elim (λ h. upd-at (g .written) c true (s .graph .seq z) (ap (s .graph .seq) (let q : z ≡ n = cc in q))) (λ h. more-written (s .graph .seq z) (i .progress .done-written u z (sym (h .1) ∙ e))) (upd-cases (λ u. done (s .threads u)) t (some n) u);
       written-done = λ k w. ⊎-elim (λ h. inr (t, n, upd-same (λ u. done (s .threads u)) t (some n), sym (h .0))) (λ h. old k (i .progress .written-done k (sym (h .1) ∙ w))) (upd-cases (g .written) c true k);
       removed-written = λ k r. more-written k (i .progress .removed-written k r);
       removed-loaded = i .progress .removed-loaded;
@@ -150,20 +126,26 @@ module _ (o : Setup) (acc : Accepted o) (s : State) (g : Ghost) (i : Inv o s g) 
         more-written : (k : ℕ) → g .written k ≡ true → written′ k ≡ true
         more-written k w = ⊎-elim (λ h. h .1) (λ h. h .1 ∙ w) (upd-cases (g .written) c true k)
 
-        old : (k : ℕ) → (g .removed k ≡ true) ⊎ ((u : ℕ) × (z : ℕ) × (done (s .threads u) ≡ some z) × (s .seq z ≡ k)) → (g .removed k ≡ true) ⊎ ((u : ℕ) × (z : ℕ) × (upd (λ u. done (s .threads u)) t (some n) u ≡ some z) × (s .seq z ≡ k))
+        old : (k : ℕ) → (g .removed k ≡ true) ⊎ ((u : ℕ) × (z : ℕ) × (done (s .threads u) ≡ some z) × (s .graph .seq z ≡ k)) → (g .removed k ≡ true) ⊎ ((u : ℕ) × (z : ℕ) × (upd (λ u. done (s .threads u)) t (some n) u ≡ some z) × (s .graph .seq z ≡ k))
         old k = ⊎-elim inl (λ w. inr (w .0, w .1, upd-other (λ u. done (s .threads u)) t (some n) (w .0) (λ q. none-some (done (s .threads t)) (ap done here) (ap (λ (u : ℕ). done (s .threads u)) (sym q) ∙ w .2)) ∙ w .2, w .3))
 
-    written-service : Service o (s .seq) written′ (upd (s .answers) c (serialAnswer o c)) (layOut (o .capacity) (entriesOf o written′)) (λ u. looked (upd (s .threads) t v u)) (λ u. found (upd (s .threads) t v u))
-    written-service = record {
-      closed = closed-next o (g .written) c cmd (i .service .closed) command earlier;
-      answered = λ k a b. ⊎-elim (λ h. h .1 ∙ rw (upd-at (g .written) c true k (h .0)) (ap (serialAnswer o) (sym (h .0)))) (λ h. h .1 ∙ rw (upd-other (g .written) c true k (h .0)) (i .service .answered k a b)) (upd-cases (s .answers) c (serialAnswer o c) k);
-      stored = refl;
-      look = λ u z e. ⊎-elim (λ h. absurd (none-some (looked (upd (s .threads) t v u)) (ap looked (h .1)) e)) (λ h. let e₀ = ap looked (sym (h .1)) ∙ e in ap found (h .1) ∙ (i .service .look u z e₀ ∙ look-kept u z e₀ (h .0))) (upd-cases (s .threads) t v u);
-    }
+    -- what the lookup found is what it would find now
+    found-now : f ≡ foundFor (some cmd) (s .service .store)
+    found-now = sym (ap found here) ∙ (i .service .look t n (ap looked here) ∙ ap (λ (m : Option Command). foundFor m (s .service .store)) command)
 
-    written-inv : Inv o (setThread t v (setStore (layOut (o .capacity) (entriesOf o written′)) (setAnswer c (serialAnswer o c) s))) (writing c g)
-    unfolding setThread setStore setAnswer
-    written-inv = record {
+    -- the other lookups go on, and are for independent commands
+    others : (u z : ℕ) → looked (upd (s .threads) t v u) ≡ some z
+        → (looked (s .threads u) ≡ some z) × (found (upd (s .threads) t v u) ≡ found (s .threads u)) × (b : Command) × (commandAt (o .commands) (s .graph .seq z) ≡ some b) × (areDependent b cmd ≡ false)
+    others u z e =
+        ⊎-elim (λ h. absurd (none-some (looked (upd (s .threads) t v u)) (ap looked (h .1)) e)) (λ h.
+        let e₀ = ap looked (sym (h .1)) ∙ e in
+        let own = looked-own (s .threads u) z e₀ in
+        let b = node-command o s g i z (executes-used o s g i u z own) in
+        (e₀, ap found (h .1), b .0, b .1, independent u z own (h .0) (b .0) (b .1))) (upd-cases (s .threads) t v u)
+
+    written-inv : Inv o (serveTo t v (writeFor o (some cmd) c f (s .service)) s) (writing c g)
+    unfolding serveTo
+    written-inv = rw (written-service (i .service) acc c cmd command not-written earlier f found-now) (record {
       order = i .order;
       freeList = i .freeList;
       standing = rw (kept at (s .threads) t v (sym (ap at here))) (i .standing);
@@ -174,12 +156,12 @@ module _ (o : Setup) (acc : Accepted o) (s : State) (g : Ghost) (i : Inv o s g) 
       partition = rw (kept loads (s .threads) t v (sym (ap loads here)), kept clears (s .threads) t v (sym (ap clears here))) (i .partition);
       sets = rw (kept loads (s .threads) t v (sym (ap loads here)), kept clears (s .threads) t v (sym (ap clears here)), kept at (s .threads) t v (sym (ap at here))) (i .sets);
       progress = rw (upd-map done (s .threads) t v) written-progress;
-      service = written-service;
+      service = written-consistent (i .service) acc c cmd command not-written earlier _ _ others;
       roles = worker-role t v low high refl (i .roles);
-    }
+    })
 
   pub worker-written : Inv o (lookedUp o t n f s) (writing c g)
-  unfolding lookedUp commandOf writeFor
+  unfolding lookedUp commandOf
   worker-written =
       let k = node-command o s g i n n-used in
-      rw (k .1, served (k .0) (k .1)) (written-inv (k .0) (k .1))
+      rw (k .1) (written-inv (k .0) (k .1))

@@ -9,7 +9,8 @@ use lib.ListN.{length}
 use Rattle.node_set.specs.declared.Node.{Node}
 use Rattle.model.specs.declared.Thread.{Thread}
 use Rattle.model.specs.declared.Thread.the-variants.{Idle, Loading, Searching, Holding, LookedUp, Written, Walking, Clearing}
-use Rattle.model.specs.Step.{Setup, State}
+use Rattle.model.specs.Setup.{Setup}
+use Rattle.model.specs.Step.{State}
 use Rattle.model.specs.Proof.Tests.{fails, true-false}
 use Rattle.model.specs.Proof.Chain.Invariant.{Ghost, Inv, loads, isLoader}
 use Rattle.model.specs.Proof.Finish.Count.{sumBelow, count, sum-change, sum-const, count-less, count-past, count-image}
@@ -52,55 +53,55 @@ module _ (o : Setup) (s : State) (g : Ghost) (i : Inv o s g) where
   here = present (s .threads 0) (g .linked)
 
   far : ℕ → ℕ
-  far = ahead (o .size) (s .seq) here
+  far = ahead (o .size) (s .graph .seq) here
 
   far-size : (a : ℕ) → far a ≤ o .size
   unfolding far
-  far-size a = ahead-size (o .size) (s .seq) here a (i .order .head-seq)
+  far-size a = ahead-size (o .size) (s .graph .seq) here a (i .order .head-seq)
 
   -- ---- the waiting nodes and the commands that are not loaded are commands that are not removed
 
   -- a node in the chain or being loaded has a command
-  here-used : (z : ℕ) → here z ≡ true → 1 ≤ s .seq z
+  here-used : (z : ℕ) → here z ≡ true → 1 ≤ s .graph .seq z
   unfolding here
   here-used z h = ⊎-elim (λ e. i .order .linked-used z e) (λ e. i .loading .used 0 z e) (present-cases (s .threads 0) (g .linked) z h)
 
   -- each has a command of its own, loaded and not removed
-  waiting-loaded : waiting (o .size) here (s .executing) ≤ count (s .loaded) (λ j. not (g .removed (suc j)))
+  waiting-loaded : waiting (o .size) here (s .graph .executing) ≤ count (s .graph .loaded) (λ j. not (g .removed (suc j)))
   unfolding waiting
   waiting-loaded =
-      count-image (suc (o .size)) (s .loaded) (λ z. here z && not (s .executing z)) (λ j. not (g .removed (suc j))) (λ z. s .seq z - 1)
+      count-image (suc (o .size)) (s .graph .loaded) (λ z. here z && not (s .graph .executing z)) (λ j. not (g .removed (suc j))) (λ z. s .graph .seq z - 1)
       (λ z l h.
-      let u = here-used z (and-eq-true-iff (here z) (not (s .executing z)) .0 h .0) in
+      let u = here-used z (and-eq-true-iff (here z) (not (s .graph .executing z)) .0 h .0) in
       let b = i .order .below z in
-      let e : suc (s .seq z - 1) ≡ s .seq z = omega arith in
+      let e : suc (s .graph .seq z - 1) ≡ s .graph .seq z = omega arith in
       (omega arith, ap (λ c. not (g .removed c)) e ∙ ap not (i .progress .removed-gone z u)))
       (λ y z l m h k e.
-      let u = here-used y (and-eq-true-iff (here y) (not (s .executing y)) .0 h .0) in
-      let v = here-used z (and-eq-true-iff (here z) (not (s .executing z)) .0 k .0) in
+      let u = here-used y (and-eq-true-iff (here y) (not (s .graph .executing y)) .0 h .0) in
+      let v = here-used z (and-eq-true-iff (here z) (not (s .graph .executing z)) .0 k .0) in
       i .order .distinct y z u (omega arith))
 
   -- and a command that is not loaded is not removed
-  counted : waiting (o .size) here (s .executing) + (length (o .commands) - s .loaded) ≤ unremoved o g
+  counted : waiting (o .size) here (s .graph .executing) + (length (o .commands) - s .graph .loaded) ≤ unremoved o g
   unfolding unremoved
   counted =
       let a = waiting-loaded in
-      let b = count-past (length (o .commands)) (s .loaded) (λ j. not (g .removed (suc j))) (i .order .loaded-count)
+      let b = count-past (length (o .commands)) (s .graph .loaded) (λ j. not (g .removed (suc j))) (i .order .loaded-count)
       (λ j l. ap not (fails (g .removed (suc j)) (λ e. let k = i .progress .removed-loaded (suc j) e .1 in absurd (omega arith)))) in
       omega arith
 
   -- ---- the threads: each worker costs at most s + 4, and the loader at most s where a node is being loaded, which is waiting
 
   -- the node being loaded is waiting
-  one-waiting : (a x : Node) → s .threads 0 ≡ Loading a x → 1 ≤ waiting (o .size) here (s .executing)
+  one-waiting : (a x : Node) → s .threads 0 ≡ Loading a x → 1 ≤ waiting (o .size) here (s .graph .executing)
   unfolding waiting here
   one-waiting a x e =
-      let l = count-less (suc (o .size)) (λ z. false) (λ z. here z && not (s .executing z)) (x .0) (let k = i .order .used-size (x .0) (i .loading .used 0 (x .0) (ap loads e)) in omega arith) refl
-      (true-and-true (here (x .0)) (not (s .executing (x .0))) (rw e (loading-present (g .linked) a x)) (ap not (i .loading .waiting 0 (x .0) (ap loads e)))) (λ z d h. absurd (true-false false h refl)) in
+      let l = count-less (suc (o .size)) (λ z. false) (λ z. here z && not (s .graph .executing z)) (x .0) (let k = i .order .used-size (x .0) (i .loading .used 0 (x .0) (ap loads e)) in omega arith) refl
+      (true-and-true (here (x .0)) (not (s .graph .executing (x .0))) (rw e (loading-present (g .linked) a x)) (ap not (i .loading .waiting 0 (x .0) (ap loads e)))) (λ z d h. absurd (true-false false h refl)) in
       omega arith
 
   -- so the loader costs at most s for each waiting node
-  loader-cost : (thread : Thread) → s .threads 0 ≡ thread → cost (o .size) far thread ≤ waiting (o .size) here (s .executing) * o .size
+  loader-cost : (thread : Thread) → s .threads 0 ≡ thread → cost (o .size) far thread ≤ waiting (o .size) here (s .graph .executing) * o .size
   unfolding cost
   loader-cost Idle e = omega arith
   loader-cost (Loading a x) e =
@@ -128,5 +129,5 @@ module _ (o : Setup) (s : State) (g : Ghost) (i : Inv o s g) where
   pub bound : 1 ≤ o .size → Φ o s g ≤ (unremoved o g + o .workers) * (3 * o .size + 6)
   unfolding Φ measure far here
   bound room =
-      total (o .size) (sumBelow (suc (o .workers)) (λ t. cost (o .size) far (s .threads t))) (cost (o .size) far (s .threads 0)) (o .workers) (waiting (o .size) here (s .executing))
-      (length (o .commands) - s .loaded) (unremoved o g) room threads-cost (loader-cost (s .threads 0) refl) counted
+      total (o .size) (sumBelow (suc (o .workers)) (λ t. cost (o .size) far (s .threads t))) (cost (o .size) far (s .threads 0)) (o .workers) (waiting (o .size) here (s .graph .executing))
+      (length (o .commands) - s .graph .loaded) (unremoved o g) room threads-cost (loader-cost (s .threads 0) refl) counted

@@ -13,7 +13,11 @@ use Rattle.node_set.specs.declared.Node.{Node}
 use Rattle.node_set.specs.Members.{noneBelow}
 use Rattle.model.specs.declared.Thread.{Thread}
 use Rattle.model.specs.declared.Thread.the-variants.{Idle, Loading, Searching, Holding, LookedUp, Written, Walking, Clearing}
-use Rattle.model.specs.Step.{Setup, State, upd, node, step, workerStep, loaderStep, searching, leave, stepOn, examine, ready, setThread, setLocked, setExecuting, setWaits, setNext, walking, bypass, clearing, return, setFree, setSeq, enter, holding, lookedUp, writeFor, loaderWalk, link, addDependence, commandOf, foundFor, bothDependent}
+use Rattle.model.specs.Upd.{upd}
+use Rattle.model.specs.Setup.{Setup, bothDependent}
+use Rattle.model.specs.Graph.{setLocked, setExecuting, setWaits, setNext, setFree, setSeq}
+use Rattle.model.specs.Service.{writeFor, foundFor}
+use Rattle.model.specs.Step.{State, node, step, workerStep, loaderStep, searching, leave, stepOn, examine, ready, moveTo, serveTo, walking, bypass, clearing, return, enter, holding, lookedUp, loaderWalk, link, addDependence, commandOf}
 use Rattle.model.specs.Proof.Tests.{fails, true-false, none-some, eqb-cases}
 use Rattle.model.specs.Proof.Upd.{upd-same, upd-other, upd-id}
 use Rattle.model.specs.Proof.Chain.Invariant.{Ghost, Inv, at, loads, executes, walks, clears, isLoader, isWorker}
@@ -24,11 +28,11 @@ use Rattle.model.specs.Proof.Finish.Measure.{Φ, measure, ahead, cost, a
 
 -- what the measure reads after a move of thread t to v that leaves sequence numbers and taken nodes as they were
 Moved : Setup → State → ℕ → Thread → (ℕ → Bool) → ℕ
-Moved o s t v linked = measure (o .size) (o .workers) (s .seq) (present (upd (s .threads) t v 0) linked) (s .executing) (upd (s .threads) t v) (length (o .commands) - s .loaded)
+Moved o s t v linked = measure (o .size) (o .workers) (s .graph .seq) (present (upd (s .threads) t v 0) linked) (s .graph .executing) (upd (s .threads) t v) (length (o .commands) - s .graph .loaded)
 
 -- how many nodes are ahead of a node
 far : Setup → State → Ghost → ℕ → ℕ
-far o s g = ahead (o .size) (s .seq) (present (s .threads 0) (g .linked))
+far o s g = ahead (o .size) (s .graph .seq) (present (s .threads 0) (g .linked))
 
 module _ (o : Setup) (s : State) (g : Ghost) (i : Inv o s g) where
   -- a thread that stands somewhere is one up to the worker count
@@ -40,56 +44,56 @@ module _ (o : Setup) (s : State) (g : Ghost) (i : Inv o s g) where
       go false h = absurd (none-some (at (s .threads u)) (ap at (i .roles .rest u (leb-false u (o .workers) h))) e)
 
   -- worker t takes a waiting node of the chain
-  pub takes-lowered : (t y : ℕ) (threads : ℕ → Thread) → 1 ≤ t → t ≤ o .workers → g .linked y ≡ true → s .executing y ≡ false → threads t ≡ Holding (node y) →
+  pub takes-lowered : (t y : ℕ) (threads : ℕ → Thread) → 1 ≤ t → t ≤ o .workers → g .linked y ≡ true → s .graph .executing y ≡ false → threads t ≡ Holding (node y) →
       ((u : ℕ) → (u ≡ t → ⊥) → threads u ≡ s .threads u) →
-      measure (o .size) (o .workers) (s .seq) (present (threads 0) (g .linked)) (upd (s .executing) y true) threads (length (o .commands) - s .loaded) + 2 ≤ Φ o s g
+      measure (o .size) (o .workers) (s .graph .seq) (present (threads 0) (g .linked)) (upd (s .graph .executing) y true) threads (length (o .commands) - s .graph .loaded) + 2 ≤ Φ o s g
   unfolding Φ cost
   takes-lowered t y threads low within on wait mine others =
       let here = present (s .threads 0) (g .linked) in
-      rw (others 0 (λ e. absurd (omega arith))) (taken-lowered (o .size) (o .workers) (s .seq) (s .seq) here here (s .executing) (upd (s .executing) y true) (s .threads) threads t within
-      others (λ u b d q z h m. (h, m)) (length (o .commands) - s .loaded) y (λ z d h m. (h, sym (upd-other (s .executing) y true z d) ∙ m))
-      (i .order .used-size y (i .order .linked-used y on)) (linked-present (s .threads 0) (g .linked) y on) wait (upd-same (s .executing) y true) (rw mine (omega arith)))
+      rw (others 0 (λ e. absurd (omega arith))) (taken-lowered (o .size) (o .workers) (s .graph .seq) (s .graph .seq) here here (s .graph .executing) (upd (s .graph .executing) y true) (s .threads) threads t within
+      others (λ u b d q z h m. (h, m)) (length (o .commands) - s .graph .loaded) y (λ z d h m. (h, sym (upd-other (s .graph .executing) y true z d) ∙ m))
+      (i .order .used-size y (i .order .linked-used y on)) (linked-present (s .threads 0) (g .linked) y on) wait (upd-same (s .graph .executing) y true) (rw mine (omega arith)))
 
   module _ (t : ℕ) (within : t ≤ o .workers) (foremost : Foremost o s t) where
     -- no locked node is further along: whoever stands there would be
-    locked-behind : (x : ℕ) → s .locked x ≡ true → suc (suc (s .seq x)) ≤ rank (s .seq) (s .threads t)
+    locked-behind : (x : ℕ) → s .graph .locked x ≡ true → suc (suc (s .graph .seq x)) ≤ rank (s .graph .seq) (s .threads t)
     locked-behind x h =
         let w = i .standing .held x h in
         let r = foremost (w .0) (stands-within (w .0) x (w .1)) in
-        let p = rank-at (s .seq) (s .threads (w .0)) x (w .1) in
+        let p = rank-at (s .graph .seq) (s .threads (w .0)) x (w .1) in
         omega arith
 
     -- so the next node of the foremost thread is not locked
-    next-open : (a : ℕ) → at (s .threads t) ≡ some a → (s .next a ≡ 0 → ⊥) → s .locked (s .next a) ≡ false
+    next-open : (a : ℕ) → at (s .threads t) ≡ some a → (s .graph .next a ≡ 0 → ⊥) → s .graph .locked (s .graph .next a) ≡ false
     next-open a e more =
-        fails (s .locked (s .next a))
+        fails (s .graph .locked (s .graph .next a))
         (λ h.
-        let b = locked-behind (s .next a) h in
-        let q = rank-at (s .seq) (s .threads t) a e in
+        let b = locked-behind (s .graph .next a) h in
+        let q = rank-at (s .graph .seq) (s .threads t) a e in
         let l = i .order .next-later a (i .standing .on t a e) more in
         absurd (omega arith))
 
     -- and where the foremost thread stands nowhere, no node is locked
-    all-open : rank (s .seq) (s .threads t) ≤ 1 → (x : ℕ) → s .locked x ≡ false
-    all-open nowhere x = fails (s .locked x) (λ h. let b = locked-behind x h in absurd (omega arith))
+    all-open : rank (s .graph .seq) (s .threads t) ≤ 1 → (x : ℕ) → s .graph .locked x ≡ false
+    all-open nowhere x = fails (s .graph .locked x) (λ h. let b = locked-behind x h in absurd (omega arith))
 
     -- thread t comes nearer to idle, and no node comes or goes
     thread-lowered : (v : Thread) (linked : ℕ → Bool) → present (upd (s .threads) t v 0) linked ≡ present (s .threads 0) (g .linked) →
         cost (o .size) (far o s g) v + 1 ≤ cost (o .size) (far o s g) (s .threads t) → Moved o s t v linked + 1 ≤ Φ o s g
     unfolding Φ Moved far
     thread-lowered v linked same mine =
-        rw same (lowered (o .size) (o .workers) (s .seq) (s .seq) (present (s .threads 0) (g .linked)) (present (s .threads 0) (g .linked)) (s .executing) (s .executing) (s .threads) (upd (s .threads) t v) t within
-        (λ u d. upd-other (s .threads) t v u d) (λ u b d q z h m. (h, m)) (length (o .commands) - s .loaded) (λ z h m. (h, m)) (rw (upd-same (s .threads) t v) mine))
+        rw same (lowered (o .size) (o .workers) (s .graph .seq) (s .graph .seq) (present (s .threads 0) (g .linked)) (present (s .threads 0) (g .linked)) (s .graph .executing) (s .graph .executing) (s .threads) (upd (s .threads) t v) t within
+        (λ u d. upd-other (s .threads) t v u d) (λ u b d q z h m. (h, m)) (length (o .commands) - s .graph .loaded) (λ z h m. (h, m)) (rw (upd-same (s .threads) t v) mine))
 
     -- fewer nodes are ahead of the next node
-    far-next : (a : ℕ) → at (s .threads t) ≡ some a → (s .next a ≡ 0 → ⊥) → far o s g (s .next a) + 1 ≤ far o s g a
+    far-next : (a : ℕ) → at (s .threads t) ≡ some a → (s .graph .next a ≡ 0 → ⊥) → far o s g (s .graph .next a) + 1 ≤ far o s g a
     unfolding far
     far-next a e more =
-        let y = s .next a in
+        let y = s .graph .next a in
         let on = i .order .next-linked a (i .standing .on t a e) more in
         let l = i .order .next-later a (i .standing .on t a e) more in
-        ahead-less (o .size) (s .seq) (s .seq) (present (s .threads 0) (g .linked)) (present (s .threads 0) (g .linked)) a y (λ z h m. (h, omega arith)) y
-        (i .order .used-size y (i .order .linked-used y on)) (linked-present (s .threads 0) (g .linked) y on) l (rw (le-ltb (s .seq y) (s .seq y) (omega arith), and-false (present (s .threads 0) (g .linked) y)))
+        ahead-less (o .size) (s .graph .seq) (s .graph .seq) (present (s .threads 0) (g .linked)) (present (s .threads 0) (g .linked)) a y (λ z h m. (h, omega arith)) y
+        (i .order .used-size y (i .order .linked-used y on)) (linked-present (s .threads 0) (g .linked) y on) l (rw (le-ltb (s .graph .seq y) (s .graph .seq y) (omega arith), and-false (present (s .threads 0) (g .linked) y)))
 
     -- the loader, and what it loads, stay as they are when a worker moves
     worker-same : 1 ≤ t → (v : Thread) → present (upd (s .threads) t v 0) (g .linked) ≡ present (s .threads 0) (g .linked)
@@ -101,52 +105,52 @@ module _ (o : Setup) (s : State) (g : Ghost) (i : Inv o s g) where
       unfolding Φ Moved leave cost
       search-leaves = thread-lowered Idle (g .linked) (worker-same low Idle) (rw here (omega arith))
 
-      search-on : (s .next (a .0) ≡ 0 → ⊥) → Φ o (setThread t (Searching (node (s .next (a .0)))) (stepOn (a .0) (s .next (a .0)) s)) g + 1 ≤ Φ o s g
-      unfolding Φ Moved setThread stepOn cost
+      search-on : (s .graph .next (a .0) ≡ 0 → ⊥) → Φ o (moveTo t (Searching (node (s .graph .next (a .0)))) (stepOn (a .0) (s .graph .next (a .0)) (s .graph)) s) g + 1 ≤ Φ o s g
+      unfolding Φ Moved moveTo stepOn cost
       search-on more =
           let l = far-next (a .0) (ap at here) more in
-          thread-lowered (Searching (node (s .next (a .0)))) (g .linked) (worker-same low (Searching (node (s .next (a .0))))) (rw here (omega arith))
+          thread-lowered (Searching (node (s .graph .next (a .0)))) (g .linked) (worker-same low (Searching (node (s .graph .next (a .0))))) (rw here (omega arith))
 
-      search-takes : (s .next (a .0) ≡ 0 → ⊥) → s .executing (s .next (a .0)) ≡ false →
-          Φ o (setThread t (Holding (node (s .next (a .0)))) (setLocked (s .next (a .0)) false (setExecuting (s .next (a .0)) true (stepOn (a .0) (s .next (a .0)) s)))) g + 1 ≤ Φ o s g
-      unfolding Φ setThread setLocked setExecuting stepOn
+      search-takes : (s .graph .next (a .0) ≡ 0 → ⊥) → s .graph .executing (s .graph .next (a .0)) ≡ false →
+          Φ o (moveTo t (Holding (node (s .graph .next (a .0)))) (setLocked (s .graph .next (a .0)) false (setExecuting (s .graph .next (a .0)) true (stepOn (a .0) (s .graph .next (a .0)) (s .graph)))) s) g + 1 ≤ Φ o s g
+      unfolding Φ moveTo setLocked setExecuting stepOn
       search-takes more wait =
-          let v = Holding (node (s .next (a .0))) in
-          let l = takes-lowered t (s .next (a .0)) (upd (s .threads) t v) low within (i .order .next-linked (a .0) (i .standing .on t (a .0) (ap at here)) more) wait (upd-same (s .threads) t v) (λ u d. upd-other (s .threads) t v u d) in
+          let v = Holding (node (s .graph .next (a .0))) in
+          let l = takes-lowered t (s .graph .next (a .0)) (upd (s .threads) t v) low within (i .order .next-linked (a .0) (i .standing .on t (a .0) (ap at here)) more) wait (upd-same (s .threads) t v) (λ u d. upd-other (s .threads) t v u d) in
           omega arith
 
       searching-lowered : Φ o (workerStep o t (Searching a) s) (workerGhost (Searching a) s g) + 1 ≤ Φ o s g
       unfolding workerStep workerGhost searching examine
-      searching-lowered = ⊎-elim (λ e. rw (e .1) search-leaves) (λ e. rw (e .1, next-open (a .0) (ap at here) (e .0)) (go (e .0) (ready s (s .next (a .0))) refl)) (eqb-cases (s .next (a .0)) 0)
+      searching-lowered = ⊎-elim (λ e. rw (e .1) search-leaves) (λ e. rw (e .1, next-open (a .0) (ap at here) (e .0)) (go (e .0) (ready (s .graph) (s .graph .next (a .0))) refl)) (eqb-cases (s .graph .next (a .0)) 0)
         where
-          go : (s .next (a .0) ≡ 0 → ⊥) → (b : Bool) → ready s (s .next (a .0)) ≡ b → Φ o (examine t (a .0) (s .next (a .0)) s) g + 1 ≤ Φ o s g
-          go more true e = rw e (search-takes more (not-true (s .executing (s .next (a .0))) (and-eq-true-iff (not (s .executing (s .next (a .0)))) (noneBelow 192 (s .waits (s .next (a .0)))) .0 e .0)))
+          go : (s .graph .next (a .0) ≡ 0 → ⊥) → (b : Bool) → ready (s .graph) (s .graph .next (a .0)) ≡ b → Φ o (examine t (a .0) (s .graph .next (a .0)) s) g + 1 ≤ Φ o s g
+          go more true e = rw e (search-takes more (not-true (s .graph .executing (s .graph .next (a .0))) (and-eq-true-iff (not (s .graph .executing (s .graph .next (a .0)))) (noneBelow 192 (s .graph .waits (s .graph .next (a .0)))) .0 e .0)))
           go more false e = rw e (search-on more)
 
     -- the foremost worker that holds a node looks up, writes, and enters at the head, where nobody stands
     module _ (low : 1 ≤ t) (x : Node) where
       holding-lowered : s .threads t ≡ Holding x → Φ o (workerStep o t (Holding x) s) (workerGhost (Holding x) s g) + 1 ≤ Φ o s g
-      unfolding Φ Moved workerStep workerGhost holding setThread cost
+      unfolding Φ Moved workerStep workerGhost holding serveTo cost
       holding-lowered here =
-          let v = LookedUp (node (x .0)) (foundFor (commandOf o s (x .0)) (s .store)) in
+          let v = LookedUp (node (x .0)) (foundFor (commandOf o (s .graph) (x .0)) (s .service .store)) in
           thread-lowered v (g .linked) (worker-same low v) (rw here (omega arith))
 
       -- a write changes nothing that the measure reads
-      writes-moved : (c : Option Command) (found : ℕ) → Φ o (setThread t (Written (node (x .0))) (writeFor o c (s .seq (x .0)) found s)) (writing (s .seq (x .0)) g) ≡ Moved o s t (Written (node (x .0))) (g .linked)
-      unfolding Φ Moved setThread writeFor
+      writes-moved : (c : Option Command) (found : ℕ) → Φ o (serveTo t (Written (node (x .0))) (writeFor o c (s .graph .seq (x .0)) found (s .service)) s) (writing (s .graph .seq (x .0)) g) ≡ Moved o s t (Written (node (x .0))) (g .linked)
+      unfolding Φ Moved serveTo writeFor
       writes-moved none found = refl
       writes-moved (some c) found = refl
 
       lookedUp-lowered : (found : ℕ) → s .threads t ≡ LookedUp x found → Φ o (workerStep o t (LookedUp x found) s) (workerGhost (LookedUp x found) s g) + 1 ≤ Φ o s g
       unfolding workerStep workerGhost lookedUp cost
       lookedUp-lowered found here =
-          rw (writes-moved (commandOf o s (x .0)) found)
+          rw (writes-moved (commandOf o (s .graph) (x .0)) found)
           (thread-lowered (Written (node (x .0))) (g .linked) (worker-same low (Written (node (x .0)))) (rw here (omega arith)))
 
       written-lowered : s .threads t ≡ Written x → Φ o (workerStep o t (Written x) s) (workerGhost (Written x) s g) + 1 ≤ Φ o s g
-      unfolding Φ Moved workerStep workerGhost enter setThread setLocked cost far rank
+      unfolding Φ Moved workerStep workerGhost enter moveTo setLocked cost far rank
       written-lowered here =
-          let l = ahead-size (o .size) (s .seq) (present (s .threads 0) (g .linked)) 0 (i .order .head-seq) in
+          let l = ahead-size (o .size) (s .graph .seq) (present (s .threads 0) (g .linked)) 0 (i .order .head-seq) in
           rw (all-open (rw here (omega arith)) 0) (thread-lowered (Walking (node 0) x) (g .linked) (worker-same low (Walking (node 0) x)) (rw here (omega arith)))
 
     -- the foremost worker on the way to its own node bypasses it or steps on; the end of the chain is not before that node
@@ -155,45 +159,45 @@ module _ (o : Setup) (s : State) (g : Ghost) (i : Inv o s g) where
       own-on : g .linked (x .0) ≡ true
       own-on = i .executing .own-linked t (x .0) (ap executes here)
 
-      own-later : s .seq (a .0) < s .seq (x .0)
+      own-later : s .graph .seq (a .0) < s .graph .seq (x .0)
       own-later = i .walking .before t (x .0) (a .0) (ap walks here) (ap at here)
 
-      walk-more : s .next (a .0) ≡ 0 → ⊥
+      walk-more : s .graph .next (a .0) ≡ 0 → ⊥
       walk-more e =
           let l = i .order .last (a .0) (i .standing .on t (a .0) (ap at here)) e (x .0) own-on in
           let k = own-later in
           absurd (omega arith)
 
       -- the bypassed node was ahead, and is no more
-      bypassed : ahead (o .size) (s .seq) (present (s .threads 0) (upd (g .linked) (x .0) false)) (a .0) + 1 ≤ far o s g (a .0)
+      bypassed : ahead (o .size) (s .graph .seq) (present (s .threads 0) (upd (g .linked) (x .0) false)) (a .0) + 1 ≤ far o s g (a .0)
       unfolding far
       bypassed =
-          ahead-less (o .size) (s .seq) (s .seq) (present (s .threads 0) (g .linked)) (present (s .threads 0) (upd (g .linked) (x .0) false)) (a .0) (a .0)
+          ahead-less (o .size) (s .graph .seq) (s .graph .seq) (present (s .threads 0) (g .linked)) (present (s .threads 0) (upd (g .linked) (x .0) false)) (a .0) (a .0)
           (λ z h m. (unlinked-present (s .threads 0) (g .linked) (x .0) z h, m)) (x .0) (i .order .used-size (x .0) (i .order .linked-used (x .0) own-on))
           (linked-present (s .threads 0) (g .linked) (x .0) own-on) own-later (rw (unlinked-gone (s .threads 0) (g .linked) (x .0) (λ e. true-false (g .linked (x .0)) own-on (i .loading .out 0 (x .0) e))))
 
       walk-bypass : Φ o (bypass t (a .0) (x .0) s) (linking (x .0) false g) + 1 ≤ Φ o s g
-      unfolding Φ bypass setThread setNext cost far
+      unfolding Φ bypass moveTo setNext cost far
       walk-bypass =
           let v = Clearing (node (a .0)) (node (x .0)) in
           let l = bypassed in
           rw (upd-other (s .threads) t v 0 (λ e. absurd (omega arith)))
-          (lowered (o .size) (o .workers) (s .seq) (s .seq) (present (s .threads 0) (g .linked)) (present (s .threads 0) (upd (g .linked) (x .0) false)) (s .executing) (s .executing) (s .threads) (upd (s .threads) t v) t within
-          (λ u d. upd-other (s .threads) t v u d) (λ u b d q z h m. (unlinked-present (s .threads 0) (g .linked) (x .0) z h, m)) (length (o .commands) - s .loaded) (λ z h m. (unlinked-present (s .threads 0) (g .linked) (x .0) z h, m))
+          (lowered (o .size) (o .workers) (s .graph .seq) (s .graph .seq) (present (s .threads 0) (g .linked)) (present (s .threads 0) (upd (g .linked) (x .0) false)) (s .graph .executing) (s .graph .executing) (s .threads) (upd (s .threads) t v) t within
+          (λ u d. upd-other (s .threads) t v u d) (λ u b d q z h m. (unlinked-present (s .threads 0) (g .linked) (x .0) z h, m)) (length (o .commands) - s .graph .loaded) (λ z h m. (unlinked-present (s .threads 0) (g .linked) (x .0) z h, m))
           (rw (upd-same (s .threads) t v, here) (omega arith)))
 
-      walk-on : Φ o (setThread t (Walking (node (s .next (a .0))) (node (x .0))) (stepOn (a .0) (s .next (a .0)) s)) g + 1 ≤ Φ o s g
-      unfolding Φ Moved setThread stepOn cost
+      walk-on : Φ o (moveTo t (Walking (node (s .graph .next (a .0))) (node (x .0))) (stepOn (a .0) (s .graph .next (a .0)) (s .graph)) s) g + 1 ≤ Φ o s g
+      unfolding Φ Moved moveTo stepOn cost
       walk-on =
-          let v = Walking (node (s .next (a .0))) (node (x .0)) in
+          let v = Walking (node (s .graph .next (a .0))) (node (x .0)) in
           let l = far-next (a .0) (ap at here) walk-more in
           thread-lowered v (g .linked) (worker-same low v) (rw here (omega arith))
 
       walking-lowered : Φ o (workerStep o t (Walking a x) s) (workerGhost (Walking a x) s g) + 1 ≤ Φ o s g
       unfolding workerStep workerGhost walking
       walking-lowered =
-          rw (ne-eqb (s .next (a .0)) 0 walk-more, next-open (a .0) (ap at here) walk-more)
-          (⊎-elim (λ e. rw (e .1) walk-bypass) (λ e. rw (e .1) walk-on) (eqb-cases (s .next (a .0)) (x .0)))
+          rw (ne-eqb (s .graph .next (a .0)) 0 walk-more, next-open (a .0) (ap at here) walk-more)
+          (⊎-elim (λ e. rw (e .1) walk-bypass) (λ e. rw (e .1) walk-on) (eqb-cases (s .graph .next (a .0)) (x .0)))
 
     -- the foremost clearing worker returns its node at the end of the chain, or steps on
     module _ (low : 1 ≤ t) (a x : Node) (here : s .threads t ≡ Clearing a x) where
@@ -201,87 +205,87 @@ module _ (o : Setup) (s : State) (g : Ghost) (i : Inv o s g) where
       own-absent : (z : ℕ) → present (s .threads 0) (g .linked) z ≡ true → z ≡ x .0 → ⊥
       own-absent z h e =
           ⊎-elim (λ k. true-false (g .linked (x .0)) (ap (g .linked) (sym e) ∙ k) (i .clearing .out t (x .0) (ap clears here)))
-          (λ k. true-false (s .executing (x .0)) (i .clearing .own-executing t (x .0) (ap clears here)) (i .loading .waiting 0 (x .0) (k ∙ ap some e)))
+          (λ k. true-false (s .graph .executing (x .0)) (i .clearing .own-executing t (x .0) (ap clears here)) (i .loading .waiting 0 (x .0) (k ∙ ap some e)))
           (present-cases (s .threads 0) (g .linked) z h)
 
       -- and nobody stands on it
       own-free : (u b : ℕ) → at (s .threads u) ≡ some b → b ≡ x .0 → ⊥
       own-free u b h e =
-          ⊎-elim (λ k. let z : s .seq (x .0) ≡ 0 = ap (s .seq) (sym e ∙ k) ∙ i .order .head-seq in let w = i .clearing .used t (x .0) (ap clears here) in absurd (omega arith))
+          ⊎-elim (λ k. let z : s .graph .seq (x .0) ≡ 0 = ap (s .graph .seq) (sym e ∙ k) ∙ i .order .head-seq in let w = i .clearing .used t (x .0) (ap clears here) in absurd (omega arith))
           (λ k. own-absent b (linked-present (s .threads 0) (g .linked) b k) e) (i .standing .on u b h)
 
-      clear-return : Φ o (return (x .0) (leave t (a .0) s)) (returning (x .0) (s .seq (x .0)) g) + 1 ≤ Φ o s g
-      unfolding Φ return leave setFree setNext setSeq setExecuting setLocked setWaits setThread cost
+      clear-return : Φ o (moveTo t Idle (return (x .0) (setLocked (a .0) false (s .graph))) s) (returning (x .0) (s .graph .seq (x .0)) g) + 1 ≤ Φ o s g
+      unfolding Φ return setFree setNext setSeq setExecuting setLocked setWaits moveTo cost
       clear-return =
           rw (upd-other (s .threads) t Idle 0 (λ e. absurd (omega arith)))
-          (lowered (o .size) (o .workers) (s .seq) (upd (s .seq) (x .0) 0) (present (s .threads 0) (g .linked)) (present (s .threads 0) (g .linked)) (s .executing) (upd (s .executing) (x .0) false) (s .threads) (upd (s .threads) t Idle) t within
+          (lowered (o .size) (o .workers) (s .graph .seq) (upd (s .graph .seq) (x .0) 0) (present (s .threads 0) (g .linked)) (present (s .threads 0) (g .linked)) (s .graph .executing) (upd (s .graph .executing) (x .0) false) (s .threads) (upd (s .threads) t Idle) t within
           (λ u d. upd-other (s .threads) t Idle u d)
-          (λ u b d q z h m. (h, rw (upd-other (s .seq) (x .0) 0 b (own-free u b q), upd-other (s .seq) (x .0) 0 z (own-absent z h)) at m)) (length (o .commands) - s .loaded)
-          (λ z h m. (h, sym (upd-other (s .executing) (x .0) false z (own-absent z h)) ∙ m)) (rw (upd-same (s .threads) t Idle, here) (omega arith)))
+          (λ u b d q z h m. (h, rw (upd-other (s .graph .seq) (x .0) 0 b (own-free u b q), upd-other (s .graph .seq) (x .0) 0 z (own-absent z h)) at m)) (length (o .commands) - s .graph .loaded)
+          (λ z h m. (h, sym (upd-other (s .graph .executing) (x .0) false z (own-absent z h)) ∙ m)) (rw (upd-same (s .threads) t Idle, here) (omega arith)))
 
-      clear-on : (s .next (a .0) ≡ 0 → ⊥) →
-          Φ o (setThread t (Clearing (node (s .next (a .0))) (node (x .0))) (setWaits (s .next (a .0)) (upd (s .waits (s .next (a .0))) (x .0) false) (stepOn (a .0) (s .next (a .0)) s))) g + 1 ≤ Φ o s g
-      unfolding Φ Moved setThread setWaits stepOn cost
+      clear-on : (s .graph .next (a .0) ≡ 0 → ⊥) →
+          Φ o (moveTo t (Clearing (node (s .graph .next (a .0))) (node (x .0))) (setWaits (s .graph .next (a .0)) (upd (s .graph .waits (s .graph .next (a .0))) (x .0) false) (stepOn (a .0) (s .graph .next (a .0)) (s .graph))) s) g + 1 ≤ Φ o s g
+      unfolding Φ Moved moveTo setWaits stepOn cost
       clear-on more =
-          let v = Clearing (node (s .next (a .0))) (node (x .0)) in
+          let v = Clearing (node (s .graph .next (a .0))) (node (x .0)) in
           let l = far-next (a .0) (ap at here) more in
           thread-lowered v (g .linked) (worker-same low v) (rw here (omega arith))
 
       clearing-lowered : Φ o (workerStep o t (Clearing a x) s) (workerGhost (Clearing a x) s g) + 1 ≤ Φ o s g
       unfolding workerStep workerGhost clearing
-      clearing-lowered = ⊎-elim (λ e. rw (e .1) clear-return) (λ e. rw (e .1, next-open (a .0) (ap at here) (e .0)) (clear-on (e .0))) (eqb-cases (s .next (a .0)) 0)
+      clearing-lowered = ⊎-elim (λ e. rw (e .1) clear-return) (λ e. rw (e .1, next-open (a .0) (ap at here) (e .0)) (clear-on (e .0))) (eqb-cases (s .graph .next (a .0)) 0)
 
   -- the foremost loader links its node at the end of the chain, or steps on
   module _ (foremost : Foremost o s 0) (a x : Node) (here : s .threads 0 ≡ Loading a x) where
     -- the node being loaded comes later than where the loader stands
-    own-ahead : s .seq (a .0) < s .seq (x .0)
+    own-ahead : s .graph .seq (a .0) < s .graph .seq (x .0)
     own-ahead =
         let u = i .loading .used 0 (x .0) (ap loads here) in
         let n = i .loading .newest 0 (x .0) (ap loads here) in
         let b = i .order .below (a .0) in
-        ⊎-elim (λ e. let z : s .seq (a .0) ≡ 0 = ap (s .seq) e ∙ i .order .head-seq in omega arith)
-        (λ e. let d : s .seq (a .0) ≡ s .seq (x .0) → ⊥ = (λ q. true-false (g .linked (x .0)) (ap (g .linked) (sym (i .order .distinct (a .0) (x .0) (i .order .linked-used (a .0) e) q)) ∙ e) (i .loading .out 0 (x .0) (ap loads here))) in omega arith)
+        ⊎-elim (λ e. let z : s .graph .seq (a .0) ≡ 0 = ap (s .graph .seq) e ∙ i .order .head-seq in omega arith)
+        (λ e. let d : s .graph .seq (a .0) ≡ s .graph .seq (x .0) → ⊥ = (λ q. true-false (g .linked (x .0)) (ap (g .linked) (sym (i .order .distinct (a .0) (x .0) (i .order .linked-used (a .0) e) q)) ∙ e) (i .loading .out 0 (x .0) (ap loads here))) in omega arith)
         (i .standing .on 0 (a .0) (ap at here))
 
     -- so some node is ahead of the loader
     some-ahead : 1 ≤ far o s g (a .0)
     unfolding far
     some-ahead =
-        let l = ahead-less (o .size) (s .seq) (s .seq) (present (s .threads 0) (g .linked)) (λ z. false) (a .0) (a .0) (λ z h m. absurd (true-false false h refl)) (x .0)
+        let l = ahead-less (o .size) (s .graph .seq) (s .graph .seq) (present (s .threads 0) (g .linked)) (λ z. false) (a .0) (a .0) (λ z h m. absurd (true-false false h refl)) (x .0)
         (i .order .used-size (x .0) (i .loading .used 0 (x .0) (ap loads here))) (rw here (loading-present (g .linked) a x)) own-ahead refl in
         omega arith
 
     load-links : Φ o (link (a .0) (x .0) s) (linking (x .0) true g) + 1 ≤ Φ o s g
-    unfolding Φ Moved link setThread setLocked setExecuting setNext cost
+    unfolding Φ Moved link moveTo setLocked setExecuting setNext cost
     load-links =
         let c = ap (cost (o .size) (far o s g)) here in
         let l = some-ahead in
-        rw (upd-id (s .executing) (x .0) false (sym (i .loading .waiting 0 (x .0) (ap loads here))))
+        rw (upd-id (s .graph .executing) (x .0) false (sym (i .loading .waiting 0 (x .0) (ap loads here))))
         (thread-lowered 0 (omega arith) foremost Idle (upd (g .linked) (x .0) true) (rw (upd-same (s .threads) 0 Idle, here) (linking-same (g .linked) a x)) (omega arith))
 
     -- a node added to a set changes nothing that the measure reads
-    depends-moved : (b : Bool) (set : ℕ → Bool) (v : Thread) → Φ o (setThread 0 v (cond b (setWaits (x .0) set (stepOn (a .0) (s .next (a .0)) s)) (stepOn (a .0) (s .next (a .0)) s))) g ≡ Moved o s 0 v (g .linked)
-    unfolding Φ Moved setThread setWaits stepOn
+    depends-moved : (b : Bool) (set : ℕ → Bool) (v : Thread) → Φ o (moveTo 0 v (cond b (setWaits (x .0) set (stepOn (a .0) (s .graph .next (a .0)) (s .graph))) (stepOn (a .0) (s .graph .next (a .0)) (s .graph))) s) g ≡ Moved o s 0 v (g .linked)
+    unfolding Φ Moved moveTo setWaits stepOn
     depends-moved true set v = refl
     depends-moved false set v = refl
 
-    load-on : (s .next (a .0) ≡ 0 → ⊥) → Φ o (setThread 0 (Loading (node (s .next (a .0))) (node (x .0))) (addDependence o (x .0) (s .next (a .0)) (stepOn (a .0) (s .next (a .0)) s))) g + 1 ≤ Φ o s g
+    load-on : (s .graph .next (a .0) ≡ 0 → ⊥) → Φ o (moveTo 0 (Loading (node (s .graph .next (a .0))) (node (x .0))) (addDependence o (x .0) (s .graph .next (a .0)) (stepOn (a .0) (s .graph .next (a .0)) (s .graph))) s) g + 1 ≤ Φ o s g
     unfolding addDependence cost present isLoaded
     load-on more =
-        let v = Loading (node (s .next (a .0))) (node (x .0)) in
+        let v = Loading (node (s .graph .next (a .0))) (node (x .0)) in
         let c = ap (cost (o .size) (far o s g)) here in
         let l = far-next 0 (omega arith) foremost (a .0) (ap at here) more in
-        let t = stepOn (a .0) (s .next (a .0)) s in
-        rw (depends-moved (bothDependent (commandOf o t (s .next (a .0))) (commandOf o t (x .0))) (upd (t .waits (x .0)) (s .next (a .0)) true) v)
+        let t = stepOn (a .0) (s .graph .next (a .0)) (s .graph) in
+        rw (depends-moved (bothDependent (commandOf o t (s .graph .next (a .0))) (commandOf o t (x .0))) (upd (t .waits (x .0)) (s .graph .next (a .0)) true) v)
         (thread-lowered 0 (omega arith) foremost v (g .linked) (rw (upd-same (s .threads) 0 v, here)) (omega arith))
 
     loading-lowered : Φ o (loaderStep o (Loading a x) s) (loaderGhost o (Loading a x) s g) + 1 ≤ Φ o s g
     unfolding loaderStep loaderGhost loaderWalk
-    loading-lowered = ⊎-elim (λ e. rw (e .1) load-links) (λ e. rw (e .1, next-open 0 (omega arith) foremost (a .0) (ap at here) (e .0)) (load-on (e .0))) (eqb-cases (s .next (a .0)) 0)
+    loading-lowered = ⊎-elim (λ e. rw (e .1) load-links) (λ e. rw (e .1, next-open 0 (omega arith) foremost (a .0) (ap at here) (e .0)) (load-on (e .0))) (eqb-cases (s .graph .next (a .0)) 0)
 
   -- each case of the worker's list, and of the loader's
   module _ (t : ℕ) (within : t ≤ o .workers) (foremost : Foremost o s t) (low : 1 ≤ t) where
-    worker-lowered : (thread : Thread) → s .threads t ≡ thread → 1 ≤ rank (s .seq) thread → Φ o (workerStep o t thread s) (workerGhost thread s g) + 1 ≤ Φ o s g
+    worker-lowered : (thread : Thread) → s .threads t ≡ thread → 1 ≤ rank (s .graph .seq) thread → Φ o (workerStep o t thread s) (workerGhost thread s g) + 1 ≤ Φ o s g
     unfolding rank
     worker-lowered Idle here r = absurd (omega arith)
     worker-lowered (Loading a x) here r = absurd (true-false false (sym (ap isWorker here) ∙ i .roles .worker t low) refl)
@@ -292,7 +296,7 @@ module _ (o : Setup) (s : State) (g : Ghost) (i : Inv o s g) where
     worker-lowered (Walking a x) here r = walking-lowered t within foremost low a x here
     worker-lowered (Clearing a x) here r = clearing-lowered t within foremost low a x here
 
-  loader-lowered : Foremost o s 0 → (thread : Thread) → s .threads 0 ≡ thread → 1 ≤ rank (s .seq) thread →
+  loader-lowered : Foremost o s 0 → (thread : Thread) → s .threads 0 ≡ thread → 1 ≤ rank (s .graph .seq) thread →
       Φ o (loaderStep o thread s) (loaderGhost o thread s g) + 1 ≤ Φ o s g
   unfolding rank
   loader-lowered foremost Idle here r = absurd (omega arith)
@@ -306,7 +310,7 @@ module _ (o : Setup) (s : State) (g : Ghost) (i : Inv o s g) where
 
   -- a step of the foremost thread lowers the measure, unless that thread is idle
   pub foremost-lowered : (t : ℕ) → t ≤ o .workers → Foremost o s t →
-      1 ≤ rank (s .seq) (s .threads t) → Φ o (step o t s) (ghostStep o t s g) + 1 ≤ Φ o s g
+      1 ≤ rank (s .graph .seq) (s .threads t) → Φ o (step o t s) (ghostStep o t s g) + 1 ≤ Φ o s g
   unfolding step ghostStep
   foremost-lowered t within foremost r =
       ⊎-elim (λ e. rw (e .0) (loader-lowered (rw (e .0) at foremost) (s .threads 0) refl (rw (e .0) at r)))

@@ -6,7 +6,7 @@ use native.Mathlib.Nat.{suc-mul}
 use mathlib.Core.Path.{_≡_, refl, sym, _∙_}
 use mathlib.Core.Bool.{Bool, true, false, cond}
 use mathlib.Core.Logic.{⊎-elim}
-use Rattle.model.specs.Step.{upd}
+use Rattle.model.specs.Upd.{upd}
 use Rattle.model.specs.Proof.Tests.{eqb-cases}
 use Rattle.model.specs.Proof.Upd.{upd-same, upd-other}
 

@@ -10,7 +10,8 @@ use lib.ListN.{length, length-append}
 use lib.Dec.{leb}
 use borrow.Author.Tests.{le-leb, lt-leb}
 use Rattle.model.specs.declared.Thread.the-variants.{Idle}
-use Rattle.model.specs.Step.{Setup, State, step, steps}
+use Rattle.model.specs.Setup.{Setup}
+use Rattle.model.specs.Step.{State, step, steps}
 use Rattle.model.specs.Statement.{Accepted, EachCommand, allWithin, removed}
 use Rattle.model.specs.Proof.Tests.{eqb-cases, le-cases}
 use Rattle.model.specs.Proof.Chain.Invariant.{Ghost, Inv}
@@ -43,18 +44,18 @@ module _ (o : Setup) (accepted : Accepted o) (s : State) (g : Ghost) (i : Inv o 
   -- the chosen thread is foremost
   chosen-foremost : Foremost o s (chosen o s)
   unfolding chosen
-  chosen-foremost u h = foremost-largest (λ t. rank (s .seq) (s .threads t)) (o .workers) u h
+  chosen-foremost u h = foremost-largest (λ t. rank (s .graph .seq) (s .threads t)) (o .workers) u h
 
   chosen-within : chosen o s ≤ o .workers
   unfolding chosen
-  chosen-within = foremost-within (λ t. rank (s .seq) (s .threads t)) (o .workers)
+  chosen-within = foremost-within (λ t. rank (s .graph .seq) (s .threads t)) (o .workers)
 
   -- where it is idle, all threads are
-  all-idle : rank (s .seq) (s .threads (chosen o s)) ≡ 0 → (t : ℕ) → s .threads t ≡ Idle
-  all-idle e t = ⊎-elim (λ l. let f = chosen-foremost t l in rank-idle (s .seq) (s .threads t) (omega arith)) (λ l. i .roles .rest t l) (le-cases t (o .workers))
+  all-idle : rank (s .graph .seq) (s .threads (chosen o s)) ≡ 0 → (t : ℕ) → s .threads t ≡ Idle
+  all-idle e t = ⊎-elim (λ l. let f = chosen-foremost t l in rank-idle (s .graph .seq) (s .threads t) (omega arith)) (λ l. i .roles .rest t l) (le-cases t (o .workers))
 
   -- a step of the chosen thread lowers the measure
-  chosen-moves : (rank (s .seq) (s .threads (chosen o s)) ≡ 0 → ⊥) → Lowers o s g (chosen o s ∷ [])
+  chosen-moves : (rank (s .graph .seq) (s .threads (chosen o s)) ≡ 0 → ⊥) → Lowers o s g (chosen o s ∷ [])
   unfolding steps ghostSteps allWithin
   chosen-moves d =
       let l = foremost-lowered o s g i (chosen o s) chosen-within chosen-foremost (omega arith) in
@@ -66,10 +67,10 @@ module _ (o : Setup) (accepted : Accepted o) (s : State) (g : Ghost) (i : Inv o 
   pairs t within l = (rw (le-leb t (o .workers) within), omega arith, omega arith)
 
   -- where the chain is empty: load and link the next command, or all is finished
-  loader-moves : ((t : ℕ) → s .threads t ≡ Idle) → s .next 0 ≡ 0 → Serves o s g (cond (leb (length (o .commands)) (s .loaded)) [] (0 ∷ 0 ∷ []))
+  loader-moves : ((t : ℕ) → s .threads t ≡ Idle) → s .graph .next 0 ≡ 0 → Serves o s g (cond (leb (length (o .commands)) (s .graph .loaded)) [] (0 ∷ 0 ∷ []))
   loader-moves idle end =
-      ⊎-elim (λ l. rw (le-leb (length (o .commands)) (s .loaded) l) (inl (refl, (λ c low high. all-removed o s g i idle end c low (omega arith), λ t h. idle t))))
-      (λ l. rw (lt-leb (length (o .commands)) (s .loaded) l) (inr (pairs 0 (omega arith) (next-lowered o s g i idle end (accepted .size .0) l)))) (le-cases (length (o .commands)) (s .loaded))
+      ⊎-elim (λ l. rw (le-leb (length (o .commands)) (s .graph .loaded) l) (inl (refl, (λ c low high. all-removed o s g i idle end c low (omega arith), λ t h. idle t))))
+      (λ l. rw (lt-leb (length (o .commands)) (s .graph .loaded) l) (inr (pairs 0 (omega arith) (next-lowered o s g i idle end (accepted .size .0) l)))) (le-cases (length (o .commands)) (s .graph .loaded))
 
   -- each move lowers the measure, unless all is finished
   next-moves : Serves o s g (moves o s)
@@ -77,8 +78,8 @@ module _ (o : Setup) (accepted : Accepted o) (s : State) (g : Ghost) (i : Inv o 
   next-moves =
       ⊎-elim
       (λ e. rw (e .1) (⊎-elim (λ n. rw (n .1) (loader-moves (all-idle (e .0)) (n .0)))
-      (λ n. rw (n .1) (inr (pairs 1 (accepted .workers .0) (first-lowered o s g i (all-idle (e .0)) (accepted .workers .0) (n .0))))) (eqb-cases (s .next 0) 0)))
-      (λ e. rw (e .1) (inr (chosen-moves (e .0)))) (eqb-cases (rank (s .seq) (s .threads (chosen o s))) 0)
+      (λ n. rw (n .1) (inr (pairs 1 (accepted .workers .0) (first-lowered o s g i (all-idle (e .0)) (accepted .workers .0) (n .0))))) (eqb-cases (s .graph .next 0) 0)))
+      (λ e. rw (e .1) (inr (chosen-moves (e .0)))) (eqb-cases (rank (s .graph .seq) (s .threads (chosen o s))) 0)
 
 -- where no move is left, the strategy has no step
 strategy-empty : (o : Setup) (n : ℕ) (s : State) → moves o s ≡ [] → strategy o n s ≡ []

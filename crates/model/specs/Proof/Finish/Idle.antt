@@ -12,7 +12,10 @@ use lib.Dec.{eqb}
 use borrow.Author.Tests.{eq-eqb, ne-eqb, lt-leb}
 use Rattle.node_set.proofs.Below.{all-fail-none-below}
 use Rattle.model.specs.declared.Thread.the-variants.{Idle, Loading, Searching, Holding}
-use Rattle.model.specs.Step.{Setup, State, upd, node, step, workerStep, loaderStep, loaderIdle, loaderWalk, load, link, enter, searching, examine, ready, stepOn, setThread, setLocked, setExecuting, setNext, setFree, setSeq, setLoaded}
+use Rattle.model.specs.Upd.{upd}
+use Rattle.model.specs.Setup.{Setup}
+use Rattle.model.specs.Graph.{setLocked, setExecuting, setNext, setFree, setSeq, setLoaded}
+use Rattle.model.specs.Step.{State, node, step, workerStep, loaderStep, loaderIdle, loaderWalk, load, link, enter, searching, examine, ready, stepOn, moveTo}
 use Rattle.model.specs.Proof.Tests.{fails, none-some, eqb-cases}
 use Rattle.model.specs.Proof.Upd.{upd-same, upd-other}
 use Rattle.model.specs.Proof.Chain.Invariant.{Ghost, Inv, In, ChainFrom, at, loads, executes, clears}
@@ -28,64 +31,64 @@ first-in next f x (y ∷ ys) c m = inl (c .0)
 
 module _ (o : Setup) (s : State) (g : Ghost) (i : Inv o s g) (idle : (t : ℕ) → s .threads t ≡ Idle) where
   -- no node is locked
-  open-all : (x : ℕ) → s .locked x ≡ false
-  open-all x = fails (s .locked x) (λ h. let w = i .standing .held x h in none-some none refl (sym (ap at (idle (w .0))) ∙ w .1))
+  open-all : (x : ℕ) → s .graph .locked x ≡ false
+  open-all x = fails (s .graph .locked x) (λ h. let w = i .standing .held x h in none-some none refl (sym (ap at (idle (w .0))) ∙ w .1))
 
   -- a node with a command is in the chain
-  used-linked : (x : ℕ) → 1 ≤ s .seq x → g .linked x ≡ true
+  used-linked : (x : ℕ) → 1 ≤ s .graph .seq x → g .linked x ≡ true
   used-linked x h =
       ⊎-elim (λ e. e) (λ d. absurd (⊎-elim (λ e. none-some none refl (sym (ap loads (idle (e .0))) ∙ e .1)) (λ e. none-some none refl (sym (ap clears (idle (e .0))) ∙ e .1)) d)) (i .partition .one-of x h)
 
   -- ---- the chain is not empty
-  module _ (within : 1 ≤ o .workers) (more : s .next 0 ≡ 0 → ⊥) where
+  module _ (within : 1 ≤ o .workers) (more : s .graph .next 0 ≡ 0 → ⊥) where
     -- the first node
     first : ℕ
-    first = s .next 0
+    first = s .graph .next 0
 
     -- the first node is waiting, as nobody executes it, and waits for none, as none is before it and nobody clears
-    first-waiting : s .executing first ≡ false
+    first-waiting : s .graph .executing first ≡ false
     unfolding first
-    first-waiting = fails (s .executing first) (λ h.
+    first-waiting = fails (s .graph .executing first) (λ h.
         let w = i .executing .held first (i .order .next-linked 0 (inl refl) more) h in
         none-some none refl (sym (ap executes (idle (w .0))) ∙ w .1))
 
-    first-set : (y : ℕ) → s .waits first y ≡ false
+    first-set : (y : ℕ) → s .graph .waits first y ≡ false
     unfolding first
-    first-set y = fails (s .waits first y) (λ h.
+    first-set y = fails (s .graph .waits first y) (λ h.
         let w = i .sets .linked-sound first y (i .order .next-linked 0 (inl refl) more) h in
         let e = w .earlier in let u = w .used in let z = i .order .head-seq in
         let f = i .order .next-first 0 (inl refl) more y (used-linked y u) (omega arith) in
         absurd (omega arith))
 
-    first-ready : ready s first ≡ true
+    first-ready : ready (s .graph) first ≡ true
     unfolding ready
-    first-ready = rw (first-waiting) (all-fail-none-below 192 (s .waits first) (λ y below. first-set y))
+    first-ready = rw (first-waiting) (all-fail-none-below 192 (s .graph .waits first) (λ y below. first-set y))
 
     -- worker 1 enters, and takes the first node
     entered : State
-    entered = setThread 1 (Searching (node 0)) (setLocked 0 true s)
+    entered = moveTo 1 (Searching (node 0)) (setLocked 0 true (s .graph)) s
 
     held : State
-    held = setThread 1 (Holding (node first)) (setLocked first false (setExecuting first true (stepOn 0 first entered)))
+    held = moveTo 1 (Holding (node first)) (setLocked first false (setExecuting first true (stepOn 0 first (entered .graph)))) entered
 
     enters : step o 1 s ≡ entered
     unfolding entered step workerStep enter
     enters = rw (idle 1, open-all 0)
 
     takes : step o 1 entered ≡ held
-    unfolding held entered step workerStep first searching examine ready setThread setLocked
-    takes = rw (upd-same (s .threads) 1 (Searching (node 0)), ne-eqb (s .next 0) 0 more, upd-other (s .locked) 0 true (s .next 0) more, open-all (s .next 0), first-ready)
+    unfolding held entered step workerStep first searching examine ready moveTo setLocked
+    takes = rw (upd-same (s .threads) 1 (Searching (node 0)), ne-eqb (s .graph .next 0) 0 more, upd-other (s .graph .locked) 0 true (s .graph .next 0) more, open-all (s .graph .next 0), first-ready)
 
     enters-ghost : ghostStep o 1 s g ≡ g
     unfolding ghostStep workerGhost
     enters-ghost = rw (idle 1)
 
     takes-ghost : ghostStep o 1 entered g ≡ g
-    unfolding entered ghostStep workerGhost setThread setLocked
+    unfolding entered ghostStep workerGhost moveTo setLocked
     takes-ghost = ap (λ v. workerGhost v entered g) (upd-same (s .threads) 1 (Searching (node 0)))
 
     held-lowered : Φ o held g + 2 ≤ Φ o s g
-    unfolding Φ held entered first setThread setLocked setExecuting stepOn
+    unfolding Φ held entered first moveTo setLocked setExecuting stepOn
     held-lowered =
         takes-lowered o s g i 1 first (upd (upd (s .threads) 1 (Searching (node 0))) 1 (Holding (node first))) (omega arith) within (i .order .next-linked 0 (inl refl) more) first-waiting
         (upd-same (upd (s .threads) 1 (Searching (node 0))) 1 (Holding (node first)))
@@ -96,12 +99,12 @@ module _ (o : Setup) (s : State) (g : Ghost) (i : Inv o s g) (idle : (t : ℕ) �
     first-lowered = rw (enters, enters-ghost, takes, takes-ghost) held-lowered
 
   -- ---- the chain is empty
-  module _ (end : s .next 0 ≡ 0) where
+  module _ (end : s .graph .next 0 ≡ 0) where
     -- no node has a command
-    none-used : (x : ℕ) → s .seq x ≡ 0
-    none-used x = go (eqb-cases (s .seq x) 0)
+    none-used : (x : ℕ) → s .graph .seq x ≡ 0
+    none-used x = go (eqb-cases (s .graph .seq x) 0)
       where
-        go : ((s .seq x ≡ 0) × (eqb (s .seq x) 0 ≡ true)) ⊎ ((s .seq x ≡ 0 → ⊥) × (eqb (s .seq x) 0 ≡ false)) → s .seq x ≡ 0
+        go : ((s .graph .seq x ≡ 0) × (eqb (s .graph .seq x) 0 ≡ true)) ⊎ ((s .graph .seq x ≡ 0 → ⊥) × (eqb (s .graph .seq x) 0 ≡ false)) → s .graph .seq x ≡ 0
         go (inl e) = e .0
         go (inr e) =
             let d = e .0 in
@@ -110,56 +113,56 @@ module _ (o : Setup) (s : State) (g : Ghost) (i : Inv o s g) (idle : (t : ℕ) �
             absurd (omega arith)
 
     -- every loaded command is removed
-    pub all-removed : (c : ℕ) → 1 ≤ c → c ≤ s .loaded → g .removed c ≡ true
+    pub all-removed : (c : ℕ) → 1 ≤ c → c ≤ s .graph .loaded → g .removed c ≡ true
     all-removed c low high = ⊎-elim (λ e. e) (λ e. let z = none-used (e .0) in let k = e .1 in absurd (omega arith)) (i .progress .accounted c low high)
 
-    module _ (room : 1 ≤ o .size) (left : s .loaded < length (o .commands)) where
+    module _ (room : 1 ≤ o .size) (left : s .graph .loaded < length (o .commands)) where
       -- a node is free
-      free-node : (1 ≤ s .free) × (s .free ≤ o .size) × (s .seq (s .free) ≡ 0)
-      free-node = i .freeList .is-unused (s .free) (first-in (s .next) (s .free) 1 (g .frees) (i .freeList .chain) (i .freeList .has-unused 1 (omega arith) room (none-used 1)))
+      free-node : (1 ≤ s .graph .free) × (s .graph .free ≤ o .size) × (s .graph .seq (s .graph .free) ≡ 0)
+      free-node = i .freeList .is-unused (s .graph .free) (first-in (s .graph .next) (s .graph .free) 1 (g .frees) (i .freeList .chain) (i .freeList .has-unused 1 (omega arith) room (none-used 1)))
 
       loads-first : step o 0 s ≡ load s
       unfolding step loaderStep loaderIdle
-      loads-first = let f = free-node .0 in rw (idle 0, lt-leb (length (o .commands)) (s .loaded) left, ne-eqb (s .free) 0 (λ e. absurd (omega arith)), open-all 0)
+      loads-first = let f = free-node .0 in rw (idle 0, lt-leb (length (o .commands)) (s .graph .loaded) left, ne-eqb (s .graph .free) 0 (λ e. absurd (omega arith)), open-all 0)
 
       loads-ghost : ghostStep o 0 s g ≡ taken g
       unfolding ghostStep loaderGhost
-      loads-ghost = let f = free-node .0 in rw (idle 0, lt-leb (length (o .commands)) (s .loaded) left, ne-eqb (s .free) 0 (λ e. absurd (omega arith)), open-all 0)
+      loads-ghost = let f = free-node .0 in rw (idle 0, lt-leb (length (o .commands)) (s .graph .loaded) left, ne-eqb (s .graph .free) 0 (λ e. absurd (omega arith)), open-all 0)
 
       -- the loader loads, and links at the head
       linked : State
-      linked = link 0 (s .free) (load s)
+      linked = link 0 (s .graph .free) (load s)
 
-      head-ends : load s .next 0 ≡ 0
+      head-ends : load s .graph .next 0 ≡ 0
       unfolding load
-      head-ends = let f = free-node .0 in upd-other (s .next) (s .free) 0 0 (λ e. absurd (omega arith)) ∙ end
+      head-ends = let f = free-node .0 in upd-other (s .graph .next) (s .graph .free) 0 0 (λ e. absurd (omega arith)) ∙ end
 
-      loader-at : load s .threads 0 ≡ Loading (node 0) (node (s .free))
+      loader-at : load s .threads 0 ≡ Loading (node 0) (node (s .graph .free))
       unfolding load
-      loader-at = upd-same (s .threads) 0 (Loading (node 0) (node (s .free)))
+      loader-at = upd-same (s .threads) 0 (Loading (node 0) (node (s .graph .free)))
 
       links : step o 0 (load s) ≡ linked
       unfolding linked step loaderStep loaderWalk
-      links = rw (loader-at, eq-eqb (load s .next 0) 0 head-ends)
+      links = rw (loader-at, eq-eqb (load s .graph .next 0) 0 head-ends)
 
-      links-ghost : ghostStep o 0 (load s) (taken g) ≡ linking (s .free) true (taken g)
+      links-ghost : ghostStep o 0 (load s) (taken g) ≡ linking (s .graph .free) true (taken g)
       unfolding ghostStep loaderGhost
-      links-ghost = rw (loader-at, eq-eqb (load s .next 0) 0 head-ends)
+      links-ghost = rw (loader-at, eq-eqb (load s .graph .next 0) 0 head-ends)
 
-      linked-lowered : Φ o linked (linking (s .free) true (taken g)) + 2 ≤ Φ o s g
-      unfolding Φ linked link load setThread setLocked setLoaded setSeq setFree setNext setExecuting cost
+      linked-lowered : Φ o linked (linking (s .graph .free) true (taken g)) + 2 ≤ Φ o s g
+      unfolding Φ linked link load moveTo setLocked setLoaded setSeq setFree setNext setExecuting cost
       linked-lowered =
-          let n = s .free in
+          let n = s .graph .free in
           let threads = upd (upd (s .threads) 0 (Loading (node 0) (node n))) 0 Idle in
           let mine : threads 0 ≡ Idle = upd-same (upd (s .threads) 0 (Loading (node 0) (node n))) 0 Idle in
-          let one-less : length (o .commands) - s .loaded ≡ suc (length (o .commands) - (s .loaded + 1)) = omega arith in
-          rw one-less (loaded-lowered (o .size) (o .workers) (s .seq) (upd (s .seq) n (s .loaded + 1)) (present (s .threads 0) (g .linked)) (present (threads 0) (upd (g .linked) n true))
-          (s .executing) (upd (s .executing) n false) (s .threads) threads 0 (omega arith)
+          let one-less : length (o .commands) - s .graph .loaded ≡ suc (length (o .commands) - (s .graph .loaded + 1)) = omega arith in
+          rw one-less (loaded-lowered (o .size) (o .workers) (s .graph .seq) (upd (s .graph .seq) n (s .graph .loaded + 1)) (present (s .threads 0) (g .linked)) (present (threads 0) (upd (g .linked) n true))
+          (s .graph .executing) (upd (s .graph .executing) n false) (s .threads) threads 0 (omega arith)
           (λ u d. upd-other (upd (s .threads) 0 (Loading (node 0) (node n))) 0 Idle u d ∙ upd-other (s .threads) 0 (Loading (node 0) (node n)) u d)
-          (λ u b d q. absurd (none-some none refl (sym (ap at (idle u)) ∙ q))) (length (o .commands) - (s .loaded + 1)) n
+          (λ u b d q. absurd (none-some none refl (sym (ap at (idle u)) ∙ q))) (length (o .commands) - (s .graph .loaded + 1)) n
           (λ z d h m. (
             linked-present (s .threads 0) (g .linked) z (⊎-elim (λ e. sym (upd-other (g .linked) n true z d) ∙ e) (λ e. absurd (none-some none refl (sym (ap loads mine) ∙ e))) (present-cases (threads 0) (upd (g .linked) n true) z h)),
-            sym (upd-other (s .executing) n false z d) ∙ m,
+            sym (upd-other (s .graph .executing) n false z d) ∙ m,
           )) (free-node .1) (rw mine (omega arith)))
 
       -- so two steps of the loader load and link the next command

@@ -11,7 +11,8 @@ use lib.Dec.{ltb}
 use borrow.Author.Tests.{ltb-true, lt-ltb, le-ltb, not-true}
 use Rattle.model.specs.declared.Thread.{Thread}
 use Rattle.model.specs.declared.Thread.the-variants.{Idle, Loading, Searching, Holding, LookedUp, Written, Walking, Clearing}
-use Rattle.model.specs.Step.{Setup, State}
+use Rattle.model.specs.Setup.{Setup}
+use Rattle.model.specs.Step.{State}
 use Rattle.model.specs.Proof.Chain.Invariant.{Ghost, at}
 use Rattle.model.specs.Proof.Finish.Present.{present}
 use Rattle.model.specs.Proof.Finish.Count.{sumBelow, count, sum-change, count-mono, count-less, count-more, count-bound}
@@ -42,7 +43,7 @@ measure size workers seq here executing threads left =
 
 -- the measure of a state
 unfoldable pub Φ : Setup → State → Ghost → ℕ
-Φ o s g = measure (o .size) (o .workers) (s .seq) (present (s .threads 0) (g .linked)) (s .executing) (s .threads) (length (o .commands) - s .loaded)
+Φ o s g = measure (o .size) (o .workers) (s .graph .seq) (present (s .threads 0) (g .linked)) (s .graph .executing) (s .threads) (length (o .commands) - s .graph .loaded)
 
 -- ---- how it changes
 

@@ -10,7 +10,9 @@ use lib.Dec.{eqb, leb}
 use borrow.Author.Tests.{ne-eqb, leb-true}
 use Rattle.model.specs.declared.Thread.{Thread}
 use Rattle.model.specs.declared.Thread.the-variants.{Idle, Loading, Searching, Holding, LookedUp, Written, Walking, Clearing}
-use Rattle.model.specs.Step.{Setup, State, upd, step, steps}
+use Rattle.model.specs.Upd.{upd}
+use Rattle.model.specs.Setup.{Setup}
+use Rattle.model.specs.Step.{State, step, steps}
 use Rattle.model.specs.Statement.{Accepted, allWithin, writes, returns, wrote, removed}
 use Rattle.model.specs.Proof.Tests.{true-false, eqb-cases}
 use Rattle.model.specs.Proof.Upd.{upd-at, upd-other}
@@ -62,8 +64,8 @@ module _ (o : Setup) (s : State) (g : Ghost) (c : ℕ) (low : 1 ≤ c) where
   -- each case of the loader's list, and of the workers'
   loader-tells : (thread : Thread) → isLoader thread ≡ true → Tells g c (loaderGhost o thread s g) (writes thread s) (returns thread s)
   unfolding loaderGhost writes returns
-  loader-tells Idle h = either (leb (length (o .commands)) (s .loaded) || eqb (s .free) 0 || s .locked 0) g (taken g) nothing nothing
-  loader-tells (Loading a x) h = either (eqb (s .next (a .0)) 0) (linking (x .0) true g) g nothing nothing
+  loader-tells Idle h = either (leb (length (o .commands)) (s .graph .loaded) || eqb (s .graph .free) 0 || s .graph .locked 0) g (taken g) nothing nothing
+  loader-tells (Loading a x) h = either (eqb (s .graph .next (a .0)) 0) (linking (x .0) true g) g nothing nothing
   loader-tells (Searching a) h = absurd (true-false false h refl)
   loader-tells (Holding x) h = absurd (true-false false h refl)
   loader-tells (LookedUp x f) h = absurd (true-false false h refl)
@@ -81,12 +83,12 @@ module _ (o : Setup) (s : State) (g : Ghost) (c : ℕ) (low : 1 ≤ c) where
   worker-tells (Loading a x) = nothing
   worker-tells (Searching a) = nothing
   worker-tells (Holding x) = nothing
-  worker-tells (LookedUp x f) = (set-or (g .written) (s .seq (x .0)) c, zero-or (g .removed c))
+  worker-tells (LookedUp x f) = (set-or (g .written) (s .graph .seq (x .0)) c, zero-or (g .removed c))
   worker-tells (Written x) = nothing
   worker-tells (Walking a x) =
-      either (eqb (s .next (a .0)) 0 || s .locked (s .next (a .0))) g (cond (eqb (s .next (a .0)) (x .0)) (linking (x .0) false g) g) nothing
-      (either (eqb (s .next (a .0)) (x .0)) (linking (x .0) false g) g nothing nothing)
-  worker-tells (Clearing a x) = clearing-tells (eqb (s .next (a .0)) 0) (x .0) (s .seq (x .0))
+      either (eqb (s .graph .next (a .0)) 0 || s .graph .locked (s .graph .next (a .0))) g (cond (eqb (s .graph .next (a .0)) (x .0)) (linking (x .0) false g) g) nothing
+      (either (eqb (s .graph .next (a .0)) (x .0)) (linking (x .0) false g) g nothing nothing)
+  worker-tells (Clearing a x) = clearing-tells (eqb (s .graph .next (a .0)) 0) (x .0) (s .graph .seq (x .0))
 
   -- so each step adds the command that it writes, and the one that it returns
   step-tells : (t : ℕ) → isLoader (s .threads 0) ≡ true → Tells g c (ghostStep o t s g) (writes (s .threads t) s) (returns (s .threads t) s)

@@ -12,7 +12,8 @@ use lib.Dec.{eqb, leb, ltb}
 use borrow.Author.Tests.{ltb-true, ltb-false}
 use Rattle.model.specs.declared.Thread.{Thread}
 use Rattle.model.specs.declared.Thread.the-variants.{Idle, Loading, Searching, Holding, LookedUp, Written, Walking, Clearing}
-use Rattle.model.specs.Step.{Setup, State, steps}
+use Rattle.model.specs.Setup.{Setup}
+use Rattle.model.specs.Step.{State, steps}
 use Rattle.model.specs.Proof.Tests.{none-some, eqb-cases}
 use Rattle.model.specs.Proof.Chain.Invariant.{at}
 
@@ -34,18 +35,18 @@ foremost rank (suc n) = cond (ltb (rank (foremost rank n)) (rank (suc n))) (suc 
 
 -- no thread up to the worker count has a larger rank than thread t
 abbrev pub Foremost : Setup → State → ℕ → Type 0
-Foremost o s t = (u : ℕ) → u ≤ o .workers → rank (s .seq) (s .threads u) ≤ rank (s .seq) (s .threads t)
+Foremost o s t = (u : ℕ) → u ≤ o .workers → rank (s .graph .seq) (s .threads u) ≤ rank (s .graph .seq) (s .threads t)
 
 -- the thread to step, of all threads up to the worker count
 unfoldable pub chosen : Setup → State → ℕ
-chosen o s = foremost (λ t. rank (s .seq) (s .threads t)) (o .workers)
+chosen o s = foremost (λ t. rank (s .graph .seq) (s .threads t)) (o .workers)
 
 -- The next steps: the chosen thread's, unless all are idle. Then worker 1 enters and takes the first node of the chain; where the chain is
 -- empty, the loader loads and links the next command; where none is left, no step.
 unfoldable pub moves : Setup → State → List ℕ
 moves o s =
-    cond (eqb (rank (s .seq) (s .threads (chosen o s))) 0)
-    (cond (eqb (s .next 0) 0) (cond (leb (length (o .commands)) (s .loaded)) [] (0 ∷ 0 ∷ [])) (1 ∷ 1 ∷ []))
+    cond (eqb (rank (s .graph .seq) (s .threads (chosen o s))) 0)
+    (cond (eqb (s .graph .next 0) 0) (cond (leb (length (o .commands)) (s .graph .loaded)) [] (0 ∷ 0 ∷ [])) (1 ∷ 1 ∷ []))
     (chosen o s ∷ [])
 
 -- the moves one after the other, at most n of them

@@ -6,12 +6,14 @@ use mathlib.Core.Bool.{false, _&&_, and-eq-true-iff}
 use lib.Dec.{leb, ltb}
 use borrow.Author.Tests.{ltb-true}
 use Rattle.command.proofs.Laws.{chute-that-fits}
-use Rattle.model.specs.Step.{Setup, opened, firstNext, noNode}
+use Rattle.model.specs.Setup.{Setup}
+use Rattle.model.specs.Graph.{firstNext, noNode, openedGraph}
+use Rattle.model.specs.Service.{openedService}
+use Rattle.model.specs.Step.{opened}
 use Rattle.model.specs.Statement.{Accepted}
 use Rattle.model.specs.Proof.Tests.{true-false}
-use Rattle.model.specs.Proof.Formed.{SetupFormed, Formed}
+use Rattle.model.specs.Proof.Formed.{NumberAt, SetupFormed, Formed}
 use Rattle.model.specs.Proof.Formed.Store.{either, layOut-formed}
-use Rattle.model.specs.Proof.Formed.Set.{NumberAt, formed}
 
 -- the tests of an accepted opening are those of the layout, or narrower
 pub accepted-formed : (o : Setup) → Accepted o → SetupFormed o
@@ -32,8 +34,17 @@ first-next-formed size n h =
 
 -- everything is 0, idle or empty, but the free list, which starts at node 1
 pub opened-formed : (o : Setup) → 1 ≤ o .size → SetupFormed o → Formed o (opened o)
-unfolding opened noNode
-opened-formed o one fit =
-    formed (λ n. first-next-formed (o .size) n (fit .size)) (λ n. (omega arith, λ _. refl)) (λ n _. refl) (λ n _. refl)
-    (λ n. (λ y e. absurd (true-false false e refl), λ y _. refl)) one (omega arith) (λ t. (tt, λ _. refl, λ _. refl, λ _. refl))
-    (layOut-formed (o .capacity)) (λ c. (λ _. refl, λ _. refl))
+unfolding opened openedGraph openedService noNode
+opened-formed o one fit = record {
+  graph = record {
+    next = λ n. first-next-formed (o .size) n (fit .size);
+    seq = λ n. (omega arith, λ _. refl);
+    executing = λ n _. refl;
+    locked = λ n _. refl;
+    waits = λ n. (λ y e. absurd (true-false false e refl), λ y _. refl);
+    free = one;
+    loaded = omega arith;
+  };
+  threads = λ t. (tt, λ _. refl, λ _. refl, λ _. refl);
+  service = record { store = layOut-formed (o .capacity); answers = λ c. (λ _. refl, λ _. refl) };
+}

@@ -12,7 +12,7 @@ use borrow.Author.Tests.{ltb-true, leb-false}
 use Rattle.command.specs.declared.Kind.{Kind}
 use Rattle.command.specs.declared.Kind.the-variants.{Insert, Delete, Read, Update}
 use Rattle.model.specs.Store.{Store, layOut, room, inUse, halve, placeOf, holds, lookUp, shiftUp, shiftDown, insert, remove, replace}
-use Rattle.model.specs.Step.{Write, writeKind}
+use Rattle.model.specs.Service.{Write, writeKind}
 use Rattle.model.specs.Proof.Tests.{neither}
 use Rattle.model.specs.Proof.Store.{keyOf, chuteOf, length-laid}
 

@@ -1,0 +1,53 @@
+-- What commands read and write: the store and the answers, and what a lookup finds and a write changes. Nothing here knows of a chain or
+-- of threads. Assumes nothing.
+use Prim.Native.Nat.{ℕ}
+use mathlib.Core.Bool.{cond}
+use mathlib.Core.List.{[]}
+use mathlib.Core.Option.{Option, none, some}
+use lib.Dec.{eqb, leb}
+use Rattle.command.specs.declared.Kind.{Kind}
+use Rattle.command.specs.declared.Kind.the-variants.{Insert, Delete, Read, Update}
+use Rattle.command.specs.declared.Command.{Command}
+use Rattle.model.specs.Upd.{upd}
+use Rattle.model.specs.Setup.{Setup}
+use Rattle.model.specs.Store.{Store, layOut, lookUp, insert, remove, replace}
+
+-- the store, and the answer to the command of each place, 0 for "not yet given"
+pub record Service : Type 0 where
+  pub store : Store
+  pub answers : ℕ → ℕ
+
+-- "Opening sets store and answers to 0"
+unfoldable pub openedService : Setup → Service
+unfolding layOut
+openedService o = record { store = layOut (o .capacity) []; answers = λ c. 0 }
+
+-- what a lookup finds for a command: the chute of its key, 0 where there is none
+unfoldable pub foundFor : Option Command → Store → ℕ
+foundFor none st = 0
+foundFor (some c) st = lookUp (c .key) st
+
+-- an answer, and the store after it
+pub record Write : Type 0 where
+  pub answer : ℕ
+  pub store : Store
+
+abbrev pub write : ℕ → Store → Write
+write answer st = record { answer = answer; store = st }
+
+-- what a command answers and writes, after its lookup: "1 to 512 the chute read; 1000 done; 1001 insert, already present (tested before
+-- full); 1002 delete, read or update, no such item; 1003 insert, store full. Answers 1001 to 1003 change no store entry."
+unfoldable pub writeKind : Kind → ℕ → ℕ → ℕ → ℕ → Store → Write
+writeKind Insert capacity key chute found st =
+    cond (eqb found 0) (cond (leb capacity (st .used)) (write 1003 st) (write 1000 (insert key chute st))) (write 1001 st)
+writeKind Delete capacity key chute found st = cond (eqb found 0) (write 1002 st) (write 1000 (remove key st))
+writeKind Read capacity key chute found st = cond (eqb found 0) (write 1002 st) (write found st)
+writeKind Update capacity key chute found st = cond (eqb found 0) (write 1002 st) (write 1000 (replace key chute st))
+
+-- "Write store and answer": the command of place c, after its lookup found something
+unfoldable pub writeFor : Setup → Option Command → ℕ → ℕ → Service → Service
+unfolding writeKind
+writeFor o none c found v = v
+writeFor o (some cmd) c found v =
+    let w : Write = writeKind (cmd .kind) (o .capacity) (cmd .key) (cmd .chute) found (v .store) in
+    record { store = w .store; answers = upd (v .answers) c (w .answer) }
