@@ -85,9 +85,9 @@ pub record Along (commands schedule : List ℕ) (m₀ : Memory) (threads₀ : Li
   pub ready : Ready commands kinds itemKeys itemChutes m Idle
   pub within : (t : ℕ) → Within (threadsOf threads t)
   pub all : length threads ≡ 65
-  pub keys-long : length (m .keys) ≡ length (m₀ .keys)
-  pub chutes-long : length (m .chutes) ≡ length (m₀ .chutes)
-  pub answers-long : length (m .answers) ≡ length (m₀ .answers)
+  pub keys-long : length (m .service .keys) ≡ length (m₀ .keys)
+  pub chutes-long : length (m .service .chutes) ≡ length (m₀ .chutes)
+  pub answers-long : length (m .service .answers) ≡ length (m₀ .answers)
   pub shows : (o : Setup) → o .commands ≡ commandsIn commands → o .capacity ≡ length (m₀ .keys)
       → shown m (threadsOf threads) ≡ steps o (take i schedule) (shown m₀ (threadsOf threads₀))
 
@@ -116,7 +116,7 @@ pub along-more : {commands schedule : List ℕ} {m₀ : Memory} {threads₀ : Li
     {threads : List Thread} {i : ℕ} (thread : Thread)
     → Along commands schedule m₀ threads₀ kinds itemKeys itemChutes m threads i → i < length schedule → getD schedule i 0 < 65
     → Steps commands (getD schedule i 0) (threadsOf threads (getD schedule i 0)) m kinds′ itemKeys′ itemChutes′ thread m′
-    → length (m′ .keys) ≡ length (m .keys) → length (m′ .chutes) ≡ length (m .chutes) → length (m′ .answers) ≡ length (m .answers)
+    → length (m′ .service .keys) ≡ length (m .service .keys) → length (m′ .service .chutes) ≡ length (m .service .chutes) → length (m′ .service .answers) ≡ length (m .service .answers)
     → Along commands schedule m₀ threads₀ kinds′ itemKeys′ itemChutes′ m′ (set threads (getD schedule i 0) thread) (i + 1)
 along-more {schedule} {m₀} {threads₀} {m} {m′} {threads} {i} thread a h high stepped keys chutes answers = record {
   few = omega arith;
@@ -139,7 +139,7 @@ along-more {schedule} {m₀} {threads₀} {m} {m′} {threads} {i} thread a h hi
     inside = omega (arith, a .all)
 
 -- lists are known by their parts
-pub same-lists : (l m : Lists) → l .state ≡ m .state → l .answers ≡ m .answers → l .keys ≡ m .keys → l .chutes ≡ m .chutes → l ≡ m
+pub same-lists : (l m : Lists) → l .state ≡ m .state → l .answers ≡ m .service .answers → l .keys ≡ m .service .keys → l .chutes ≡ m .service .chutes → l ≡ m
 same-lists l m state answers keys chutes = λ i. record { state = state i; answers = answers i; keys = keys i; chutes = chutes i }
 
 -- after the last step, the bytes written and the lists are those of the state that the arrays show

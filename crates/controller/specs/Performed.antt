@@ -44,5 +44,5 @@ pub record Performs (state commands schedule kinds itemKeys itemChutes : List �
 -- the lists are those of the state after the schedule
 abbrev pub Performed : Settings → List ℕ → List ℕ → Memory → List Thread → Lists → Type 0
 Performed c commands schedule m threads l =
-    (o : Setup) → Sets c o → o .commands ≡ commandsIn commands → o .capacity ≡ length (m .keys)
+    (o : Setup) → Sets c o → o .commands ≡ commandsIn commands → o .capacity ≡ length (m .service .keys)
     → l ≡ listsOf o (steps o schedule (shown m (λ t. getD threads t Idle)))

@@ -11,23 +11,23 @@ use Rattle.node_set.specs.Members.{member}
 use Rattle.model.specs.declared.Thread.the-variants.{Idle, Loading}
 use Rattle.model.specs.Upd.{upd}
 use Rattle.model.specs.Setup.{bothDependent}
-use Rattle.model.specs.Graph.{setLocked, setExecuting, setNext, setWaits}
-use Rattle.model.specs.Step.{State, node, commandOf, setThread, stepOn, link, addDependence, loaderWalk}
+use Rattle.model.specs.Graph.{Graph, graphOf, setLocked, setExecuting, setNext, setWaits}
+use Rattle.model.specs.Step.{node, commandOf, moveTo, stepOn, link, addDependence, loaderWalk}
 use Rattle.model.specs.Proof.Upd.{upd-at, upd-other, upd-id}
 use Rattle.model.specs.Proof.Tests.{eqb-cases}
-use Rattle.graph.specs.Arrays.{numbers, flags, sets, withGraph, Linked}
+use Rattle.graph.specs.Arrays.{numbers, flags, sets, Linked}
 use Rattle.graph.specs.Items.{keptAt}
 use Rattle.graph.specs.Memory.{LoaderWalks}
 
--- a state with other sets
-abbrev withWaits : (ℕ → ℕ → Bool) → State → State
-withWaits waits s = withGraph (s .graph .next) (s .graph .seq) (s .graph .executing) (s .graph .locked) waits (s .graph .free) s
+-- a graph with other sets
+abbrev withWaits : (ℕ → ℕ → Bool) → Graph → Graph
+withWaits waits g = graphOf (g .next) (g .seq) (g .executing) (g .locked) waits (g .free) (g .loaded)
 
--- a choice between two states that differ in their sets is a choice between the sets
-sets-picked : (b : Bool) (n : ℕ) (set : ℕ → Bool) (s : State) → cond b (setWaits n set s) s ≡ withWaits (cond b (upd (s .graph .waits) n set) (s .graph .waits)) s
+-- a choice between two graphs that differ in their sets is a choice between the sets
+sets-picked : (b : Bool) (n : ℕ) (set : ℕ → Bool) (g : Graph) → cond b (setWaits n set g) g ≡ withWaits (cond b (upd (g .waits) n set) (g .waits)) g
 unfolding setWaits
-sets-picked true n set s = refl
-sets-picked false n set s = refl
+sets-picked true n set g = refl
+sets-picked false n set g = refl
 
 -- a set with a node is the set updated by "a member" there
 pub added-is-upd : (set with : List ℕ) (y : ℕ) → ltb y 192 ≡ true → ((n : ℕ) → member with n ≡ (member set n || (eqb n y && ltb n 192)))
@@ -43,14 +43,14 @@ module _ (at own : Node) (next : List ℕ) (executing locked : List Bool) (waits
   -- at the end of the chain: what `link` stored is the model's link
   pub loader-links : (next′ : List ℕ) (executing′ locked′ : List Bool) → y ≡ 0 → Linked (at .0) (own .0) next executing locked next′ executing′ locked′
       → LoaderWalks at own next executing locked waits kinds keys chutes Idle next′ executing′ locked′ waits
-  unfolding loaderWalk link setThread setLocked setExecuting setNext
+  unfolding loaderWalk link moveTo setLocked setExecuting setNext
   loader-links next′ executing′ locked′ end linked o s nx ex lk wt kept th =
       rw (nx, ex, lk, wt, next-is, eq-eqb y 0 end, linked .next-is, linked .executing-is, linked .locked-is)
 
   module _ (more : y ≡ 0 → ⊥) where
     -- at a locked node: nothing changes
     pub loader-waits : flags locked y ≡ true → LoaderWalks at own next executing locked waits kinds keys chutes (Loading at own) next executing locked waits
-    unfolding loaderWalk setThread
+    unfolding loaderWalk moveTo
     loader-waits locked-y o s nx ex lk wt kept th =
         rw (nx, ex, lk, wt, next-is, ne-eqb y 0 more, locked-y, upd-id (s .threads) 0 (Loading at own) (sym th))
 
@@ -59,7 +59,7 @@ module _ (at own : Node) (next : List ℕ) (executing locked : List Bool) (waits
         → flags locked′ ≡ upd (upd (flags locked) y true) (at .0) false
         → sets waits′ ≡ cond (bothDependent (keptAt kinds keys chutes y) (keptAt kinds keys chutes (own .0))) (upd (sets waits) (own .0) (upd (sets waits (own .0)) y true)) (sets waits)
         → LoaderWalks at own next executing locked waits kinds keys chutes (Loading (node y) own) next executing locked′ waits′
-    unfolding loaderWalk addDependence bothDependent commandOf stepOn setThread setLocked setWaits
+    unfolding loaderWalk addDependence bothDependent commandOf stepOn moveTo setLocked setWaits
     loader-steps locked′ waits′ unlocked-y own-in y-in stored added o s nx ex lk wt kept th =
         rw (nx, ex, lk, wt, next-is, ne-eqb y 0 more, unlocked-y, stored, added, ← kept y y-in, ← kept (own .0) own-in)
-        (ap (setThread 0 (Loading (node y) own)) (sets-picked (bothDependent (keptAt kinds keys chutes y) (keptAt kinds keys chutes (own .0))) (own .0) (upd (sets waits (own .0)) y true) (stepOn (at .0) y (withGraph (numbers next) (s .graph .seq) (flags executing) (flags locked) (sets waits) (s .graph .free) s))))
+        (ap (λ (g : Graph). moveTo 0 (Loading (node y) own) g s) (sets-picked (bothDependent (keptAt kinds keys chutes y) (keptAt kinds keys chutes (own .0))) (own .0) (upd (sets waits (own .0)) y true) (stepOn (at .0) y (graphOf (numbers next) (s .graph .seq) (flags executing) (flags locked) (sets waits) (s .graph .free) (s .graph .loaded)))))

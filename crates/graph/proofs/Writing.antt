@@ -1,6 +1,6 @@
 -- The writing of a command's answer: from what was served and stored, the model's. Assumes nothing.
 use Prim.Native.Nat.{ℕ, zero, suc, _-_, _≤_}
-use mathlib.Core.Path.{_≡_}
+use mathlib.Core.Path.{_≡_, refl}
 use mathlib.Core.List.{List, _∷_}
 use mathlib.Core.Option.{none, some}
 use native.Mathlib.Omega.{arith}
@@ -8,7 +8,6 @@ use lib.ListN.{length, set}
 use Rattle.command.specs.declared.Command.{Command}
 use Rattle.model.specs.Upd.{upd}
 use Rattle.model.specs.Service.{write, writeKind, writeFor}
-use Rattle.model.specs.Step.{setStore, setAnswer}
 use Rattle.store.specs.Lists.{storeOf}
 use Rattle.graph.specs.Memory.{answersOf, Writes}
 use Rattle.graph.proofs.Bridge.{set-is-upd}
@@ -23,13 +22,13 @@ answered answers (suc p) v from to =
 -- a node with no command: nothing is written
 pub writes-none : (place found : ℕ) (keys chutes answers : List ℕ) (used : ℕ) → Writes none place found keys chutes answers used keys chutes answers used
 unfolding writeFor
-writes-none place found keys chutes answers used o s capacity store answer = rw (← store, ← answer)
+writes-none place found keys chutes answers used o capacity = refl
 
 -- a command that is served: its store, and its answer at its place
 pub writes-served : (c : Command) (place found : ℕ) (keys chutes answers : List ℕ) (used : ℕ) (keys′ chutes′ : List ℕ) (answer used′ : ℕ)
     → 1 ≤ place → place ≤ length answers
     → writeKind (c .kind) (length keys) (c .key) (c .chute) found (storeOf keys chutes used) ≡ write answer (storeOf keys′ chutes′ used′)
     → Writes (some c) place found keys chutes answers used keys′ chutes′ (set answers (place - 1) answer) used′
-unfolding writeFor setStore setAnswer
-writes-served c place found keys chutes answers used keys′ chutes′ answer used′ from to served o s capacity store answers-are =
-    rw (capacity, store, served, answers-are, answered answers place answer from to)
+unfolding writeFor
+writes-served c place found keys chutes answers used keys′ chutes′ answer used′ from to served o capacity =
+    rw (capacity, served, answered answers place answer from to)

@@ -9,8 +9,8 @@ use Rattle.node_set.specs.Members.{member}
 use Rattle.model.specs.declared.Thread.{Thread}
 use Rattle.model.specs.declared.Thread.the-variants.{Idle, Loading, Searching, Holding, LookedUp, Written, Walking, Clearing}
 use Rattle.model.specs.Upd.{upd}
-use Rattle.model.specs.Graph.{noNode}
-use Rattle.model.specs.Step.{State, setThread, enter, searching, walking, clearing}
+use Rattle.model.specs.Graph.{Graph, graphOf, noNode}
+use Rattle.model.specs.Step.{State, moveTo, enter, searching, walking, clearing}
 
 -- an array of numbers, of flags, and of sets of nodes
 abbrev pub numbers : List ℕ → ℕ → ℕ
@@ -37,28 +37,17 @@ Within (Written own) = own .0 ≤ 150
 Within (Walking at own) = (at .0 ≤ 150) × (own .0 ≤ 150)
 Within (Clearing at own) = (at .0 ≤ 150) × (own .0 ≤ 150)
 
--- the arrays show the graph of a state
-pub record Shows (s : State) (next seq : List ℕ) (executing locked : List Bool) (waits : List (List ℕ)) : Type 0 where
-  pub next-is : s .graph .next ≡ numbers next
-  pub seq-is : s .graph .seq ≡ numbers seq
-  pub executing-is : s .graph .executing ≡ flags executing
-  pub locked-is : s .graph .locked ≡ flags locked
-  pub waits-is : s .graph .waits ≡ sets waits
+-- the arrays show a graph
+pub record Shows (g : Graph) (next seq : List ℕ) (executing locked : List Bool) (waits : List (List ℕ)) : Type 0 where
+  pub next-is : g .next ≡ numbers next
+  pub seq-is : g .seq ≡ numbers seq
+  pub executing-is : g .executing ≡ flags executing
+  pub locked-is : g .locked ≡ flags locked
+  pub waits-is : g .waits ≡ sets waits
 
--- a state with another graph and another first free node
-abbrev pub withGraph : (ℕ → ℕ) → (ℕ → ℕ) → (ℕ → Bool) → (ℕ → Bool) → (ℕ → ℕ → Bool) → ℕ → State → State
-withGraph next seq executing locked waits free s = record {
-  next = next;
-  seq = seq;
-  executing = executing;
-  locked = locked;
-  waits = waits;
-  free = free;
-  loaded = s .graph .loaded;
-  threads = s .threads;
-  store = s .service .store;
-  answers = s .service .answers;
-}
+-- thread t in another state, and another graph in which as many commands are loaded
+abbrev pub movedTo : ℕ → Thread → (ℕ → ℕ) → (ℕ → ℕ) → (ℕ → Bool) → (ℕ → Bool) → (ℕ → ℕ → Bool) → ℕ → State → State
+movedTo t thread next seq executing locked waits free s = moveTo t thread (graphOf next seq executing locked waits free (s .graph .loaded)) s
 
 -- what loading changes: the first free node gets next index 0 and the next command's place, and the head is locked
 pub record Loaded (free place : ℕ) (next seq : List ℕ) (locked : List Bool) (next′ seq′ : List ℕ) (locked′ : List Bool) (rest : ℕ) : Type 0 where
@@ -85,20 +74,20 @@ pub record PutBack (own free : ℕ) (next seq : List ℕ) (executing locked : Li
 abbrev pub Entered : Thread → Thread → List Bool → Thread → List Bool → Type 0
 Entered thread entered locked r locked′ =
     (s : State) (t : ℕ) → s .graph .locked ≡ flags locked → s .threads t ≡ thread
-    → enter t entered s ≡ setThread t r (withGraph (s .graph .next) (s .graph .seq) (s .graph .executing) (flags locked′) (s .graph .waits) (s .graph .free) s)
+    → enter t entered s ≡ movedTo t r (s .graph .next) (s .graph .seq) (s .graph .executing) (flags locked′) (s .graph .waits) (s .graph .free) s
 
 -- the kinds of a worker's step along the chain: on every state that the arrays show, the model's step
 abbrev pub Searches : Node → List ℕ → List Bool → List Bool → List (List ℕ) → Thread → List Bool → List Bool → Type 0
 Searches at next executing locked waits r executing′ locked′ =
     (s : State) (t : ℕ) → s .graph .next ≡ numbers next → s .graph .executing ≡ flags executing → s .graph .locked ≡ flags locked → s .graph .waits ≡ sets waits → s .threads t ≡ Searching at
-    → searching t (at .0) (s .graph .next (at .0)) s ≡ setThread t r (withGraph (s .graph .next) (s .graph .seq) (flags executing′) (flags locked′) (s .graph .waits) (s .graph .free) s)
+    → searching t (at .0) (s .graph .next (at .0)) s ≡ movedTo t r (s .graph .next) (s .graph .seq) (flags executing′) (flags locked′) (s .graph .waits) (s .graph .free) s
 
 abbrev pub Walks : Node → Node → List ℕ → List Bool → Thread → List ℕ → List Bool → Type 0
 Walks at own next locked r next′ locked′ =
     (s : State) (t : ℕ) → s .graph .next ≡ numbers next → s .graph .locked ≡ flags locked → s .threads t ≡ Walking at own
-    → walking t (at .0) (own .0) (s .graph .next (at .0)) s ≡ setThread t r (withGraph (numbers next′) (s .graph .seq) (s .graph .executing) (flags locked′) (s .graph .waits) (s .graph .free) s)
+    → walking t (at .0) (own .0) (s .graph .next (at .0)) s ≡ movedTo t r (numbers next′) (s .graph .seq) (s .graph .executing) (flags locked′) (s .graph .waits) (s .graph .free) s
 
 abbrev pub ClearsOn : Node → Node → ℕ → List ℕ → List ℕ → List Bool → List Bool → List (List ℕ) → Thread → ℕ → List ℕ → List ℕ → List Bool → List Bool → List (List ℕ) → Type 0
 ClearsOn at own free next seq executing locked waits r free′ next′ seq′ executing′ locked′ waits′ =
-    (s : State) (t : ℕ) → Shows s next seq executing locked waits → s .graph .free ≡ free → s .threads t ≡ Clearing at own
-    → clearing t (at .0) (own .0) (s .graph .next (at .0)) s ≡ setThread t r (withGraph (numbers next′) (numbers seq′) (flags executing′) (flags locked′) (sets waits′) free′ s)
+    (s : State) (t : ℕ) → Shows (s .graph) next seq executing locked waits → s .graph .free ≡ free → s .threads t ≡ Clearing at own
+    → clearing t (at .0) (own .0) (s .graph .next (at .0)) s ≡ movedTo t r (numbers next′) (numbers seq′) (flags executing′) (flags locked′) (sets waits′) free′ s

@@ -9,14 +9,14 @@ use Rattle.command.specs.declared.Command.{Command}
 use Rattle.node_set.specs.declared.Node.{Node}
 use Rattle.model.specs.declared.Thread.{Thread}
 use Rattle.model.specs.declared.Thread.the-variants.{Loading}
-use Rattle.model.specs.Store.{Store}
 use Rattle.model.specs.Upd.{upd}
 use Rattle.model.specs.Setup.{Setup}
-use Rattle.model.specs.Service.{writeFor}
-use Rattle.model.specs.Step.{State, step, setThread, loaderWalk}
+use Rattle.model.specs.Graph.{Graph, graphOf}
+use Rattle.model.specs.Service.{Service, writeFor}
+use Rattle.model.specs.Step.{State, step, loaderWalk}
 use Rattle.store.specs.Lists.{storeOf}
 use Rattle.model.specs.declared.Counters.{Counters}
-use Rattle.graph.specs.Arrays.{numbers, flags, sets, Nodes, Within, withGraph}
+use Rattle.graph.specs.Arrays.{numbers, flags, sets, Nodes, Within, movedTo}
 use Rattle.command.specs.Read.{commandsIn}
 use Rattle.graph.specs.Items.{Kept}
 
@@ -24,47 +24,39 @@ use Rattle.graph.specs.Items.{Kept}
 abbrev pub answersOf : List ℕ → ℕ → ℕ
 answersOf answers c = getD (0 ∷ answers) c 0
 
-pub record Memory : Type 0 where
+-- the graph's arrays and counters
+pub record GraphArrays : Type 0 where
   pub next : List ℕ
   pub seq : List ℕ
   pub executing : List Bool
   pub locked : List Bool
   pub waits : List (List ℕ)
+  pub free : ℕ
+  pub loaded : ℕ
+
+-- the store's lists and count, and the answers
+pub record ServiceLists : Type 0 where
   pub keys : List ℕ
   pub chutes : List ℕ
   pub answers : List ℕ
-  pub free : ℕ
-  pub loaded : ℕ
   pub used : ℕ
 
+pub record Memory : Type 0 where
+  pub graph : GraphArrays
+  pub service : ServiceLists
+
 -- the state that memory and threads show
+abbrev pub shownGraph : GraphArrays → Graph
+shownGraph a = graphOf (numbers (a .next)) (numbers (a .seq)) (flags (a .executing)) (flags (a .locked)) (sets (a .waits)) (a .free) (a .loaded)
+
+abbrev pub serviceOf : List ℕ → List ℕ → List ℕ → ℕ → Service
+serviceOf keys chutes answers used = record { store = storeOf keys chutes used; answers = answersOf answers }
+
 abbrev pub shown : Memory → (ℕ → Thread) → State
 shown m threads = record {
-  next = numbers (m .next);
-  seq = numbers (m .seq);
-  executing = flags (m .executing);
-  locked = flags (m .locked);
-  waits = sets (m .waits);
-  free = m .free;
-  loaded = m .loaded;
+  graph = shownGraph (m .graph);
   threads = threads;
-  store = storeOf (m .keys) (m .chutes) (m .used);
-  answers = answersOf (m .answers);
-}
-
--- a state with another store and other answers
-abbrev pub withService : Store → (ℕ → ℕ) → State → State
-withService store answers s = record {
-  next = s .graph .next;
-  seq = s .graph .seq;
-  executing = s .graph .executing;
-  locked = s .graph .locked;
-  waits = s .graph .waits;
-  free = s .graph .free;
-  loaded = s .graph .loaded;
-  threads = s .threads;
-  store = store;
-  answers = answers;
+  service = serviceOf (m .service .keys) (m .service .chutes) (m .service .answers) (m .service .used);
 }
 
 -- the loader's walk on the arrays: on every state that they show, the model's
@@ -72,41 +64,31 @@ abbrev pub LoaderWalks : Node → Node → List ℕ → List Bool → List Bool 
 LoaderWalks at own next executing locked waits kinds keys chutes r next′ executing′ locked′ waits′ =
     (o : Setup) (s : State) → s .graph .next ≡ numbers next → s .graph .executing ≡ flags executing → s .graph .locked ≡ flags locked → s .graph .waits ≡ sets waits
     → Kept (o .commands) (s .graph .seq) kinds keys chutes → s .threads 0 ≡ Loading at own
-    → loaderWalk o (at .0) (own .0) (s .graph .next (at .0)) s ≡ setThread 0 r (withGraph (numbers next′) (s .graph .seq) (flags executing′) (flags locked′) (sets waits′) (s .graph .free) s)
+    → loaderWalk o (at .0) (own .0) (s .graph .next (at .0)) s ≡ movedTo 0 r (numbers next′) (s .graph .seq) (flags executing′) (flags locked′) (sets waits′) (s .graph .free) s
 
--- the writing of a command's answer: on every state with this store and these answers, the model's
+-- the writing of a command's answer in these lists: the model's
 abbrev pub Writes : Option Command → ℕ → ℕ → List ℕ → List ℕ → List ℕ → ℕ → List ℕ → List ℕ → List ℕ → ℕ → Type 0
 Writes item place found keys chutes answers used keys′ chutes′ answers′ used′ =
-    (o : Setup) (s : State) → o .capacity ≡ length keys → s .service .store ≡ storeOf keys chutes used → s .service .answers ≡ answersOf answers
-    → writeFor o item place found s ≡ withService (storeOf keys′ chutes′ used′) (answersOf answers′) s
+    (o : Setup) → o .capacity ≡ length keys → writeFor o item place found (serviceOf keys chutes answers used) ≡ serviceOf keys′ chutes′ answers′ used′
 
 -- what a step needs of its memory: node numbers that are nodes', each node's command kept, and a list of as many commands as answers
 pub record Ready (list : List ℕ) (kinds itemKeys itemChutes : List ℕ) (m : Memory) (thread : Thread) : Type 0 where
-  pub nodes : Nodes (m .next)
-  pub free : m .free ≤ 150
+  pub nodes : Nodes (m .graph .next)
+  pub free : m .graph .free ≤ 150
   pub within : Within thread
-  pub kept : Kept (commandsIn list) (numbers (m .seq)) kinds itemKeys itemChutes
-  pub whole : length list ≡ 16 * length (m .answers)
-  pub few : length (m .answers) ≤ 4096
+  pub kept : Kept (commandsIn list) (numbers (m .graph .seq)) kinds itemKeys itemChutes
+  pub whole : length list ≡ 16 * length (m .service .answers)
+  pub few : length (m .service .answers) ≤ 4096
 
 abbrev pub memory : List ℕ → List ℕ → List Bool → List Bool → List (List ℕ) → List ℕ → List ℕ → List ℕ → Counters → Memory
 memory next seq executing locked waits keys chutes answers c = record {
-  next = next;
-  seq = seq;
-  executing = executing;
-  locked = locked;
-  waits = waits;
-  keys = keys;
-  chutes = chutes;
-  answers = answers;
-  free = c .free .0;
-  loaded = c .loaded;
-  used = c .used;
+  graph = record { next = next; seq = seq; executing = executing; locked = locked; waits = waits; free = c .free .0; loaded = c .loaded };
+  service = record { keys = keys; chutes = chutes; answers = answers; used = c .used };
 }
 
 -- what a step promises: for all threads of which t is in state `thread`, memory and threads show the model's next state, and the memory is
 -- ready for another step
 pub record Steps (list : List ℕ) (t : ℕ) (thread : Thread) (m : Memory) (kinds itemKeys itemChutes : List ℕ) (thread′ : Thread) (m′ : Memory) : Type 0 where
-  pub step-is : (o : Setup) (threads : ℕ → Thread) → o .commands ≡ commandsIn list → o .capacity ≡ length (m .keys) → threads t ≡ thread →
+  pub step-is : (o : Setup) (threads : ℕ → Thread) → o .commands ≡ commandsIn list → o .capacity ≡ length (m .service .keys) → threads t ≡ thread →
       shown m′ (upd threads t thread′) ≡ step o t (shown m threads)
   pub ready : Ready list kinds itemKeys itemChutes m′ thread′

@@ -18,7 +18,7 @@ use Rattle.model.proofs.Thread.{the-type}
 use Rattle.model.specs.Upd.{upd}
 use Rattle.model.specs.Setup.{Setup}
 use Rattle.model.specs.Graph.{setLocked, setLoaded, setSeq, setNext, setFree}
-use Rattle.model.specs.Step.{State, node, step, loaderStep, loaderIdle, load, setThread}
+use Rattle.model.specs.Step.{State, node, step, loaderStep, loaderIdle, load, moveTo}
 use Rattle.model.specs.Proof.Upd.{upd-id}
 use Rattle.graph.specs.Arrays.{numbers, flags, Nodes, Within, Loaded}
 use Rattle.graph.specs.Items.{keptAt}
@@ -30,17 +30,8 @@ use Rattle.threads.proofs.Readiness.{withArrays, graph-ready}
 -- a memory after a load
 abbrev afterLoad : List ℕ → List ℕ → List Bool → ℕ → Memory → Memory
 afterLoad next seq locked rest m = record {
-  next = next;
-  seq = seq;
-  executing = m .executing;
-  locked = locked;
-  waits = m .waits;
-  keys = m .keys;
-  chutes = m .chutes;
-  answers = m .answers;
-  free = rest;
-  loaded = m .loaded + 1;
-  used = m .used;
+  graph = record { next = next; seq = seq; executing = m .graph .executing; locked = locked; waits = m .graph .waits; free = rest; loaded = m .graph .loaded + 1 };
+  service = m .service;
 }
 
 -- the loader in a worker's state does nothing
@@ -90,44 +81,44 @@ module _ (list kinds itemKeys itemChutes : List ℕ) (m : Memory) where
 
   -- the walk is the model's: the commands kept are those of the sequence numbers
   pub walk-steps : (at own : Node) (r : Thread) (next′ : List ℕ) (executing′ locked′ : List Bool) (waits′ : List (List ℕ))
-      → LoaderWalks at own (m .next) (m .executing) (m .locked) (m .waits) kinds itemKeys itemChutes r next′ executing′ locked′ waits′
+      → LoaderWalks at own (m .graph .next) (m .graph .executing) (m .graph .locked) (m .graph .waits) kinds itemKeys itemChutes r next′ executing′ locked′ waits′
       → Within r → Nodes next′ → Ready list kinds itemKeys itemChutes m (Loading at own)
-      → Steps list 0 (Loading at own) m kinds itemKeys itemChutes r (withArrays next′ (m .seq) executing′ locked′ waits′ (m .free) m)
-  unfolding loaderStep setThread
+      → Steps list 0 (Loading at own) m kinds itemKeys itemChutes r (withArrays next′ (m .graph .seq) executing′ locked′ waits′ (m .graph .free) m)
+  unfolding loaderStep moveTo
   walk-steps at own r next′ executing′ locked′ waits′ steps within nodes ready =
-      loader-steps kinds itemKeys itemChutes (Loading at own) r (withArrays next′ (m .seq) executing′ locked′ waits′ (m .free) m)
+      loader-steps kinds itemKeys itemChutes (Loading at own) r (withArrays next′ (m .graph .seq) executing′ locked′ waits′ (m .graph .free) m)
       (λ o threads commands is. steps o (shown m threads) refl refl refl refl (rw commands (ready .kept)) is)
       (graph-ready list kinds itemKeys itemChutes m (Loading at own) ready r next′ executing′ locked′ waits′ nodes within)
 
   -- the model's test is that of the arrays
-  blocked-is : (b : Bool) (o : Setup) → length list ≡ 16 * length (m .answers) → o .commands ≡ commandsIn list
-      → blocked (length (m .answers)) (m .loaded) (m .free) (m .locked) ≡ b → blocked (length (o .commands)) (m .loaded) (m .free) (m .locked) ≡ b
-  blocked-is b o whole commands h = rw (commands, commands-length list (length (m .answers)) whole) h
+  blocked-is : (b : Bool) (o : Setup) → length list ≡ 16 * length (m .service .answers) → o .commands ≡ commandsIn list
+      → blocked (length (m .service .answers)) (m .graph .loaded) (m .graph .free) (m .graph .locked) ≡ b → blocked (length (o .commands)) (m .graph .loaded) (m .graph .free) (m .graph .locked) ≡ b
+  blocked-is b o whole commands h = rw (commands, commands-length list (length (m .service .answers)) whole) h
 
   -- where a test says so it waits, and else the stores are the model's load; the new node keeps the command of its sequence number
-  pub load-waits : blocked (length (m .answers)) (m .loaded) (m .free) (m .locked) ≡ true
+  pub load-waits : blocked (length (m .service .answers)) (m .graph .loaded) (m .graph .free) (m .graph .locked) ≡ true
       → Ready list kinds itemKeys itemChutes m Idle → Steps list 0 Idle m kinds itemKeys itemChutes Idle m
   unfolding loaderStep loaderIdle
   load-waits waits ready = unchanged Idle (λ o threads commands. rw (blocked-is true o (ready .whole) commands waits)) ready
 
   pub load-takes : (next′ seq′ : List ℕ) (locked′ : List Bool) (rest : ℕ) (kinds′ itemKeys′ itemChutes′ : List ℕ) (command : Command)
-      → blocked (length (m .answers)) (m .loaded) (m .free) (m .locked) ≡ false → m .loaded < length (m .answers)
-      → Loaded (m .free) (m .loaded + 1) (m .next) (m .seq) (m .locked) next′ seq′ locked′ rest
-      → command ≡ commandFrom (readCommand (take 16 (drop (16 * m .loaded) list)))
-      → ((n : ℕ) → keptAt kinds′ itemKeys′ itemChutes′ n ≡ cond (eqb n (m .free)) (some command) (keptAt kinds itemKeys itemChutes n))
+      → blocked (length (m .service .answers)) (m .graph .loaded) (m .graph .free) (m .graph .locked) ≡ false → m .graph .loaded < length (m .service .answers)
+      → Loaded (m .graph .free) (m .graph .loaded + 1) (m .graph .next) (m .graph .seq) (m .graph .locked) next′ seq′ locked′ rest
+      → command ≡ commandFrom (readCommand (take 16 (drop (16 * m .graph .loaded) list)))
+      → ((n : ℕ) → keptAt kinds′ itemKeys′ itemChutes′ n ≡ cond (eqb n (m .graph .free)) (some command) (keptAt kinds itemKeys itemChutes n))
       → Ready list kinds itemKeys itemChutes m Idle
-      → Steps list 0 Idle m kinds′ itemKeys′ itemChutes′ (Loading (node 0) (node (m .free))) (afterLoad next′ seq′ locked′ rest m)
-  unfolding loaderStep loaderIdle load setThread setLocked setLoaded setSeq setNext setFree
+      → Steps list 0 Idle m kinds′ itemKeys′ itemChutes′ (Loading (node 0) (node (m .graph .free))) (afterLoad next′ seq′ locked′ rest m)
+  unfolding loaderStep loaderIdle load moveTo setLocked setLoaded setSeq setNext setFree
   load-takes next′ seq′ locked′ rest kinds′ itemKeys′ itemChutes′ command free more loaded read kept ready =
-      loader-steps kinds′ itemKeys′ itemChutes′ Idle (Loading (node 0) (node (m .free))) (afterLoad next′ seq′ locked′ rest m)
+      loader-steps kinds′ itemKeys′ itemChutes′ Idle (Loading (node 0) (node (m .graph .free))) (afterLoad next′ seq′ locked′ rest m)
       (λ o threads commands is.
       rw (blocked-is false o (ready .whole) commands free, loaded .next-is, loaded .seq-is, loaded .locked-is, loaded .rest-is))
       (record {
-        nodes = nodes-stored (m .next) next′ (m .free) 0 (ready .nodes) (omega arith) (loaded .next-is);
-        free = rw (loaded .rest-is) (ready .nodes (m .free));
+        nodes = nodes-stored (m .graph .next) next′ (m .graph .free) 0 (ready .nodes) (omega arith) (loaded .next-is);
+        free = rw (loaded .rest-is) (ready .nodes (m .graph .free));
         within = (omega arith, ready .free);
-        kept = kept-stored (commandsIn list) (numbers (m .seq)) (numbers seq′) kinds itemKeys itemChutes kinds′ itemKeys′ itemChutes′ (m .free) (m .loaded + 1)
-            (some command) (rw read (command-is list (length (m .answers)) (ready .whole) (m .loaded) more)) (loaded .seq-is) kept (ready .kept);
+        kept = kept-stored (commandsIn list) (numbers (m .graph .seq)) (numbers seq′) kinds itemKeys itemChutes kinds′ itemKeys′ itemChutes′ (m .graph .free) (m .graph .loaded + 1)
+            (some command) (rw read (command-is list (length (m .service .answers)) (ready .whole) (m .graph .loaded) more)) (loaded .seq-is) kept (ready .kept);
         whole = ready .whole;
         few = ready .few;
       })

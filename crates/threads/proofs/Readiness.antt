@@ -11,34 +11,13 @@ use Rattle.graph.specs.Memory.{Memory, Ready, Steps}
 -- a memory with another graph
 abbrev pub withArrays : List ℕ → List ℕ → List Bool → List Bool → List (List ℕ) → ℕ → Memory → Memory
 withArrays next seq executing locked waits free m = record {
-  next = next;
-  seq = seq;
-  executing = executing;
-  locked = locked;
-  waits = waits;
-  keys = m .keys;
-  chutes = m .chutes;
-  answers = m .answers;
-  free = free;
-  loaded = m .loaded;
-  used = m .used;
+  graph = record { next = next; seq = seq; executing = executing; locked = locked; waits = waits; free = free; loaded = m .graph .loaded };
+  service = m .service;
 }
 
 -- a memory with another store and other answers
 abbrev pub withStore : List ℕ → List ℕ → List ℕ → ℕ → Memory → Memory
-withStore keys chutes answers used m = record {
-  next = m .next;
-  seq = m .seq;
-  executing = m .executing;
-  locked = m .locked;
-  waits = m .waits;
-  keys = keys;
-  chutes = chutes;
-  answers = answers;
-  free = m .free;
-  loaded = m .loaded;
-  used = used;
-}
+withStore keys chutes answers used m = record { graph = m .graph; service = record { keys = keys; chutes = chutes; answers = answers; used = used } }
 
 -- a step from a state that is known
 pub from-known : {list kinds itemKeys itemChutes : List ℕ} {t : ℕ} {m : Memory} {kinds′ itemKeys′ itemChutes′ : List ℕ} {thread known thread′ : Thread} {m′ : Memory}
@@ -54,18 +33,18 @@ of-loader is steps = rw is steps
 module _ (list kinds itemKeys itemChutes : List ℕ) (m : Memory) (thread : Thread) (ready : Ready list kinds itemKeys itemChutes m thread) where
   -- a graph of nodes with the sequence numbers as they were is ready: each node's command is still the one of its sequence number
   pub graph-ready : (thread′ : Thread) (next′ : List ℕ) (executing′ locked′ : List Bool) (waits′ : List (List ℕ)) → Nodes next′ → Within thread′
-      → Ready list kinds itemKeys itemChutes (withArrays next′ (m .seq) executing′ locked′ waits′ (m .free) m) thread′
+      → Ready list kinds itemKeys itemChutes (withArrays next′ (m .graph .seq) executing′ locked′ waits′ (m .graph .free) m) thread′
   graph-ready thread′ next′ executing′ locked′ waits′ nodes within =
       record { nodes = nodes; free = ready .free; within = within; kept = ready .kept; whole = ready .whole; few = ready .few }
 
   -- a store of any contents, with as many answers, is ready: readiness does not speak of it
-  pub store-ready : (thread′ : Thread) (keys′ chutes′ answers′ : List ℕ) (used′ : ℕ) → length answers′ ≡ length (m .answers) → Within thread′
+  pub store-ready : (thread′ : Thread) (keys′ chutes′ answers′ : List ℕ) (used′ : ℕ) → length answers′ ≡ length (m .service .answers) → Within thread′
       → Ready list kinds itemKeys itemChutes (withStore keys′ chutes′ answers′ used′ m) thread′
   store-ready thread′ keys′ chutes′ answers′ used′ count within =
       record { nodes = ready .nodes; free = ready .free; within = within; kept = ready .kept; whole = rw count (ready .whole); few = rw count (ready .few) }
 
   -- nor does it speak of flags and sets
   pub ready-beside : (executing : List Bool) (waits : List (List ℕ)) (keys chutes : List ℕ)
-      → Ready list kinds itemKeys itemChutes (withStore keys chutes (m .answers) (m .used) (withArrays (m .next) (m .seq) executing (m .locked) waits (m .free) m)) thread
+      → Ready list kinds itemKeys itemChutes (withStore keys chutes (m .service .answers) (m .service .used) (withArrays (m .graph .next) (m .graph .seq) executing (m .graph .locked) waits (m .graph .free) m)) thread
   ready-beside executing waits keys chutes =
       record { nodes = ready .nodes; free = ready .free; within = ready .within; kept = ready .kept; whole = ready .whole; few = ready .few }

@@ -20,25 +20,25 @@ use Rattle.model.specs.Upd.{upd}
 use Rattle.model.specs.Setup.{Setup}
 use Rattle.model.specs.Graph.{setSeq, setFree, setNext, setExecuting, setLocked, setWaits}
 use Rattle.model.specs.Service.{foundFor}
-use Rattle.model.specs.Step.{State, node, step, workerStep, setThread, enter, commandOf, holding, lookedUp, leave, return, clearing, stepOn}
+use Rattle.model.specs.Step.{State, node, step, workerStep, moveTo, serveTo, enter, commandOf, holding, lookedUp, return, clearing, stepOn}
 use Rattle.model.specs.Proof.Upd.{upd-id, upd-same}
 use Rattle.store.specs.Lists.{storeOf}
 use Rattle.graph.specs.Arrays.{numbers, flags, Nodes, Within, Shows, Entered, Searches, Walks, ClearsOn}
 use Rattle.command.specs.Read.{commandsIn}
 use Rattle.graph.specs.Items.{keptAt, Kept}
-use Rattle.graph.specs.Memory.{Memory, shown, Ready, Steps, Writes}
+use Rattle.graph.specs.Memory.{Memory, memory, shown, Ready, Steps, Writes}
 use Rattle.threads.proofs.Readiness.{withArrays, withStore, graph-ready, store-ready}
 
 -- what a worker's step makes of memory and threads, by the worker's state
 abbrev WorkerMakes : List ℕ → ℕ → Thread → Memory → Thread → Memory → Type 0
 WorkerMakes list t thread m thread′ m′ =
-    (o : Setup) (threads : ℕ → Thread) → o .commands ≡ commandsIn list → o .capacity ≡ length (m .keys) → threads t ≡ thread
+    (o : Setup) (threads : ℕ → Thread) → o .commands ≡ commandsIn list → o .capacity ≡ length (m .service .keys) → threads t ≡ thread
     → workerStep o t thread (shown m threads) ≡ shown m′ (upd threads t thread′)
 
 -- a thread that tried to enter is as it was, or has entered
-entered-cases : (m : Memory) (thread entered r : Thread) (locked′ : List Bool) → Entered thread entered (m .locked) r locked′ → (r ≡ thread) ⊎ (r ≡ entered)
-unfolding enter setThread
-entered-cases m thread entered r locked′ h = go (flags (m .locked) 0) refl
+entered-cases : (m : Memory) (thread entered r : Thread) (locked′ : List Bool) → Entered thread entered (m .graph .locked) r locked′ → (r ≡ thread) ⊎ (r ≡ entered)
+unfolding enter moveTo
+entered-cases m thread entered r locked′ h = go (flags (m .graph .locked) 0) refl
   where
     s : State
     s = shown m (λ t. thread)
@@ -46,7 +46,7 @@ entered-cases m thread entered r locked′ h = go (flags (m .locked) 0) refl
     at0 : enter 0 entered s .threads 0 ≡ r
     at0 = ap (λ (s′ : State). s′ .threads 0) (h s 0 refl refl) ∙ upd-same (λ (t : ℕ). thread) 0 r
 
-    go : (b : Bool) → flags (m .locked) 0 ≡ b → (r ≡ thread) ⊎ (r ≡ entered)
+    go : (b : Bool) → flags (m .graph .locked) 0 ≡ b → (r ≡ thread) ⊎ (r ≡ entered)
     go true e = inl (sym (rw e at at0))
     go false e = inr (sym (rw (e, upd-same (λ (t : ℕ). thread) 0 entered) at at0))
 
@@ -59,7 +59,7 @@ module _ (at own : Node) (free : ℕ) (next seq : List ℕ) (executing locked : 
     (executing′ locked′ : List Bool) (waits′ : List (List ℕ)) (steps : ClearsOn at own free next seq executing locked waits r free′ next′ seq′ executing′ locked′ waits′) where
   -- it returned its node and is idle, or left the sequence numbers as they were and is not: by the model's two tests
   cleared-cases : ((r ≡ Idle) × (numbers seq′ ≡ upd (numbers seq) (own .0) 0)) ⊎ ((r ≡ Idle → ⊥) × (numbers seq′ ≡ numbers seq))
-  unfolding clearing return leave stepOn setThread setSeq setFree setNext setExecuting setLocked setWaits
+  unfolding clearing return stepOn moveTo setSeq setFree setNext setExecuting setLocked setWaits
   cleared-cases = go (eqb y 0) (flags locked y) refl refl
     where
       y : ℕ
@@ -69,9 +69,9 @@ module _ (at own : Node) (free : ℕ) (next seq : List ℕ) (executing locked : 
       was t = Clearing at own
 
       s : State
-      s = shown (record { next = next; seq = seq; executing = executing; locked = locked; waits = waits; keys = []; chutes = []; answers = []; free = free; loaded = 0; used = 0 }) was
+      s = shown (memory next seq executing locked waits [] [] [] (record { free = node free; loaded = 0; used = 0 })) was
 
-      showing : Shows s next seq executing locked waits
+      showing : Shows (s .graph) next seq executing locked waits
       showing = record { next-is = refl; seq-is = refl; executing-is = refl; locked-is = refl; waits-is = refl }
 
       thread-is : clearing 0 (at .0) (own .0) y s .threads 0 ≡ r
@@ -115,84 +115,84 @@ module _ (list kinds itemKeys itemChutes : List ℕ) (t : ℕ) (other : t ≡ 0 
 
   -- a worker that enters, in either of the states from which it does
   enters : (thread entered r : Thread) (locked′ : List Bool) → ((o : Setup) (s : State) → workerStep o t thread s ≡ enter t entered s)
-      → Entered thread entered (m .locked) r locked′ → Within entered → Ready list kinds itemKeys itemChutes m thread
-      → Steps list t thread m kinds itemKeys itemChutes r (withArrays (m .next) (m .seq) (m .executing) locked′ (m .waits) (m .free) m)
-  unfolding setThread
+      → Entered thread entered (m .graph .locked) r locked′ → Within entered → Ready list kinds itemKeys itemChutes m thread
+      → Steps list t thread m kinds itemKeys itemChutes r (withArrays (m .graph .next) (m .graph .seq) (m .graph .executing) locked′ (m .graph .waits) (m .graph .free) m)
+  unfolding moveTo
   enters thread entered r locked′ does steps within ready =
-      worker-steps kinds itemKeys itemChutes thread r (withArrays (m .next) (m .seq) (m .executing) locked′ (m .waits) (m .free) m)
+      worker-steps kinds itemKeys itemChutes thread r (withArrays (m .graph .next) (m .graph .seq) (m .graph .executing) locked′ (m .graph .waits) (m .graph .free) m)
       (λ o threads commands capacity is. does o (shown m threads) ∙ steps (shown m threads) t refl is)
-      (graph-ready list kinds itemKeys itemChutes m thread ready r (m .next) (m .executing) locked′ (m .waits) (ready .nodes)
+      (graph-ready list kinds itemKeys itemChutes m thread ready r (m .graph .next) (m .graph .executing) locked′ (m .graph .waits) (ready .nodes)
       (⊎-elim (λ e. rw e (ready .within)) (λ e. rw e within) (entered-cases m thread entered r locked′ steps)))
 
   -- an idle worker, and one that has written, try to enter as the model's do
-  pub idle-enters : (r : Thread) (locked′ : List Bool) → Entered Idle (Searching (node 0)) (m .locked) r locked′ → Ready list kinds itemKeys itemChutes m Idle
-      → Steps list t Idle m kinds itemKeys itemChutes r (withArrays (m .next) (m .seq) (m .executing) locked′ (m .waits) (m .free) m)
+  pub idle-enters : (r : Thread) (locked′ : List Bool) → Entered Idle (Searching (node 0)) (m .graph .locked) r locked′ → Ready list kinds itemKeys itemChutes m Idle
+      → Steps list t Idle m kinds itemKeys itemChutes r (withArrays (m .graph .next) (m .graph .seq) (m .graph .executing) locked′ (m .graph .waits) (m .graph .free) m)
   unfolding workerStep
   idle-enters r locked′ steps ready = enters Idle (Searching (node 0)) r locked′ (λ o s. refl) steps (omega arith) ready
 
   module _ (own : Node) where
-    pub written-enters : (r : Thread) (locked′ : List Bool) → Entered (Written own) (Walking (node 0) own) (m .locked) r locked′
+    pub written-enters : (r : Thread) (locked′ : List Bool) → Entered (Written own) (Walking (node 0) own) (m .graph .locked) r locked′
         → Ready list kinds itemKeys itemChutes m (Written own)
-        → Steps list t (Written own) m kinds itemKeys itemChutes r (withArrays (m .next) (m .seq) (m .executing) locked′ (m .waits) (m .free) m)
+        → Steps list t (Written own) m kinds itemKeys itemChutes r (withArrays (m .graph .next) (m .graph .seq) (m .graph .executing) locked′ (m .graph .waits) (m .graph .free) m)
     unfolding workerStep
     written-enters r locked′ steps ready =
         enters (Written own) (Walking (node 0) own) r locked′ (λ o s. refl) steps (omega arith, ready .within) ready
 
     -- the command of a ready node is the one kept for it
     command-kept : (thread : Thread) (o : Setup) (threads : ℕ → Thread) → Ready list kinds itemKeys itemChutes m thread → own .0 ≤ 150 → o .commands ≡ commandsIn list
-        → commandOf o (shown m threads) (own .0) ≡ keptAt kinds itemKeys itemChutes (own .0)
+        → commandOf o (shown m threads .graph) (own .0) ≡ keptAt kinds itemKeys itemChutes (own .0)
     unfolding commandOf
     command-kept thread o threads ready small commands = rw commands (sym (ready .kept (own .0) small))
 
     module _ (item : Option Command) (item-is : item ≡ keptAt kinds itemKeys itemChutes (own .0)) where
       -- a holding worker finds what the model's lookup of that command finds
-      pub holding-looks-up : (found : ℕ) → found ≡ foundFor item (storeOf (m .keys) (m .chutes) (m .used))
+      pub holding-looks-up : (found : ℕ) → found ≡ foundFor item (storeOf (m .service .keys) (m .service .chutes) (m .service .used))
           → Ready list kinds itemKeys itemChutes m (Holding own) → Steps list t (Holding own) m kinds itemKeys itemChutes (LookedUp own found) m
-      unfolding workerStep holding setThread
+      unfolding workerStep holding serveTo
       holding-looks-up found found-is ready =
           worker-steps kinds itemKeys itemChutes (Holding own) (LookedUp own found) m
           (λ o threads commands capacity is. rw (found-is, item-is, command-kept (Holding own) o threads ready (ready .within) commands))
-          (store-ready list kinds itemKeys itemChutes m (Holding own) ready (LookedUp own found) (m .keys) (m .chutes) (m .answers) (m .used) refl (ready .within))
+          (store-ready list kinds itemKeys itemChutes m (Holding own) ready (LookedUp own found) (m .service .keys) (m .service .chutes) (m .service .answers) (m .service .used) refl (ready .within))
 
       -- and one that has looked up writes what the model writes for that command
-      pub looked-up-writes : (place : ℕ) → place ≡ numbers (m .seq) (own .0) → (found : ℕ) (keys′ chutes′ answers′ : List ℕ) (used′ : ℕ)
-          → Writes item place found (m .keys) (m .chutes) (m .answers) (m .used) keys′ chutes′ answers′ used′
-          → length answers′ ≡ length (m .answers) → Ready list kinds itemKeys itemChutes m (LookedUp own found)
+      pub looked-up-writes : (place : ℕ) → place ≡ numbers (m .graph .seq) (own .0) → (found : ℕ) (keys′ chutes′ answers′ : List ℕ) (used′ : ℕ)
+          → Writes item place found (m .service .keys) (m .service .chutes) (m .service .answers) (m .service .used) keys′ chutes′ answers′ used′
+          → length answers′ ≡ length (m .service .answers) → Ready list kinds itemKeys itemChutes m (LookedUp own found)
           → Steps list t (LookedUp own found) m kinds itemKeys itemChutes (Written own) (withStore keys′ chutes′ answers′ used′ m)
-      unfolding workerStep lookedUp setThread
+      unfolding workerStep lookedUp serveTo
       looked-up-writes place place-is found keys′ chutes′ answers′ used′ writes count ready =
           worker-steps kinds itemKeys itemChutes (LookedUp own found) (Written own) (withStore keys′ chutes′ answers′ used′ m)
           (λ o threads commands capacity is.
-          rw (command-kept (LookedUp own found) o threads ready (ready .within) commands, ← item-is, ← place-is, writes o (shown m threads) capacity refl refl))
+          rw (command-kept (LookedUp own found) o threads ready (ready .within) commands, ← item-is, ← place-is, writes o capacity))
           (store-ready list kinds itemKeys itemChutes m (LookedUp own found) ready (Written own) keys′ chutes′ answers′ used′ count (ready .within))
 
   module _ (at : Node) where
     -- searching, walking and clearing are the model's: the functions along the chain ensure it of every state that the arrays show
-    pub searching-steps : (r : Thread) (executing′ locked′ : List Bool) → Searches at (m .next) (m .executing) (m .locked) (m .waits) r executing′ locked′
+    pub searching-steps : (r : Thread) (executing′ locked′ : List Bool) → Searches at (m .graph .next) (m .graph .executing) (m .graph .locked) (m .graph .waits) r executing′ locked′
         → Within r → Ready list kinds itemKeys itemChutes m (Searching at)
-        → Steps list t (Searching at) m kinds itemKeys itemChutes r (withArrays (m .next) (m .seq) executing′ locked′ (m .waits) (m .free) m)
-    unfolding workerStep setThread
+        → Steps list t (Searching at) m kinds itemKeys itemChutes r (withArrays (m .graph .next) (m .graph .seq) executing′ locked′ (m .graph .waits) (m .graph .free) m)
+    unfolding workerStep moveTo
     searching-steps r executing′ locked′ steps within ready =
-        worker-steps kinds itemKeys itemChutes (Searching at) r (withArrays (m .next) (m .seq) executing′ locked′ (m .waits) (m .free) m)
+        worker-steps kinds itemKeys itemChutes (Searching at) r (withArrays (m .graph .next) (m .graph .seq) executing′ locked′ (m .graph .waits) (m .graph .free) m)
         (λ o threads commands capacity is. steps (shown m threads) t refl refl refl refl is)
-        (graph-ready list kinds itemKeys itemChutes m (Searching at) ready r (m .next) executing′ locked′ (m .waits) (ready .nodes) within)
+        (graph-ready list kinds itemKeys itemChutes m (Searching at) ready r (m .graph .next) executing′ locked′ (m .graph .waits) (ready .nodes) within)
 
     module _ (own : Node) where
-      pub walking-steps : (r : Thread) (next′ : List ℕ) (locked′ : List Bool) → Walks at own (m .next) (m .locked) r next′ locked′
+      pub walking-steps : (r : Thread) (next′ : List ℕ) (locked′ : List Bool) → Walks at own (m .graph .next) (m .graph .locked) r next′ locked′
           → Within r → Nodes next′ → Ready list kinds itemKeys itemChutes m (Walking at own)
-          → Steps list t (Walking at own) m kinds itemKeys itemChutes r (withArrays next′ (m .seq) (m .executing) locked′ (m .waits) (m .free) m)
-      unfolding workerStep setThread
+          → Steps list t (Walking at own) m kinds itemKeys itemChutes r (withArrays next′ (m .graph .seq) (m .graph .executing) locked′ (m .graph .waits) (m .graph .free) m)
+      unfolding workerStep moveTo
       walking-steps r next′ locked′ steps within nodes ready =
-          worker-steps kinds itemKeys itemChutes (Walking at own) r (withArrays next′ (m .seq) (m .executing) locked′ (m .waits) (m .free) m)
+          worker-steps kinds itemKeys itemChutes (Walking at own) r (withArrays next′ (m .graph .seq) (m .graph .executing) locked′ (m .graph .waits) (m .graph .free) m)
           (λ o threads commands capacity is. steps (shown m threads) t refl refl is)
-          (graph-ready list kinds itemKeys itemChutes m (Walking at own) ready r next′ (m .executing) locked′ (m .waits) nodes within)
+          (graph-ready list kinds itemKeys itemChutes m (Walking at own) ready r next′ (m .graph .executing) locked′ (m .graph .waits) nodes within)
 
       pub clearing-steps : (r : Thread) (free′ : ℕ) (next′ seq′ : List ℕ) (executing′ locked′ : List Bool) (waits′ : List (List ℕ)) (kinds′ : List ℕ)
-          → ClearsOn at own (m .free) (m .next) (m .seq) (m .executing) (m .locked) (m .waits) r free′ next′ seq′ executing′ locked′ waits′
+          → ClearsOn at own (m .graph .free) (m .graph .next) (m .graph .seq) (m .graph .executing) (m .graph .locked) (m .graph .waits) r free′ next′ seq′ executing′ locked′ waits′
           → Within r → free′ ≤ 150 → Nodes next′ → Kept (commandsIn list) (numbers seq′) kinds′ itemKeys itemChutes
           → Ready list kinds itemKeys itemChutes m (Clearing at own)
           → Steps list t (Clearing at own) m kinds′ itemKeys itemChutes r (withArrays next′ seq′ executing′ locked′ waits′ free′ m)
-      unfolding workerStep setThread
+      unfolding workerStep moveTo
       clearing-steps r free′ next′ seq′ executing′ locked′ waits′ kinds′ steps within small nodes kept ready =
           worker-steps kinds′ itemKeys itemChutes (Clearing at own) r (withArrays next′ seq′ executing′ locked′ waits′ free′ m)
           (λ o threads commands capacity is.
