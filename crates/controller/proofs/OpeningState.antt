@@ -15,7 +15,8 @@ use Rattle.node_set.proofs.Words.{zeros, no-member-of-zeros}
 use Rattle.model.specs.declared.Thread.the-variants.{Idle}
 use Rattle.model.specs.Store.{layOut}
 use Rattle.model.specs.Setup.{Setup}
-use Rattle.model.specs.Graph.{noNode, firstNext}
+use Rattle.model.specs.Graph.{noNode, firstNext, openedGraph}
+use Rattle.model.specs.Service.{openedService}
 use Rattle.model.specs.Step.{node, opened}
 use Rattle.model.specs.Proof.Tests.{eqb-cases}
 use Rattle.model.specs.declared.Counters.{Counters}
@@ -109,13 +110,15 @@ firstCounters = record { free = node 1; loaded = 0; used = 0 }
 -- the arrays of the opening: the first free list, and everything else 0, false or idle
 pub opened-shown : (o : Setup) (next : List ℕ) → ((n : ℕ) → getD next n 0 ≡ firstNext (o .size) n)
     → Shown firstCounters next (replicate 151 0) (replicate 151 false) (replicate 151 false) (replicate 151 zeros) (replicate 65 Idle) (opened o)
-unfolding opened noNode layOut
+unfolding opened openedGraph openedService noNode layOut
 opened-shown o next is = record {
-  next-is = fun-ext (λ n. sym (is n));
-  seq-is = fun-ext (λ n. sym (constant-at 151 0 n));
-  executing-is = fun-ext (λ n. sym (constant-at 151 false n));
-  locked-is = fun-ext (λ n. sym (constant-at 151 false n));
-  waits-is = fun-ext (λ n. fun-ext (λ y. sym (no-members n y)));
+  graph-is = record {
+    next-is = fun-ext (λ n. sym (is n));
+    seq-is = fun-ext (λ n. sym (constant-at 151 0 n));
+    executing-is = fun-ext (λ n. sym (constant-at 151 false n));
+    locked-is = fun-ext (λ n. sym (constant-at 151 false n));
+    waits-is = fun-ext (λ n. fun-ext (λ y. sym (no-members n y)));
+  };
   threads-are = λ t. sym (constant-at 65 Idle t);
   free-is = refl;
   loaded-is = refl;
@@ -129,7 +132,7 @@ same-lists s k c a = rw (s, k, c, a)
 -- the lists of the opening: its state's bytes, and zeros
 pub opened-lists-are : (o : Setup) {state keys chutes answers : List ℕ} → state ≡ stateBytes o (opened o) → keys ≡ replicate (o .capacity) 0
     → chutes ≡ replicate (o .capacity) 0 → answers ≡ replicate (length (o .commands)) 0 → lists state keys chutes answers ≡ listsOf o (opened o)
-unfolding listsOf opened layOut
+unfolding listsOf opened openedService layOut
 opened-lists-are o s k ch a =
     let whole = as-many-zeros (sym (sub-zero (o .capacity))) in
     same-lists s (k ∙ whole) (ch ∙ whole) (a ∙ sym (tabulate-constant (length (o .commands)) 0))

@@ -85,10 +85,10 @@ pub record Along (commands schedule : List ℕ) (m₀ : Memory) (threads₀ : Li
   pub ready : Ready commands kinds itemKeys itemChutes m Idle
   pub within : (t : ℕ) → Within (threadsOf threads t)
   pub all : length threads ≡ 65
-  pub keys-long : length (m .service .keys) ≡ length (m₀ .keys)
-  pub chutes-long : length (m .service .chutes) ≡ length (m₀ .chutes)
-  pub answers-long : length (m .service .answers) ≡ length (m₀ .answers)
-  pub shows : (o : Setup) → o .commands ≡ commandsIn commands → o .capacity ≡ length (m₀ .keys)
+  pub keys-long : length (m .service .keys) ≡ length (m₀ .service .keys)
+  pub chutes-long : length (m .service .chutes) ≡ length (m₀ .service .chutes)
+  pub answers-long : length (m .service .answers) ≡ length (m₀ .service .answers)
+  pub shows : (o : Setup) → o .commands ≡ commandsIn commands → o .capacity ≡ length (m₀ .service .keys)
       → shown m (threadsOf threads) ≡ steps o (take i schedule) (shown m₀ (threadsOf threads₀))
 
 -- ready, with another thread to step
@@ -139,7 +139,7 @@ along-more {schedule} {m₀} {threads₀} {m} {m′} {threads} {i} thread a h hi
     inside = omega (arith, a .all)
 
 -- lists are known by their parts
-pub same-lists : (l m : Lists) → l .state ≡ m .state → l .answers ≡ m .service .answers → l .keys ≡ m .service .keys → l .chutes ≡ m .service .chutes → l ≡ m
+pub same-lists : (l m : Lists) → l .state ≡ m .state → l .answers ≡ m .answers → l .keys ≡ m .keys → l .chutes ≡ m .chutes → l ≡ m
 same-lists l m state answers keys chutes = λ i. record { state = state i; answers = answers i; keys = keys i; chutes = chutes i }
 
 -- after the last step, the bytes written and the lists are those of the state that the arrays show
@@ -151,11 +151,7 @@ unfolding listsOf
 performed {commands} {schedule} {m₀} {threads₀} {threads} {i} c k next seq executing locked waits keys chutes answers bytes a h lays o sets cs cap =
     let now = shown (memory next seq executing locked waits keys chutes answers k) (threadsOf threads) in
     let sh : Shown k next seq executing locked waits threads now = record {
-      next-is = refl;
-      seq-is = refl;
-      executing-is = refl;
-      locked-is = refl;
-      waits-is = refl;
+      graph-is = record { next-is = refl; seq-is = refl; executing-is = refl; locked-is = refl; waits-is = refl };
       threads-are = λ t. refl;
       free-is = refl;
       loaded-is = refl;

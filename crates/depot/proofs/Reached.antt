@@ -38,7 +38,7 @@ use Rattle.depot.proofs.Output.{output-performed}
 report-of : (commands : List ℕ) (o : Setup) (s : State) → stateIn (listsOf o s) ≡ s
     → report commands (listsOf o s) ≡ commandLines commands (tabulate (length (o .commands)) (λ i. s .service .answers (suc i))) ++ totals s
 unfolding report
-report-of commands o s e = ap (λ (t : State). commandLines commands (listsOf o s .service .answers) ++ totals t) e ∙ ap (λ (a : List ℕ). commandLines commands a ++ totals s) (lists-answers o s)
+report-of commands o s e = ap (λ (t : State). commandLines commands (listsOf o s .answers) ++ totals t) e ∙ ap (λ (a : List ℕ). commandLines commands a ++ totals s) (lists-answers o s)
 
 -- the calls, one after the other
 pub prints-reached : PrintsReached

@@ -54,7 +54,7 @@ commandLines commands answers =
 
 -- "then `store`, entries used, `chain`, records linked"
 unfoldable pub totals : State → List ℕ
-totals s = ascii "store " ++ decimal (s .service .store .used) ++ ascii " chain " ++ decimal (length (chainFrom 150 0 s)) ++ newline
+totals s = ascii "store " ++ decimal (s .service .store .used) ++ ascii " chain " ++ decimal (length (chainFrom 150 0 (s .graph))) ++ newline
 
 -- all lines, from the lists that the calls leave
 unfoldable pub report : List ℕ → Lists → List ℕ

@@ -114,7 +114,7 @@ ended-counts f (suc k) each = ap₂ _∷_ (sym (each 0)) (ended-counts (λ i. f 
 -- ---- the report is what the walk counts
 
 abbrev counts : State → ℕ → ℕ → List ℕ
-counts s k x = map (λ (n : ℕ). countBelow 192 (s .graph .waits n)) (chainFrom k x s) ++ replicate (k - length (chainFrom k x s)) 0
+counts s k x = map (λ (n : ℕ). countBelow 192 (s .graph .waits n)) (chainFrom k x (s .graph)) ++ replicate (k - length (chainFrom k x (s .graph))) 0
 
 -- behind the last node there are zeros
 counts-end : (s : State) (k x : ℕ) → eqb (s .graph .next x) 0 ≡ true → counts s (suc k) x ≡ replicate (suc k) 0
@@ -131,7 +131,7 @@ counts-next : (s : State) (k x : ℕ) → eqb (s .graph .next x) 0 ≡ false →
 unfolding chainFrom
 counts-next s k x e =
     let y : ℕ = s .graph .next x in
-    rw e (ap (λ (m : ℕ). countBelow 192 (s .graph .waits y) ∷ (map (λ (n : ℕ). countBelow 192 (s .graph .waits n)) (chainFrom k y s) ++ replicate m 0)) (one-less k (length (chainFrom k y s))))
+    rw e (ap (λ (m : ℕ). countBelow 192 (s .graph .waits y) ∷ (map (λ (n : ℕ). countBelow 192 (s .graph .waits n)) (chainFrom k y (s .graph)) ++ replicate m 0)) (one-less k (length (chainFrom k y (s .graph)))))
 
 -- and so it is by the walk
 walked-first : (s : State) (k y : ℕ) → eqb y 0 ≡ false → tabulate (suc k) (walkedCount s y) ≡ countBelow 192 (s .graph .waits y) ∷ tabulate k (walkedCount s (s .graph .next y))

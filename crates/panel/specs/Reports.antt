@@ -39,7 +39,7 @@ reportLeft number report old = cond (eqb number 0) report old
 unfoldable pub pendingCounts : State → List ℕ
 unfolding chainFrom countBelow
 pendingCounts s =
-    let nodes : List ℕ = chainFrom 150 0 s in
+    let nodes : List ℕ = chainFrom 150 0 (s .graph) in
     map (λ (n : ℕ). countBelow 192 (s .graph .waits n)) nodes ++ replicate (150 - length nodes) 0
 
 -- ---- worker status

@@ -99,18 +99,18 @@ module _ (o : Setup) (s : State) where
     workers = rw state (lies-number 1 (o .workers) (omega (arith, fo .workers)) (part-lies o s 1 (omega arith)));
     capacity = rw state (lies-number 2 (o .capacity) (omega (arith, fo .capacity)) (part-lies o s 2 (omega arith)));
     count = rw state (lies-number 2 (length (o .commands)) (omega (arith, fo .count)) (part-lies o s 3 (omega arith)));
-    loaded = rw state (lies-number 2 (s .graph .loaded) (omega (arith, fo .count, fs .loaded-fits)) (part-lies o s 4 (omega arith)));
-    used = rw state (lies-number 2 (s .service .store .used) (omega (arith, fo .capacity, fs .used-fits)) (part-lies o s 5 (omega arith)));
-    free = rw state (lies-number 1 (s .graph .free) (omega (arith, fo .size, fs .free-fits)) (part-lies o s 6 (omega arith)));
-    next = λ n h. rw state (byte-read _ (λ m. bytes-length 1 (s .graph .next m)) 11 (part-lies o s 7 (omega arith)) n h ∙ ap (λ (r : List ℕ). getD r 0 0) (one-byte (s .graph .next n) (omega (arith, fo .size, fs .next-fits n))));
-    seq = λ n h. rw state (lies-number 2 (s .graph .seq n) (omega (arith, fo .count, fs .seq-fits n)) (lies-field 2 151 _ (λ m. bytes-length 2 (s .graph .seq m)) (part-lies o s 8 (omega arith)) n h));
+    loaded = rw state (lies-number 2 (s .graph .loaded) (omega (arith, fo .count, fs .graph .loaded)) (part-lies o s 4 (omega arith)));
+    used = rw state (lies-number 2 (s .service .store .used) (omega (arith, fo .capacity, fs .service .store .used-fits)) (part-lies o s 5 (omega arith)));
+    free = rw state (lies-number 1 (s .graph .free) (omega (arith, fo .size, fs .graph .free)) (part-lies o s 6 (omega arith)));
+    next = λ n h. rw state (byte-read _ (λ m. bytes-length 1 (s .graph .next m)) 11 (part-lies o s 7 (omega arith)) n h ∙ ap (λ (r : List ℕ). getD r 0 0) (one-byte (s .graph .next n) (omega (arith, fo .size, fs .graph .next n .0))));
+    seq = λ n h. rw state (lies-number 2 (s .graph .seq n) (omega (arith, fo .count, fs .graph .seq n .0)) (lies-field 2 151 _ (λ m. bytes-length 2 (s .graph .seq m)) (part-lies o s 8 (omega arith)) n h));
     executing = λ n h. rw state (byte-read _ (λ m. flag-length (s .graph .executing m)) 464 (part-lies o s 9 (omega arith)) n h ∙ flag-read (s .graph .executing n));
     locked = λ n h. rw state (byte-read _ (λ m. flag-length (s .graph .locked m)) 615 (part-lies o s 10 (omega arith)) n h ∙ flag-read (s .graph .locked n));
     waits = λ n h. rw state (set-read n h);
     tag = λ t h. rw state (thread-read t h 0 (omega arith) (4390 + 5 * t) (omega arith));
     at = λ t h. rw state (thread-read t h 1 (omega arith) (4391 + 5 * t) (omega arith));
     own = λ t h. rw state (thread-read t h 2 (omega arith) (4392 + 5 * t) (omega arith));
-    found = λ t h. rw state (found-read t h (found-fits (o .size) (s .threads t) (fs .threads-fit t)));
+    found = λ t h. rw state (found-read t h (found-fits (o .size) (s .threads t) (fs .threads t .0)));
     answers = answers;
     keys = keys;
     chutes = chutes;
@@ -121,7 +121,7 @@ module _ (o : Setup) (s : State) where
   unfolding listsOf
   lists-state = refl
 
-  pub lists-answers : listsOf o s .service .answers ≡ tabulate (length (o .commands)) (λ i. s .service .answers (suc i))
+  pub lists-answers : listsOf o s .answers ≡ tabulate (length (o .commands)) (λ i. s .service .answers (suc i))
   unfolding listsOf
   lists-answers = refl
 
@@ -232,16 +232,16 @@ thread-fits size t (Clearing at own) h r = both (both (both (both (both (both re
 module _ (o : Setup) (s : State) (fo : SetupFormed o) (fs : Formed o s) (l : Lists) (laid : Laid o s l) where
   -- the answers are kept from the first command on, and are 0 before and past them
   read-answer : (c : ℕ) → getD (0 ∷ l .answers) c 0 ≡ s .service .answers c
-  read-answer zero = sym (fs .answers-none)
+  read-answer zero = sym (fs .service .answers 0 .0 refl)
   read-answer (suc i) =
       let given : ℕ → ℕ = λ j. s .service .answers (suc j) in
       rw (laid .answers)
       (below-or-past i (length (o .commands)) (tabulate-at (length (o .commands)) given 0 i)
-      (λ h. tabulate-past (length (o .commands)) given 0 i h ∙ sym (fs .answers-past (suc i) (omega arith))))
+      (λ h. tabulate-past (length (o .commands)) given 0 i h ∙ sym (fs .service .answers (suc i) .1 (omega arith))))
 
   -- a set has no member past the graph size, so its words are all of it
   read-member : (n y : ℕ) → n < 151 → member (setAt (l .state) n) y ≡ s .graph .waits n y
-  read-member n y h = rw (laid .waits n h) (members-of-words (s .graph .waits n) (λ z past. fails (s .graph .waits n z) (λ e. omega (arith, fo .size, fs .waits-fit n z e))) y)
+  read-member n y h = rw (laid .waits n h) (members-of-words (s .graph .waits n) (λ z past. fails (s .graph .waits n z) (λ e. omega (arith, fo .size, fs .graph .waits n .0 z e))) y)
 
   -- a thread is made of its parts
   read-thread : (t : ℕ) → t < 65 → threadAt (l .state) t ≡ s .threads t
@@ -252,16 +252,17 @@ module _ (o : Setup) (s : State) (fo : SetupFormed o) (fs : Formed o s) (l : Lis
   pub read-state : stateIn l ≡ s
   unfolding stateIn
   read-state = λ i. record {
-    next = fun-ext (λ n. first-and-past 151 n _ 0 (s .graph .next n) (laid .next n) (fs .next-past n)) i;
-    seq = fun-ext (λ n. first-and-past 151 n _ 0 (s .graph .seq n) (laid .seq n) (fs .seq-past n)) i;
-    executing = fun-ext (λ n. first-and-past 151 n _ false (s .graph .executing n) (λ h. flag-again _ _ (laid .executing n h)) (fs .executing-past n)) i;
-    locked = fun-ext (λ n. first-and-past 151 n _ false (s .graph .locked n) (λ h. flag-again _ _ (laid .locked n h)) (fs .locked-past n)) i;
-    waits = fun-ext (λ n. fun-ext (λ y. first-and-past 151 n _ false (s .graph .waits n y) (read-member n y) (fs .waits-past n y))) i;
+    graph = record {
+    next = fun-ext (λ n. first-and-past 151 n _ 0 (s .graph .next n) (laid .next n) (fs .graph .next n .1)) i;
+    seq = fun-ext (λ n. first-and-past 151 n _ 0 (s .graph .seq n) (laid .seq n) (fs .graph .seq n .1)) i;
+    executing = fun-ext (λ n. first-and-past 151 n _ false (s .graph .executing n) (λ h. flag-again _ _ (laid .executing n h)) (fs .graph .executing n)) i;
+    locked = fun-ext (λ n. first-and-past 151 n _ false (s .graph .locked n) (λ h. flag-again _ _ (laid .locked n h)) (fs .graph .locked n)) i;
+    waits = fun-ext (λ n. fun-ext (λ y. first-and-past 151 n _ false (s .graph .waits n y) (read-member n y) (fs .graph .waits n .1 y))) i;
     free = laid .free i;
     loaded = laid .loaded i;
-    threads = fun-ext (λ t. first-and-past 65 t _ Idle (s .threads t) (read-thread t) (fs .threads-past t)) i;
-    store = record { keys = laid .keys i; chutes = laid .chutes i; used = laid .used i };
-    answers = fun-ext read-answer i;
+    };
+    threads = fun-ext (λ t. first-and-past 65 t _ Idle (s .threads t) (read-thread t) (fs .threads t .1)) i;
+    service = record { store = record { keys = laid .keys i; chutes = laid .chutes i; used = laid .used i }; answers = fun-ext read-answer i };
   }
 
   pub read-setup : (commands : List ℕ) → o .commands ≡ commandsIn commands → setupIn (l .state) commands ≡ o
@@ -279,31 +280,31 @@ module _ (o : Setup) (s : State) (fo : SetupFormed o) (fs : Formed o s) (l : Lis
   unfolding handedBackFit lengthsFit setupIn countIn stateLength
   fit-handed-back commands long =
       rw (laid .capacity, laid .count)
-      (both (both (both (both (eq-eqb _ _ (laid .long)) (eq-eqb _ _ (ap length (laid .answers) ∙ tabulate-length _ _))) (eq-eqb _ _ (ap length (laid .keys) ∙ fs .keys-length)))
-      (eq-eqb _ _ (ap length (laid .chutes) ∙ fs .chutes-length))) (eq-eqb _ _ long))
+      (both (both (both (both (eq-eqb _ _ (laid .long)) (eq-eqb _ _ (ap length (laid .answers) ∙ tabulate-length _ _))) (eq-eqb _ _ (ap length (laid .keys) ∙ fs .service .store .keys-length)))
+      (eq-eqb _ _ (ap length (laid .chutes) ∙ fs .service .store .chutes-length))) (eq-eqb _ _ long))
 
   -- its nodes and threads are within the graph size
   member-fits : (n : ℕ) → n < 151 → (y : ℕ) → y < 192 → (not (member (setAt (l .state) n) y) || leb y (o .size)) ≡ true
-  member-fits n h y _ = rw (read-member n y h) (implied (s .graph .waits n y) (leb y (o .size)) (λ e. le-leb y (o .size) (fs .waits-fit n y e)))
+  member-fits n h y _ = rw (read-member n y h) (implied (s .graph .waits n y) (leb y (o .size)) (λ e. le-leb y (o .size) (fs .graph .waits n .0 y e)))
 
   node-fits : (n : ℕ) → n < 151 → nodeFitsAt (l .state) (o .size) (length (o .commands)) n ≡ true
   node-fits n h =
       rw (node-tests (l .state) (o .size) (length (o .commands)) n, laid .next n h, laid .seq n h, laid .executing n h, laid .locked n h)
-      (both (both (both (both (le-leb _ _ (fs .next-fits n)) (le-leb _ _ (fs .seq-fits n))) (flag-small (s .graph .executing n))) (flag-small (s .graph .locked n)))
+      (both (both (both (both (le-leb _ _ (fs .graph .next n .0)) (le-leb _ _ (fs .graph .seq n .0))) (flag-small (s .graph .executing n))) (flag-small (s .graph .locked n)))
       (set-tests (setAt (l .state) n) (o .size) ∙ each-all-below 192 _ (member-fits n h)))
 
   thread-fits-at : (t : ℕ) → t < 65 → threadFitsAt (l .state) (o .size) t ≡ true
   unfolding threadFitsAt
   thread-fits-at t h =
       rw (laid .tag t h, laid .at t h, laid .own t h, laid .found t h)
-      (thread-fits (o .size) t (s .threads t) (fs .threads-fit t) (role-fits t (s .threads t) (λ e. rw e (fs .loader)) (fs .worker t)))
+      (thread-fits (o .size) t (s .threads t) (fs .threads t .0) (role-fits t (s .threads t) (fs .threads t .2) (fs .threads t .3)))
 
   -- and every test of the state passes
   pub fit-state : 1 ≤ o .size → 1 ≤ o .workers → 1 ≤ o .capacity → ascends (s .service .store .used) (s .service .store .keys) ≡ true → stateFits l ≡ true
   fit-state some-size some-workers some-capacity ascending =
       rw (state-tests l, read-count, laid .size, laid .workers, laid .capacity, laid .loaded, laid .free, laid .used, laid .keys)
-      (both (both (both (both (both (both settings (le-leb _ _ (fs .loaded-fits))) (le-leb _ _ (fs .free-fits)))
-      (each-all-below 151 _ node-fits)) (each-all-below 65 _ thread-fits-at)) (le-leb _ _ (fs .used-fits))) ascending)
+      (both (both (both (both (both (both settings (le-leb _ _ (fs .graph .loaded))) (le-leb _ _ (fs .graph .free)))
+      (each-all-below 151 _ node-fits)) (each-all-below 65 _ thread-fits-at)) (le-leb _ _ (fs .service .store .used-fits))) ascending)
     where
       settings : settingsFit (o .size) (o .workers) (o .capacity) (length (o .commands)) ≡ true
       settings = settings-fit (o .size) (o .workers) (o .capacity) (length (o .commands)) (some-size, fo .size) (some-workers, fo .workers) (some-capacity, fo .capacity) (fo .count)

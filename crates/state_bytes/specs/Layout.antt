@@ -106,16 +106,20 @@ countIn b = numberAt 2 4 b
 unfoldable pub stateIn : Lists → State
 unfolding numberAt setAt threadAt member
 stateIn l = record {
-  next = λ n. cond (ltb n 151) (getD (l .state) (11 + n) 0) 0;
-  seq = λ n. cond (ltb n 151) (numberAt 2 (162 + 2 * n) (l .state)) 0;
-  executing = λ n. cond (ltb n 151) (eqb (getD (l .state) (464 + n) 0) 1) false;
-  locked = λ n. cond (ltb n 151) (eqb (getD (l .state) (615 + n) 0) 1) false;
-  waits = λ n y. cond (ltb n 151) (member (setAt (l .state) n) y) false;
-  free = numberAt 1 10 (l .state);
-  loaded = numberAt 2 6 (l .state);
+  graph = record {
+    next = λ n. cond (ltb n 151) (getD (l .state) (11 + n) 0) 0;
+    seq = λ n. cond (ltb n 151) (numberAt 2 (162 + 2 * n) (l .state)) 0;
+    executing = λ n. cond (ltb n 151) (eqb (getD (l .state) (464 + n) 0) 1) false;
+    locked = λ n. cond (ltb n 151) (eqb (getD (l .state) (615 + n) 0) 1) false;
+    waits = λ n y. cond (ltb n 151) (member (setAt (l .state) n) y) false;
+    free = numberAt 1 10 (l .state);
+    loaded = numberAt 2 6 (l .state);
+  };
   threads = λ t. cond (ltb t 65) (threadAt (l .state) t) Idle;
-  store = record { keys = l .keys; chutes = l .chutes; used = numberAt 2 8 (l .state) };
-  answers = λ c. getD (0 ∷ l .answers) c 0;
+  service = record {
+    store = record { keys = l .keys; chutes = l .chutes; used = numberAt 2 8 (l .state) };
+    answers = λ c. getD (0 ∷ l .answers) c 0;
+  };
 }
 
 -- ---- refusal 6

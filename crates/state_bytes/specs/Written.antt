@@ -9,7 +9,7 @@ use Rattle.model.specs.declared.Thread.the-variants.{Idle}
 use Rattle.model.specs.Setup.{Setup}
 use Rattle.model.specs.Step.{State}
 use Rattle.model.specs.declared.Counters.{Counters}
-use Rattle.graph.specs.Arrays.{numbers, flags, sets}
+use Rattle.graph.specs.Arrays.{Shows}
 use Rattle.state_bytes.specs.declared.Settings.{Settings}
 use Rattle.state_bytes.specs.Layout.{stateBytes}
 
@@ -22,11 +22,7 @@ pub record Sets (c : Settings) (o : Setup) : Type 0 where
 
 -- the state's graph, threads and counters
 pub record Shown (k : Counters) (next seq : List ℕ) (executing locked : List Bool) (waits : List (List ℕ)) (threads : List Thread) (s : State) : Type 0 where
-  pub next-is : s .graph .next ≡ numbers next
-  pub seq-is : s .graph .seq ≡ numbers seq
-  pub executing-is : s .graph .executing ≡ flags executing
-  pub locked-is : s .graph .locked ≡ flags locked
-  pub waits-is : s .graph .waits ≡ sets waits
+  pub graph-is : Shows (s .graph) next seq executing locked waits
   pub threads-are : (t : ℕ) → s .threads t ≡ getD threads t Idle
   pub free-is : s .graph .free ≡ k .free .0
   pub loaded-is : s .graph .loaded ≡ k .loaded
