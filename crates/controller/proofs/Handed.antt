@@ -124,13 +124,13 @@ module _ (l : Lists) {k : Counters} {next seq : List ℕ} {executing locked : Li
   unfolding stateIn
   read-shows = λ i. record {
     graph = record {
-    next = fun-ext (λ n. ap (λ (a : List ℕ). getD a n 0) (r .next-is) ∙ tabulate-cond 151 _ 0 n) i;
-    seq = fun-ext (λ n. ap (λ (a : List ℕ). getD a n 0) (r .seq-is) ∙ tabulate-cond 151 _ 0 n) i;
-    executing = fun-ext (λ n. ap (λ (a : List Bool). getD a n false) (r .executing-is) ∙ tabulate-cond 151 _ false n) i;
-    locked = fun-ext (λ n. ap (λ (a : List Bool). getD a n false) (r .locked-is) ∙ tabulate-cond 151 _ false n) i;
-    waits = fun-ext (λ n. fun-ext (λ y. ap (λ (a : List (List ℕ)). member (getD a n []) y) (r .waits-is) ∙ set-cond (setAt (l .state)) n y)) i;
-    free = r .counters .free-is i;
-    loaded = r .counters .loaded-is i;
+      next = fun-ext (λ n. ap (λ (a : List ℕ). getD a n 0) (r .next-is) ∙ tabulate-cond 151 _ 0 n) i;
+      seq = fun-ext (λ n. ap (λ (a : List ℕ). getD a n 0) (r .seq-is) ∙ tabulate-cond 151 _ 0 n) i;
+      executing = fun-ext (λ n. ap (λ (a : List Bool). getD a n false) (r .executing-is) ∙ tabulate-cond 151 _ false n) i;
+      locked = fun-ext (λ n. ap (λ (a : List Bool). getD a n false) (r .locked-is) ∙ tabulate-cond 151 _ false n) i;
+      waits = fun-ext (λ n. fun-ext (λ y. ap (λ (a : List (List ℕ)). member (getD a n []) y) (r .waits-is) ∙ set-cond (setAt (l .state)) n y)) i;
+      free = r .counters .free-is i;
+      loaded = r .counters .loaded-is i;
     };
     threads = fun-ext (λ t. ap (λ (a : List Thread). getD a t Idle) (r .threads-are) ∙ tabulate-cond 65 _ Idle t) i;
     service = record { store = record { keys = l .keys; chutes = l .chutes; used = r .counters .used-is i }; answers = λ c. getD (0 ∷ l .answers) c 0 };

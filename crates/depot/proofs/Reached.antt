@@ -57,7 +57,7 @@ decimal-zero = refl
 empty-chain : (s : State) (n : ℕ) → s .graph .next 0 ≡ 0 → s .service .store .used ≡ n → totals s ≡ ascii "store " ++ decimal n ++ ascii " chain 0\n"
 unfolding totals
 empty-chain s n none used =
-    rw (chain-ends 150 0 s none, used, decimal-zero, append-assoc (ascii "store " ++ decimal n ++ ascii " chain ") (ascii "0") newline)
+    rw (chain-ends 150 0 (s .graph) none, used, decimal-zero, append-assoc (ascii "store " ++ decimal n ++ ascii " chain ") (ascii "0") newline)
     (append-assoc (ascii "store " ++ decimal n) (ascii " chain ") (ascii "0\n"))
 
 -- the serial run's answer at a place
@@ -75,7 +75,7 @@ pub prints-serial : PrintsSerial
 prints-serial input p all =
     let o = setupOf input in
     let accepted = accepted-opening (sizeOf input) (workersOf input) (capacityOf input) (commandsOf input) _ (p .lists) (p .opens) .setup in
-    let answers = tabulate-is (length (o .commands)) (λ i. reached input .answers (suc i)) (serialAnswers (o .capacity) (o .commands)) 0
+    let answers = tabulate-is (length (o .commands)) (λ i. reached input .service .answers (suc i)) (serialAnswers (o .capacity) (o .commands)) 0
     (serial-length (o .capacity) (o .commands)) (λ i h. all-serial o accepted (scheduleOf input) (p .named) all (suc i) (omega arith) (omega arith) ∙ serial-at o i) in
     let table = demand-3 o accepted (scheduleOf input) (p .named) .table all .1 in
     prints-reached input p ∙ ap₂ (λ (a t : List ℕ). commandLines (commandsOf input) a ++ t) answers

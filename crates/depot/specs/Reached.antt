@@ -38,7 +38,7 @@ pub record Passes (input : List ℕ) : Type 0 where
 abbrev pub PrintsReached : Type 0
 PrintsReached =
     (input : List ℕ) → Passes input
-    → output input ≡ commandLines (commandsOf input) (tabulate (length (setupOf input .commands)) (λ i. reached input .answers (suc i))) ++ totals (reached input)
+    → output input ≡ commandLines (commandsOf input) (tabulate (length (setupOf input .commands)) (λ i. reached input .service .answers (suc i))) ++ totals (reached input)
 
 -- Demand 3 in what is printed: once every command is removed, whatever turns were dealt, the answers are the serial run's, `store` gives the
 -- number of its entries, and no record is linked.

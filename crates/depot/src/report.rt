@@ -92,7 +92,7 @@ fn put_lines(out: &mut [u8], commands: &[u8], answers: &[u16]) -> usize
 // The next index of a node.
 fn next_of(state: &[u8], node: usize) -> usize
     requires { ⌜ length (now state) ≡ 4715 ⌝ }
-    ensures { λ r. ⌜ r ≡ stateIn (lists (now (state .entry)) [] [] []) .next node ⌝ }
+    ensures { λ r. ⌜ r ≡ stateIn (lists (now (state .entry)) [] [] []) .graph .next node ⌝ }
 {
     if node < NODES {
         state[NEXT + node] as usize
@@ -104,7 +104,7 @@ fn next_of(state: &[u8], node: usize) -> usize
 // How many nodes the chain has.
 fn chain_length(state: &[u8]) -> usize
     requires { ⌜ length (now state) ≡ 4715 ⌝ }
-    ensures { λ r. ⌜ r ≡ length (chainFrom 150 0 (stateIn (lists (now (state .entry)) [] [] []))) ⌝ }
+    ensures { λ r. ⌜ r ≡ length (chainFrom 150 0 (stateIn (lists (now (state .entry)) [] [] []) .graph)) ⌝ }
     ensures { λ r. ⌜ r ≤ 150 ⌝ }
 {
     let mut node = 0;

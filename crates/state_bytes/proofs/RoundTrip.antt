@@ -253,13 +253,13 @@ module _ (o : Setup) (s : State) (fo : SetupFormed o) (fs : Formed o s) (l : Lis
   unfolding stateIn
   read-state = λ i. record {
     graph = record {
-    next = fun-ext (λ n. first-and-past 151 n _ 0 (s .graph .next n) (laid .next n) (fs .graph .next n .1)) i;
-    seq = fun-ext (λ n. first-and-past 151 n _ 0 (s .graph .seq n) (laid .seq n) (fs .graph .seq n .1)) i;
-    executing = fun-ext (λ n. first-and-past 151 n _ false (s .graph .executing n) (λ h. flag-again _ _ (laid .executing n h)) (fs .graph .executing n)) i;
-    locked = fun-ext (λ n. first-and-past 151 n _ false (s .graph .locked n) (λ h. flag-again _ _ (laid .locked n h)) (fs .graph .locked n)) i;
-    waits = fun-ext (λ n. fun-ext (λ y. first-and-past 151 n _ false (s .graph .waits n y) (read-member n y) (fs .graph .waits n .1 y))) i;
-    free = laid .free i;
-    loaded = laid .loaded i;
+      next = fun-ext (λ n. first-and-past 151 n _ 0 (s .graph .next n) (laid .next n) (fs .graph .next n .1)) i;
+      seq = fun-ext (λ n. first-and-past 151 n _ 0 (s .graph .seq n) (laid .seq n) (fs .graph .seq n .1)) i;
+      executing = fun-ext (λ n. first-and-past 151 n _ false (s .graph .executing n) (λ h. flag-again _ _ (laid .executing n h)) (fs .graph .executing n)) i;
+      locked = fun-ext (λ n. first-and-past 151 n _ false (s .graph .locked n) (λ h. flag-again _ _ (laid .locked n h)) (fs .graph .locked n)) i;
+      waits = fun-ext (λ n. fun-ext (λ y. first-and-past 151 n _ false (s .graph .waits n y) (read-member n y) (fs .graph .waits n .1 y))) i;
+      free = laid .free i;
+      loaded = laid .loaded i;
     };
     threads = fun-ext (λ t. first-and-past 65 t _ Idle (s .threads t) (read-thread t) (fs .threads t .1)) i;
     service = record { store = record { keys = laid .keys i; chutes = laid .chutes i; used = laid .used i }; answers = fun-ext read-answer i };

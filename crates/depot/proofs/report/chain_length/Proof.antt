@@ -10,7 +10,7 @@ use Rattle.depot.proofs.report.chain_length.Statement.{statement}
 use Rattle.depot.proofs.report.chain_length.Tie as tie
 
 abbrev Inv-loop : tie.InvT-loop
-Inv-loop state node₀ count₀ node count = Walked (stateIn (lists state [] [] [])) node count
+Inv-loop state node₀ count₀ node count = Walked (stateIn (lists state [] [] []) .graph) node count
 
 abbrev μ-loop : tie.MeasureT-loop
 μ-loop state node₀ count₀ node count = 150 - count
