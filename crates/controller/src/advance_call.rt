@@ -3,7 +3,7 @@ ghost use mathlib.Core.Path.{_≡_};
 ghost use lib.ListN.{length};
 ghost use Rattle.model.specs.Step.{steps};
 ghost use Rattle.graph.specs.Memory.{memory};
-ghost use Rattle.state_bytes.specs.Layout.{lists, listsOf, setupIn, stateIn, stateLength};
+ghost use Rattle.state_bytes.specs.Layout.{lists, atEntry, atExit, listsOf, setupIn, stateIn, stateLength};
 ghost use Rattle.controller.specs.Calls.{numberOf, kept, advanceNumber, advanceOn};
 ghost use Rattle.controller.specs.Performed.{CountersIn, SettingsIn, Passes, Performs, Performed};
 use model::Counters;
@@ -49,8 +49,8 @@ pub fn advance(
     commands: &[u8],
     schedule: &[u8],
 ) -> Advancing
-    ensures number { λ r. ⌜ advanceNumber r ≡ numberOf (advanceOn (lists (now (state .entry)) (now (keys .entry)) (now (chutes .entry)) (now (answers .entry))) (now (commands .entry)) (now (schedule .entry))) ⌝ }
-    ensures left { λ r. ⌜ lists (now (state .exit)) (now (keys .exit)) (now (chutes .exit)) (now (answers .exit)) ≡ kept (advanceOn (lists (now (state .entry)) (now (keys .entry)) (now (chutes .entry)) (now (answers .entry))) (now (commands .entry)) (now (schedule .entry))) (lists (now (state .entry)) (now (keys .entry)) (now (chutes .entry)) (now (answers .entry))) ⌝ }
+    ensures number { λ r. ⌜ advanceNumber r ≡ numberOf (advanceOn (atEntry state keys chutes answers) (now (commands .entry)) (now (schedule .entry))) ⌝ }
+    ensures left { λ r. ⌜ atExit state keys chutes answers ≡ kept (advanceOn (atEntry state keys chutes answers) (now (commands .entry)) (now (schedule .entry))) (atEntry state keys chutes answers) ⌝ }
 {
     if !lengths_fit(
         state,
@@ -107,7 +107,7 @@ fn run(
     schedule: &[u8],
 )
     requires { ⌜ Passes (lists (now state) (now keys) (now chutes) (now answers)) (now commands) (now schedule) ⌝ }
-    ensures { λ _. ⌜ lists (now (state .exit)) (now (keys .exit)) (now (chutes .exit)) (now (answers .exit)) ≡ listsOf (setupIn (now (state .entry)) (now (commands .entry))) (steps (setupIn (now (state .entry)) (now (commands .entry))) (now (schedule .entry)) (stateIn (lists (now (state .entry)) (now (keys .entry)) (now (chutes .entry)) (now (answers .entry))))) ⌝ }
+    ensures { λ _. ⌜ atExit state keys chutes answers ≡ listsOf (setupIn (now (state .entry)) (now (commands .entry))) (steps (setupIn (now (state .entry)) (now (commands .entry))) (now (schedule .entry)) (stateIn (atEntry state keys chutes answers))) ⌝ }
 {
     let settings = settings_in(state);
     let counters = counters_in(state);
@@ -168,7 +168,7 @@ fn perform(
     mut threads: [Thread; 65],
 )
     requires { ⌜ Performs (now state) (now commands) (now schedule) kinds «item_keys» «item_chutes» (memory next seq executing locked waits (now keys) (now chutes) (now answers) counters) threads ⌝ }
-    ensures { λ _. ⌜ Performed settings (now (commands .entry)) (now (schedule .entry)) (memory next seq executing locked waits (now (keys .entry)) (now (chutes .entry)) (now (answers .entry)) counters) threads (lists (now (state .exit)) (now (keys .exit)) (now (chutes .exit)) (now (answers .exit))) ⌝ }
+    ensures { λ _. ⌜ Performed settings (now (commands .entry)) (now (schedule .entry)) (memory next seq executing locked waits (now (keys .entry)) (now (chutes .entry)) (now (answers .entry)) counters) threads (atExit state keys chutes answers) ⌝ }
 {
     let mut i = 0;
     while i < schedule.len() {

@@ -4,6 +4,8 @@ use Prim.Native.Nat.{ℕ, suc, _+_, _*_}
 use mathlib.Core.Bool.{Bool, true, false, cond, not, _&&_, _||_}
 use mathlib.Core.List.{List, [], _∷_, _++_}
 use lib.ListN.{length, getD}
+use denote.Ref.{RefT}
+use denote.Triple.Both.{Both}
 use lib.Dec.{eqb, leb, ltb}
 use Rattle.node_set.specs.Members.{member, wordOf}
 use Rattle.model.specs.declared.Thread.{Thread}
@@ -24,6 +26,16 @@ pub record Lists : Type 0 where
 
 abbrev pub lists : List ℕ → List ℕ → List ℕ → List ℕ → Lists
 lists state keys chutes answers = record { state = state; answers = answers; keys = keys; chutes = chutes }
+
+-- a list that a call is lent, and all four of them as they are at the call's entry and at its exit
+abbrev pub Lent : Type 0
+Lent = Both (RefT (List ℕ)) (RefT (List ℕ))
+
+abbrev pub atEntry : Lent → Lent → Lent → Lent → Lists
+atEntry state keys chutes answers = lists (state .entry .now) (keys .entry .now) (chutes .entry .now) (answers .entry .now)
+
+abbrev pub atExit : Lent → Lent → Lent → Lent → Lists
+atExit state keys chutes answers = lists (state .exit .now) (keys .exit .now) (chutes .exit .now) (answers .exit .now)
 
 unfoldable pub stateLength : ℕ
 stateLength = 4715
