@@ -3,6 +3,7 @@
 
 PREFIX ?= /usr/local
 archive = target/staticlib/libdepot_c.a
+sources = crates.txt $(shell find crates -name '*.rt' -o -name '*.antt')
 prefix = $(DESTDIR)$(abspath $(PREFIX))
 
 # The program on document 01's example: two commands, five steps of the loader, fifteen of worker 1.
@@ -26,8 +27,10 @@ edits:
 bench: $(archive)
 	DEPOT_LIB_DIR=$(CURDIR)/target/staticlib cargo run --offline --release --quiet --manifest-path bench/Cargo.toml
 
-$(archive):
+# Made again when a source changed; making it proves it.
+$(archive): $(sources)
 	rt staticlib depot_c
+	@touch $@
 
 # The C side below PREFIX: header, archive and pkg-config file. DESTDIR, if given, goes before it.
 install: $(archive)

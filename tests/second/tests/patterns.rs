@@ -1,0 +1,76 @@
+//! Dealing by a repeated pattern: which never finish, and that plain round-robin does. Demand 3
+//! promises that some further dealing finishes, and not that every repeated pattern does; these
+//! are the examples that README.md and the header name.
+
+use second::command::{Command, Kind};
+use second::random::Random;
+use second::run::{Run, Settings};
+
+fn settings(size: u8, workers: u8, room: u16) -> Settings {
+    Settings {
+        size,
+        workers,
+        room,
+    }
+}
+
+fn command(kind: Kind, key: u64, chute: u16) -> Command {
+    Command { kind, key, chute }
+}
+
+/// Whether a pattern, repeated so many times from the opening, has at some turn removed every
+/// command and left every party idle.
+fn finishes(settings: Settings, commands: &[Command], pattern: &[u8], times: usize) -> bool {
+    let mut run = Run::open(settings, commands.to_vec());
+    pattern.repeat(times).into_iter().any(|party| {
+        run.turn(party);
+        run.is_finished()
+    })
+}
+
+/// The loader's turn always falls while the worker stands on the head, so nothing is ever loaded;
+/// the other pattern gives each party as many turns and finishes.
+#[test]
+fn a_fair_pattern_can_starve_the_loader() {
+    let one = [command(Kind::Insert, 0, 7)];
+    assert!(!finishes(settings(2, 1, 4), &one, &[1, 0, 1], 100_000));
+    assert!(finishes(settings(2, 1, 4), &one, &[0, 1, 1], 100));
+}
+
+/// Two turns each, one party after the other: at graph size 1 the second command is never loaded,
+/// while one turn each finishes.
+#[test]
+fn two_turns_each_can_hang() {
+    let two = [command(Kind::Insert, 0, 7), command(Kind::Read, 0, 0)];
+    assert!(!finishes(settings(1, 1, 4), &two, &[0, 0, 1, 1], 100_000));
+    assert!(!finishes(settings(1, 1, 4), &two, &[1, 1, 0, 0], 100_000));
+    assert!(finishes(settings(1, 1, 4), &two, &[0, 1], 100));
+}
+
+/// Plain round-robin, one turn each, finishes within n (2 w + s + 6) + 2 rounds.
+#[test]
+fn round_robin_finishes() {
+    let mut random = Random::new(20261115);
+    for case in 0..2000 {
+        let size = 1 + random.below(20) as u8;
+        let workers = 1 + random.below(8) as u8;
+        let count = random.below(41) as usize;
+        let keys = 1 + random.below(6);
+        let commands: Vec<Command> = (0..count)
+            .map(|_| match random.below(4) {
+                0 => command(Kind::Insert, random.below(keys), 7),
+                1 => command(Kind::Delete, random.below(keys), 0),
+                2 => command(Kind::Read, random.below(keys), 0),
+                _ => command(Kind::Update, random.below(keys), 9),
+            })
+            .collect();
+        let first = random.below(u64::from(workers) + 1) as u8;
+        let round: Vec<u8> = (0..=workers).map(|i| (first + i) % (workers + 1)).collect();
+        let rounds = count * (2 * usize::from(workers) + usize::from(size) + 6) + 2;
+        let settings = settings(size, workers, 4);
+        assert!(
+            finishes(settings, &commands, &round, rounds) || count == 0,
+            "case {case}: {settings:?}, {commands:?}, {round:?}"
+        );
+    }
+}
