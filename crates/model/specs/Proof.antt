@@ -10,3 +10,4 @@ pub mod Chain
 pub mod Formed
 pub mod Finish
 pub mod Theorem
+pub mod Bounds
