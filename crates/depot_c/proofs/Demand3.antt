@@ -1,0 +1,143 @@
+-- Demand 3 over the calls of the belt host, proved: the numbers of the lists that calls reach fit their bytes, so the byte lists kept are
+-- always read as the lists of the state that the performed schedules reach, and the three parts are those over calls on numbers. Assumes nothing.
+use Prim.Native.Nat.{ℕ, zero, suc, _+_, _-_, _*_, _%_, _^_, _≤_, _<_}
+use native.Mathlib.Omega.{arith}
+use mathlib.Core.Path.{_≡_, refl, sym, ap, _∙_}
+use mathlib.Core.Logic.{⊎-elim}
+use mathlib.Core.Bool.{Bool, true, false, cond}
+use mathlib.Core.List.{List, [], _∷_, _++_, append-assoc, append-nil}
+use mathlib.Core.Option.{none, some}
+use lib.ListN.{length, getD, take, drop}
+use lib.Dec.{eqb, ltb}
+use borrow.Author.Tests.{eq-eqb, lt-ltb}
+use Rattle.s10.specs.Text.{largestKey}
+use Rattle.command.specs.declared.Command.{Command}
+use Rattle.command.specs.Read.{commandsIn}
+use Rattle.command.proofs.Laws.{list-key-is-at-most-largest}
+use Rattle.model.specs.declared.Thread.the-variants.{Idle}
+use Rattle.model.specs.Serial.{serialEntries}
+use Rattle.model.specs.Store.{Store, layOut}
+use Rattle.model.specs.Step.{Setup, State, opened, commandAt, steps}
+use Rattle.model.specs.Statement.{Accepted, allWithin}
+use Rattle.model.specs.Proof.Tests.{none-some, eqb-cases}
+use Rattle.model.specs.Proof.Bounds.{reached-keys, reached-answers}
+use Rattle.state_bytes.specs.Bytes.{numberAt}
+use Rattle.state_bytes.specs.Layout.{Lists, threadBytes, stateBytes, listsOf, stateIn}
+use Rattle.state_bytes.proofs.Bytes.{below-or-past, lies-taken, lies-field, tabulate-length, tabulate-at, tabulate-past}
+use Rattle.state_bytes.proofs.StateParts.{thread-length, part-lies}
+use Rattle.state_bytes.proofs.RoundTrip.{lists-state, lists-answers, lists-keys, lists-chutes}
+use Rattle.controller.specs.Calls.{Outcome, accepted, openOn, advanceOn}
+use Rattle.controller.specs.Demand3.{Call}
+use Rattle.controller.proofs.AcceptedOpening.{IsOpened, accepted-opening}
+use Rattle.controller.proofs.Demand3.{Reach, opening-reaches, formed, accepted-reaches, holds}
+use Rattle.depot_c.specs.Numbers.{bytesIn}
+use Rattle.depot_c.specs.Boundary.{areWhole, entries, decoded, encoded, answerOf, left, openAnswer, openLeft, advanceAnswer, advanceLeft}
+use Rattle.depot_c.specs.Demand3.{answerTo, afterCall, after, Proper, schedules, answerAt, TableIs, IsIdle, HoldsAfter, Demand3}
+use Rattle.depot_c.proofs.Entries.{bytes-in-length, number-read-again, numbers-read-again}
+use Rattle.depot_c.proofs.Outcomes.{decoded-whole}
+use Rattle.depot_c.proofs.Accepted.{accepted-answers, opening-accepted, advance-accepted}
+
+-- ---- lists of numbers and their bytes
+
+-- each number fits its bytes
+pub record Bounded (l : Lists) : Type 0 where
+  pub keys : (i : ℕ) → getD (l .keys) i 0 < 256 ^ 8
+  pub chutes : (i : ℕ) → getD (l .chutes) i 0 < 256 ^ 2
+  pub answers : (i : ℕ) → getD (l .answers) i 0 < 256 ^ 2
+
+-- bytes of numbers end with a number
+encoded-whole : (l : Lists) → areWhole (length (encoded l .keys)) (length (encoded l .chutes)) (length (encoded l .answers)) ≡ true
+unfolding areWhole encoded
+encoded-whole l =
+    let keys = eq-eqb (length (bytesIn 8 (l .keys)) % 8) 0 (omega (arith, bytes-in-length 8 (l .keys))) in
+    let chutes = eq-eqb (length (bytesIn 2 (l .chutes)) % 2) 0 (omega (arith, bytes-in-length 2 (l .chutes))) in
+    let answers = eq-eqb (length (bytesIn 2 (l .answers)) % 2) 0 (omega (arith, bytes-in-length 2 (l .answers))) in
+    rw (keys, chutes, answers)
+
+-- lists whose numbers fit are those that their bytes write
+pub decoded-again : (l : Lists) → Bounded l → decoded (encoded l) ≡ l
+unfolding entries encoded
+decoded-again l fit =
+    decoded-whole (encoded l) (encoded-whole l)
+    ∙ rw (numbers-read-again 8 (l .keys) (omega arith) (fit .keys), numbers-read-again 2 (l .chutes) (omega arith) (fit .chutes), numbers-read-again 2 (l .answers) (omega arith) (fit .answers))
+
+-- ---- what calls reach
+
+-- a command's key fits eight bytes
+key-fits : (commands : List ℕ) (k : ℕ) (c : Command) → commandAt (commandsIn commands) k ≡ some c → c .key < 256 ^ 8
+unfolding commandAt largestKey
+key-fits commands zero c at = absurd (none-some none refl at)
+key-fits commands (suc i) c at = omega (arith, list-key-is-at-most-largest commands i c at)
+
+module _ (o : Setup) (acc : Accepted o) (commands : List ℕ) (same : o .commands ≡ commandsIn commands) (long : length commands ≡ 16 * length (o .commands)) where
+  -- the numbers of a reached state's lists fit: each key is a command's or 0, and an answer is at most 1003
+  state-bounded : (ts : List ℕ) → allWithin (o .workers) ts ≡ true → Bounded (listsOf o (steps o ts (opened o)))
+  state-bounded ts within =
+      let s : State = steps o ts (opened o) in
+      let given : ℕ → ℕ = λ j. s .answers (suc j) in
+      record {
+        keys = λ i. rw (lists-keys o s) (reached-keys o acc ts within (λ n. n < 256 ^ 8) (omega arith) (λ k c at. key-fits commands k c (rw same at at)) i);
+        chutes = λ i. rw (lists-chutes o s) (omega (arith, formed o acc ts within .chutes-fit i));
+        answers = λ i. rw (lists-answers o s)
+            (below-or-past i (length (o .commands))
+            (λ h. rw (tabulate-at (length (o .commands)) given 0 i h) (omega (arith, reached-answers o acc ts within (suc i) (omega arith) (omega arith))))
+            (λ h. rw (tabulate-past (length (o .commands)) given 0 i h) (omega arith)));
+      }
+
+  -- so lists that calls reach are read back from their bytes
+  pub reached-again : (l : Lists) (ts : List ℕ) → Reach o l ts → decoded (encoded l) ≡ l
+  reached-again l ts r = rw (r .1) (decoded-again (listsOf o (steps o ts (opened o))) (state-bounded ts (r .0)))
+
+  -- the byte lists are those of lists that a schedule reaches
+  record BytesReach (b : Lists) (ts : List ℕ) : Type 0 where
+    lists : Lists
+    bytes : b ≡ encoded lists
+    reach : Reach o lists ts
+
+  -- what is read of them is these lists
+  read-reached : (b : Lists) (ts : List ℕ) (r : BytesReach b ts) → decoded b ≡ r .lists
+  read-reached b ts r = ap decoded (r .bytes) ∙ reached-again (r .lists) ts (r .reach)
+
+  -- an accepted call adds its schedule, and leaves the bytes of the lists reached
+  accepted-call : (b : Lists) (ts schedule : List ℕ) → BytesReach b ts → advanceAnswer b commands schedule ≡ 0 → BytesReach (advanceLeft b commands schedule) (ts ++ schedule)
+  unfolding left
+  accepted-call b ts schedule r e =
+      let a = advance-accepted (decoded b) commands schedule e in
+      record {
+        lists = a .0;
+        bytes = ap (λ (x : Outcome). left x b) (a .1);
+        reach = accepted-reaches o acc commands same long (r .lists) (a .0) ts schedule (r .reach) (ap (λ (l : Lists). advanceOn l commands schedule) (sym (read-reached b ts r)) ∙ a .1);
+      }
+
+  -- a refused call leaves the byte lists
+  call-reaches : (call : Call) (b : Lists) (ts : List ℕ) → (answerTo call ≡ 0 → (call .lists ≡ b) × (call .commands ≡ commands)) → BytesReach b ts
+      → BytesReach (afterCall call b) (ts ++ cond (eqb (answerTo call) 0) (call .schedule) [])
+  unfolding answerTo afterCall
+  call-reaches call b ts proper r = ⊎-elim zero-answer other-answer (eqb-cases (answerTo call) 0)
+    where
+      zero-answer : (answerTo call ≡ 0) × (eqb (answerTo call) 0 ≡ true) → BytesReach (afterCall call b) (ts ++ cond (eqb (answerTo call) 0) (call .schedule) [])
+      zero-answer e =
+          let handed = proper (e .0) in
+          rw (e .1, handed .0, handed .1) (accepted-call b ts (call .schedule) r (rw (handed .0, handed .1) at (e .0)))
+
+      other-answer : (answerTo call ≡ 0 → ⊥) × (eqb (answerTo call) 0 ≡ false) → BytesReach (afterCall call b) (ts ++ cond (eqb (answerTo call) 0) (call .schedule) [])
+      other-answer e = rw (e .1, append-nil ts) r
+
+  -- call by call
+  calls-reach : (calls : List Call) (b : Lists) (ts : List ℕ) → BytesReach b ts → Proper commands b calls → BytesReach (after calls b) (ts ++ schedules calls)
+  unfolding after schedules
+  calls-reach [] b ts r proper = rw append-nil r
+  calls-reach (call ∷ calls) b ts r proper =
+      let performed : List ℕ = cond (eqb (answerTo call) 0) (call .schedule) [] in
+      rw (← append-assoc ts performed (schedules calls))
+      (calls-reach calls (afterCall call b) (ts ++ performed) (call-reaches call b ts (proper .0) r) (proper .1))
+
+  -- ---- the three parts
+
+  -- an idle thread's bytes are laid out in the lists of a state
+  idle-laid : (ts : List ℕ) (t : ℕ) → t < 65 → steps o ts (opened o) .threads t ≡ Idle → IsIdle t (encoded (listsOf o (steps o ts (opened o))))
+  unfolding encoded
+  idle-laid ts t h e =
+      let s : State = steps o ts (opened o) in
+      rw (lists-state o s, ← e)
+      (lies-taken 5 (thread-length (s .threads t)) (lies-field 5 65 (λ i. threadBytes (s .threads i)) (λ i. thread-length (s .threads i)) (part-lies o s 12 (omega arith)) t h))
