@@ -127,7 +127,7 @@ module _ (o : Setup) (acc : Accepted o) (commands : List ℕ) (same : o .command
 
   module _ (l : Lists) (ts : List ℕ) (r : Reach o l ts) where
     -- what is read of the lists is the reached state
-    state-is : stateIn l ≡ steps o ts (opened o)
+    pub state-is : stateIn l ≡ steps o ts (opened o)
     state-is = rw (r .1) (read-back o acc ts (r .0))
 
     answer-is : (c : ℕ) → getD (0 ∷ l .answers) c 0 ≡ steps o ts (opened o) .answers c

@@ -18,7 +18,7 @@ use Rattle.model.specs.declared.Thread.the-variants.{Idle}
 use Rattle.model.specs.Serial.{serialEntries}
 use Rattle.model.specs.Store.{Store, layOut}
 use Rattle.model.specs.Step.{Setup, State, opened, commandAt, steps}
-use Rattle.model.specs.Statement.{Accepted, allWithin}
+use Rattle.model.specs.Statement.{Accepted, allWithin, EachCommand}
 use Rattle.model.specs.Proof.Tests.{none-some, eqb-cases}
 use Rattle.model.specs.Proof.Bounds.{reached-keys, reached-answers}
 use Rattle.state_bytes.specs.Bytes.{numberAt}
@@ -29,7 +29,7 @@ use Rattle.state_bytes.proofs.RoundTrip.{lists-state, lists-answers, lists-keys
 use Rattle.controller.specs.Calls.{Outcome, accepted, openOn, advanceOn}
 use Rattle.controller.specs.Demand3.{Call}
 use Rattle.controller.proofs.AcceptedOpening.{IsOpened, accepted-opening}
-use Rattle.controller.proofs.Demand3.{Reach, opening-reaches, formed, accepted-reaches, holds}
+use Rattle.controller.proofs.Demand3.{Reach, opening-reaches, formed, accepted-reaches, state-is, holds}
 use Rattle.depot_c.specs.Numbers.{bytesIn}
 use Rattle.depot_c.specs.Boundary.{areWhole, entries, decoded, encoded, answerOf, left, openAnswer, openLeft, advanceAnswer, advanceLeft}
 use Rattle.depot_c.specs.Demand3.{answerTo, afterCall, after, Proper, schedules, answerAt, TableIs, IsIdle, HoldsAfter, Demand3}
@@ -134,10 +134,69 @@ module _ (o : Setup) (acc : Accepted o) (commands : List ℕ) (same : o .command
 
   -- ---- the three parts
 
-  -- an idle thread's bytes are laid out in the lists of a state
-  idle-laid : (ts : List ℕ) (t : ℕ) → t < 65 → steps o ts (opened o) .threads t ≡ Idle → IsIdle t (encoded (listsOf o (steps o ts (opened o))))
+  -- the bytes of a thread that is read as idle are an idle one's: they are laid out so
+  idle-read : (l : Lists) (ts : List ℕ) → Reach o l ts → (t : ℕ) → t ≤ o .workers → stateIn l .threads t ≡ Idle → IsIdle t (encoded l)
   unfolding encoded
-  idle-laid ts t h e =
+  idle-read l ts r t h e =
       let s : State = steps o ts (opened o) in
-      rw (lists-state o s, ← e)
-      (lies-taken 5 (thread-length (s .threads t)) (lies-field 5 65 (λ i. threadBytes (s .threads i)) (λ i. thread-length (s .threads i)) (part-lies o s 12 (omega arith)) t h))
+      let idle : s .threads t ≡ Idle = ap (λ (x : State). x .threads t) (sym (state-is o acc commands same long l ts r)) ∙ e in
+      let laid = lies-field 5 65 (λ i. threadBytes (s .threads i)) (λ i. thread-length (s .threads i)) (part-lies o s 12 (omega arith)) t (omega (arith, acc .workers)) in
+      rw (r .1, lists-state o s, ← idle) (lies-taken 5 (thread-length (s .threads t)) laid)
+
+  module _ (l : Lists) (ts : List ℕ) (r : Reach o l ts) where
+    -- there is an answer for each command
+    answers-length : length (l .answers) ≡ length (o .commands)
+    answers-length = ap (λ (m : Lists). length (m .answers)) (r .1) ∙ rw (lists-answers o (steps o ts (opened o))) (tabulate-length (length (o .commands)) _)
+
+    -- the two bytes at a command's place are its answer
+    answer-read : EachCommand o (λ c. answerAt c (encoded l) ≡ getD (0 ∷ l .answers) c 0)
+    unfolding answerAt encoded
+    answer-read zero low high = absurd (omega arith)
+    answer-read (suc i) low high =
+        let fit : Bounded l = rw (r .1) (state-bounded ts (r .0)) in
+        let place : suc i - 1 ≡ i = omega arith in
+        rw place (number-read-again 2 (l .answers) i (omega (arith, answers-length)) (fit .answers i))
+
+    -- a store read of the lists is the chute table of their bytes
+    table-read : (store : Store) → stateIn l .store ≡ store → TableIs store (encoded l)
+    unfolding stateIn encoded
+    table-read store e = record {
+      keys = ap (λ (st : Store). bytesIn 8 (st .keys)) e;
+      chutes = ap (λ (st : Store). bytesIn 2 (st .chutes)) e;
+      used = ap (λ (st : Store). st .used) e;
+    }
+
+    -- a call on the bytes is one on the lists
+    call-read : (more : List ℕ) (m : Lists) → advanceOn l commands more ≡ accepted m
+        → (advanceAnswer (encoded l) commands more ≡ 0) × (advanceLeft (encoded l) commands more ≡ encoded m)
+    unfolding left
+    call-read more m e = rw (reached-again l ts r, e) (accepted-answers m, refl)
+
+    -- each part is the one over calls on numbers
+    bytes-hold : HoldsAfter o commands (encoded l) ts
+    bytes-hold =
+        let numbers = holds o acc commands same long l ts r in
+        let f = numbers .finish in
+        let m : Lists = f .1 in
+        let last : Reach o m (ts ++ f .0) = accepted-reaches o acc commands same long l m ts (f .0) r (f .2) in
+        let call = call-read (f .0) m (f .2) in
+        record {
+          answer = λ c low high. answer-read c low high ∙ numbers .answer c low high;
+          table = λ all. (λ c low high. rw (answer-read c low high) (numbers .table all .0 c low high), table-read _ (numbers .table all .1));
+          finish = (f .0, call .0, f .3, λ t h. rw (call .1) (idle-read m (ts ++ f .0) last t h (f .4 t h)));
+        }
+
+-- the opening's byte lists are those of the lists that no step has left, and every proper list of calls goes on from there
+pub demand-3-over-byte-calls : Demand3
+unfolding left
+demand-3-over-byte-calls size workers capacity commands lent b answer is calls proper =
+    let o : Setup = record { size = size; workers = workers; capacity = capacity; commands = commandsIn commands } in
+    let a = opening-accepted size workers capacity commands (decoded lent) answer in
+    let opening : IsOpened o commands (a .0) = accepted-opening size workers capacity commands (decoded lent) (a .0) (a .1) in
+    let first : BytesReach o (opening .setup) commands refl (opening .long) b [] = record {
+      lists = a .0;
+      bytes = sym is ∙ ap (λ (x : Outcome). left x lent) (a .1);
+      reach = opening-reaches o (a .0) (opening .lists);
+    } in
+    let last = calls-reach o (opening .setup) commands refl (opening .long) calls b [] first proper in
+    rw (last .bytes) (bytes-hold o (opening .setup) commands refl (opening .long) (last .lists) (schedules calls) (last .reach))
