@@ -1,39 +1,36 @@
 -- Demand 3 over the calls of the belt host, proved: the numbers of the lists that calls reach fit their bytes, so the byte lists kept are
 -- always read as the lists of the state that the performed schedules reach, and the three parts are those over calls on numbers. Assumes nothing.
-use Prim.Native.Nat.{ℕ, zero, suc, _+_, _-_, _*_, _%_, _^_, _≤_, _<_}
+use Prim.Native.Nat.{ℕ, zero, suc, _-_, _*_, _%_, _^_, _≤_, _<_}
 use native.Mathlib.Omega.{arith}
 use mathlib.Core.Path.{_≡_, refl, sym, ap, _∙_}
-use mathlib.Core.Logic.{⊎-elim}
 use mathlib.Core.Bool.{Bool, true, false, cond}
 use mathlib.Core.List.{List, [], _∷_, _++_, append-assoc, append-nil}
 use mathlib.Core.Option.{none, some}
-use lib.ListN.{length, getD, take, drop}
-use lib.Dec.{eqb, ltb}
-use borrow.Author.Tests.{eq-eqb, lt-ltb}
+use lib.ListN.{length, getD}
+use lib.Dec.{eqb}
+use borrow.Author.Tests.{eq-eqb, eqb-true}
 use Rattle.s10.specs.Text.{largestKey}
 use Rattle.command.specs.declared.Command.{Command}
 use Rattle.command.specs.Read.{commandsIn}
 use Rattle.command.proofs.Laws.{list-key-is-at-most-largest}
 use Rattle.model.specs.declared.Thread.the-variants.{Idle}
-use Rattle.model.specs.Serial.{serialEntries}
-use Rattle.model.specs.Store.{Store, layOut}
+use Rattle.model.specs.Store.{Store}
 use Rattle.model.specs.Step.{Setup, State, opened, commandAt, steps}
 use Rattle.model.specs.Statement.{Accepted, allWithin, EachCommand}
-use Rattle.model.specs.Proof.Tests.{none-some, eqb-cases}
+use Rattle.model.specs.Proof.Tests.{none-some}
 use Rattle.model.specs.Proof.Bounds.{reached-keys, reached-answers}
-use Rattle.state_bytes.specs.Bytes.{numberAt}
-use Rattle.state_bytes.specs.Layout.{Lists, threadBytes, stateBytes, listsOf, stateIn}
+use Rattle.state_bytes.specs.Layout.{Lists, threadBytes, listsOf, stateIn}
 use Rattle.state_bytes.proofs.Bytes.{below-or-past, lies-taken, lies-field, tabulate-length, tabulate-at, tabulate-past}
 use Rattle.state_bytes.proofs.StateParts.{thread-length, part-lies}
 use Rattle.state_bytes.proofs.RoundTrip.{lists-state, lists-answers, lists-keys, lists-chutes}
-use Rattle.controller.specs.Calls.{Outcome, accepted, openOn, advanceOn}
+use Rattle.controller.specs.Calls.{Outcome, accepted, advanceOn}
 use Rattle.controller.specs.Demand3.{Call}
 use Rattle.controller.proofs.AcceptedOpening.{IsOpened, accepted-opening}
 use Rattle.controller.proofs.Demand3.{Reach, opening-reaches, formed, accepted-reaches, state-is, holds}
 use Rattle.depot_c.specs.Numbers.{bytesIn}
-use Rattle.depot_c.specs.Boundary.{areWhole, entries, decoded, encoded, answerOf, left, openAnswer, openLeft, advanceAnswer, advanceLeft}
+use Rattle.depot_c.specs.Boundary.{areWhole, entries, decoded, encoded, left, advanceAnswer, advanceLeft}
 use Rattle.depot_c.specs.Demand3.{answerTo, afterCall, after, Proper, schedules, answerAt, TableIs, IsIdle, HoldsAfter, Demand3}
-use Rattle.depot_c.proofs.Entries.{bytes-in-length, number-read-again, numbers-read-again}
+use Rattle.depot_c.proofs.Entries.{bytes-in-length, number-in-bytes, bytes-in-read-back}
 use Rattle.depot_c.proofs.Outcomes.{decoded-whole}
 use Rattle.depot_c.proofs.Accepted.{accepted-answers, opening-accepted, advance-accepted}
 
@@ -55,11 +52,11 @@ encoded-whole l =
     rw (keys, chutes, answers)
 
 -- lists whose numbers fit are those that their bytes write
-pub decoded-again : (l : Lists) → Bounded l → decoded (encoded l) ≡ l
+pub encoded-read-back : (l : Lists) → Bounded l → decoded (encoded l) ≡ l
 unfolding entries encoded
-decoded-again l fit =
+encoded-read-back l fit =
     decoded-whole (encoded l) (encoded-whole l)
-    ∙ rw (numbers-read-again 8 (l .keys) (omega arith) (fit .keys), numbers-read-again 2 (l .chutes) (omega arith) (fit .chutes), numbers-read-again 2 (l .answers) (omega arith) (fit .answers))
+    ∙ rw (bytes-in-read-back 8 (l .keys) (omega arith) (fit .keys), bytes-in-read-back 2 (l .chutes) (omega arith) (fit .chutes), bytes-in-read-back 2 (l .answers) (omega arith) (fit .answers))
 
 -- ---- what calls reach
 
@@ -85,8 +82,8 @@ module _ (o : Setup) (acc : Accepted o) (commands : List ℕ) (same : o .command
       }
 
   -- so lists that calls reach are read back from their bytes
-  pub reached-again : (l : Lists) (ts : List ℕ) → Reach o l ts → decoded (encoded l) ≡ l
-  reached-again l ts r = rw (r .1) (decoded-again (listsOf o (steps o ts (opened o))) (state-bounded ts (r .0)))
+  pub reached-read-back : (l : Lists) (ts : List ℕ) → Reach o l ts → decoded (encoded l) ≡ l
+  reached-read-back l ts r = rw (r .1) (encoded-read-back (listsOf o (steps o ts (opened o))) (state-bounded ts (r .0)))
 
   -- the byte lists are those of lists that a schedule reaches
   record BytesReach (b : Lists) (ts : List ℕ) : Type 0 where
@@ -96,7 +93,7 @@ module _ (o : Setup) (acc : Accepted o) (commands : List ℕ) (same : o .command
 
   -- what is read of them is these lists
   read-reached : (b : Lists) (ts : List ℕ) (r : BytesReach b ts) → decoded b ≡ r .lists
-  read-reached b ts r = ap decoded (r .bytes) ∙ reached-again (r .lists) ts (r .reach)
+  read-reached b ts r = ap decoded (r .bytes) ∙ reached-read-back (r .lists) ts (r .reach)
 
   -- an accepted call adds its schedule, and leaves the bytes of the lists reached
   accepted-call : (b : Lists) (ts schedule : List ℕ) → BytesReach b ts → advanceAnswer b commands schedule ≡ 0 → BytesReach (advanceLeft b commands schedule) (ts ++ schedule)
@@ -109,19 +106,19 @@ module _ (o : Setup) (acc : Accepted o) (commands : List ℕ) (same : o .command
         reach = accepted-reaches o acc commands same long (r .lists) (a .0) ts schedule (r .reach) (ap (λ (l : Lists). advanceOn l commands schedule) (sym (read-reached b ts r)) ∙ a .1);
       }
 
-  -- a refused call leaves the byte lists
+  -- a refused call adds nothing, and leaves the byte lists
   call-reaches : (call : Call) (b : Lists) (ts : List ℕ) → (answerTo call ≡ 0 → (call .lists ≡ b) × (call .commands ≡ commands)) → BytesReach b ts
       → BytesReach (afterCall call b) (ts ++ cond (eqb (answerTo call) 0) (call .schedule) [])
   unfolding answerTo afterCall
-  call-reaches call b ts proper r = ⊎-elim zero-answer other-answer (eqb-cases (answerTo call) 0)
+  call-reaches call b ts proper r = by (eqb (answerTo call) 0) refl
     where
-      zero-answer : (answerTo call ≡ 0) × (eqb (answerTo call) 0 ≡ true) → BytesReach (afterCall call b) (ts ++ cond (eqb (answerTo call) 0) (call .schedule) [])
-      zero-answer e =
-          let handed = proper (e .0) in
-          rw (e .1, handed .0, handed .1) (accepted-call b ts (call .schedule) r (rw (handed .0, handed .1) at (e .0)))
-
-      other-answer : (answerTo call ≡ 0 → ⊥) × (eqb (answerTo call) 0 ≡ false) → BytesReach (afterCall call b) (ts ++ cond (eqb (answerTo call) 0) (call .schedule) [])
-      other-answer e = rw (e .1, append-nil ts) r
+      by : (t : Bool) → eqb (answerTo call) 0 ≡ t
+          → BytesReach (cond t (advanceLeft (call .lists) (call .commands) (call .schedule)) b) (ts ++ cond t (call .schedule) [])
+      by true e =
+          let zero-answer = eqb-true (answerTo call) 0 e in
+          let handed = proper zero-answer in
+          rw (handed .0, handed .1) (accepted-call b ts (call .schedule) r (rw (handed .0, handed .1) at zero-answer))
+      by false e = rw (append-nil ts) r
 
   -- call by call
   calls-reach : (calls : List Call) (b : Lists) (ts : List ℕ) → BytesReach b ts → Proper commands b calls → BytesReach (after calls b) (ts ++ schedules calls)
@@ -155,7 +152,7 @@ module _ (o : Setup) (acc : Accepted o) (commands : List ℕ) (same : o .command
     answer-read (suc i) low high =
         let fit : Bounded l = rw (r .1) (state-bounded ts (r .0)) in
         let place : suc i - 1 ≡ i = omega arith in
-        rw place (number-read-again 2 (l .answers) i (omega (arith, answers-length)) (fit .answers i))
+        rw place (number-in-bytes 2 (l .answers) i (omega (arith, answers-length)) (fit .answers i))
 
     -- a store read of the lists is the chute table of their bytes
     table-read : (store : Store) → stateIn l .store ≡ store → TableIs store (encoded l)
@@ -170,7 +167,7 @@ module _ (o : Setup) (acc : Accepted o) (commands : List ℕ) (same : o .command
     call-read : (more : List ℕ) (m : Lists) → advanceOn l commands more ≡ accepted m
         → (advanceAnswer (encoded l) commands more ≡ 0) × (advanceLeft (encoded l) commands more ≡ encoded m)
     unfolding left
-    call-read more m e = rw (reached-again l ts r, e) (accepted-answers m, refl)
+    call-read more m e = rw (reached-read-back l ts r, e) (accepted-answers m, refl)
 
     -- each part is the one over calls on numbers
     bytes-hold : HoldsAfter o commands (encoded l) ts

@@ -55,16 +55,16 @@ module _ (k : ℕ) (numbers : List ℕ) where
   bytes-in-length = fields-length k (length numbers) _ (λ i. bytes-length k (getD numbers i 0))
 
   -- a number that fits them is read where they lie
-  pub number-read-again : (i : ℕ) → i < length numbers → getD numbers i 0 < 256 ^ k → numberAt k (k * i) (bytesIn k numbers) ≡ getD numbers i 0
+  pub number-in-bytes : (i : ℕ) → i < length numbers → getD numbers i 0 < 256 ^ k → numberAt k (k * i) (bytesIn k numbers) ≡ getD numbers i 0
   unfolding bytesIn
-  number-read-again i h fits =
+  number-in-bytes i h fits =
       let f : ℕ → List ℕ = λ j. bytesOf k (getD numbers j 0) in
       rw (← zero-add (k * i))
       (lies-number k (getD numbers i 0) fits (lies-field k (length numbers) f (λ j. bytes-length k (getD numbers j 0)) (lies-whole (fields (length numbers) f)) i h))
 
   -- so numbers that all fit are those that their bytes write
-  pub numbers-read-again : 0 < k → ((i : ℕ) → getD numbers i 0 < 256 ^ k) → numbersIn k (bytesIn k numbers) ≡ numbers
+  pub bytes-in-read-back : 0 < k → ((i : ℕ) → getD numbers i 0 < 256 ^ k) → numbersIn k (bytesIn k numbers) ≡ numbers
   unfolding numbersIn
-  numbers-read-again positive fit =
+  bytes-in-read-back positive fit =
       rw (count-of k (length numbers) (bytesIn k numbers) positive bytes-in-length)
-      (tabulate-is (length numbers) _ numbers 0 refl (λ i h. number-read-again i h (fit i)))
+      (tabulate-is (length numbers) _ numbers 0 refl (λ i h. number-in-bytes i h (fit i)))

@@ -1,6 +1,6 @@
--- Demand 3 over the calls of the belt host: "a single claim about the whole list of dealing calls, and not one for each call", in byte lists
--- and answers alone. What `depot_open` and `depot_advance` answer and leave is what their contracts say: `openAnswer`, `openLeft`,
--- `advanceAnswer`, `advanceLeft`. A call is accepted if it answers 0. Assumes nothing.
+-- Demand 3 over the calls of the belt host: "a single claim about the whole list of dealing calls, and not one for each call", said of the
+-- byte lists that it lends and the numbers that it is answered. What `depot_open` and `depot_advance` answer and leave is what their contracts
+-- say: `openAnswer`, `openLeft`, `advanceAnswer` and `advanceLeft`. A call is accepted if it answers 0, and refused if not. Assumes nothing.
 use Prim.Native.Nat.{ℕ, _+_, _-_, _*_, _≤_}
 use mathlib.Core.Path.{_≡_}
 use mathlib.Core.Bool.{true, cond}
@@ -21,45 +21,43 @@ use Rattle.depot_c.specs.Boundary.{openAnswer, openLeft, advanceAnswer, 
 
 -- ---- lists of calls
 
--- what `depot_advance` answers to a call: to the byte lists, the commands and the schedule that it is handed
+-- what `depot_advance` answers to a call, which hands over byte lists, commands and a schedule
 unfoldable pub answerTo : Call → ℕ
 answerTo call = advanceAnswer (call .lists) (call .commands) (call .schedule)
 
--- The byte lists that the host has after a call, having had b: those that an accepted call leaves. "A refused call, even one handed
+-- the byte lists that the host has after a call, where it had b: those that an accepted call leaves. "A refused call, even one handed
 -- something else in their place, leaves run and lists as they were."
 unfoldable pub afterCall : Call → Lists → Lists
 afterCall call b = cond (eqb (answerTo call) 0) (advanceLeft (call .lists) (call .commands) (call .schedule)) b
 
 unfoldable pub after : List Call → Lists → Lists
-unfolding afterCall
 after [] b = b
 after (call ∷ calls) b = after calls (afterCall call b)
 
--- "Each accepted call gets the run and lists as those before it left them": the byte lists b, and the opening's commands
+-- "Each accepted call gets the run and lists as those before it left them": the byte lists b, and the opening's commands. A refused call
+-- may be handed anything.
 abbrev pub Proper : List ℕ → Lists → List Call → Type 0
 Proper commands b [] = Unit {0}
 Proper commands b (call ∷ calls) = (answerTo call ≡ 0 → (call .lists ≡ b) × (call .commands ≡ commands)) × Proper commands (afterCall call b) calls
 
 -- the schedules of the accepted calls, one after the other
 unfoldable pub schedules : List Call → List ℕ
-unfolding answerTo
 schedules [] = []
 schedules (call ∷ calls) = cond (eqb (answerTo call) 0) (call .schedule) [] ++ schedules calls
 
 -- ---- what is read of byte lists
 
--- the answer to command c: two bytes for each command, the first command's first
+-- the answer to command c, from 1 on: the two bytes at its place
 unfoldable pub answerAt : ℕ → Lists → ℕ
-unfolding numberAt
 answerAt c b = numberAt 2 (2 * (c - 1)) (b .answers)
 
--- The chute table is a store: its keys, eight bytes each, its chutes, two bytes each, and how many entries are used, at byte 8 of the run.
+-- the chute table is a store: the bytes of its keys, the bytes of its chutes, and at byte 8 of the run how many entries it uses
 pub record TableIs (store : Store) (b : Lists) : Type 0 where
   pub keys : b .keys ≡ bytesIn 8 (store .keys)
   pub chutes : b .chutes ≡ bytesIn 2 (store .chutes)
   pub used : numberAt 2 8 (b .state) ≡ store .used
 
--- the five bytes of thread t, from byte 4390 of the run on, are those of an idle one
+-- thread t is idle: its five bytes, from byte 4390 of the run on, are an idle one's
 abbrev pub IsIdle : ℕ → Lists → Type 0
 IsIdle t b = take 5 (drop (4390 + 5 * t) (b .state)) ≡ threadBytes Idle
 
