@@ -2,18 +2,20 @@
 use Prim.Native.Nat.{ℕ, zero, suc, _+_, _/_, _≤_, _<_}
 use mathlib.Core.Path.{_≡_, refl, sym, ap, subst}
 use mathlib.Core.Bool.{Bool, true, false, cond, _&&_, or-comm, and-eq-true-iff}
-use mathlib.Core.List.{List, [], _∷_}
+use mathlib.Core.List.{List, [], _∷_, map}
+use mathlib.Core.Option.{some}
 use native.Mathlib.Omega.{arith}
 use borrow.Author.Tests.{leb-true, eqb-true, eqb-false, eq-eqb, ne-eqb}
 use lib.Dec.{eqb, leb}
-use lib.ListN.{length, getD, take, drop, length-map}
+use lib.ListN.{length, getD, getElem?, take, drop, length-map}
+use Rattle.s10.specs.Text.{largestKey}
 use Rattle.s10.specs.Outcome.{readText}
 use Rattle.s10.specs.Outcome as Identifier
 use Rattle.s10.proofs.Laws.{accepted-is-at-most-largest}
 use Rattle.command.specs.declared.Kind.{Kind}
 use Rattle.command.specs.declared.Kind.the-variants.{Insert, Delete, Read, Update}
 use Rattle.command.specs.declared.Command.{Command}
-use Rattle.command.specs.Read.{Outcome, accepted, refused, isKind, kindOf, chuteFits, chuteOf, withChute, readCommand, parts, partsOf, readings, allAccepted, refusedAt, firstRefusal}
+use Rattle.command.specs.Read.{Outcome, accepted, refused, isKind, kindOf, chuteFits, chuteOf, withChute, readCommand, parts, partsOf, readings, allAccepted, refusedAt, firstRefusal, commandFrom, commandsIn}
 use Rattle.command.specs.Dependent.{isInsertOrDelete, isUpdate, areDependent}
 use Rattle.command.specs.Laws.{DependenceIsSymmetric, AcceptedChuteFits, AcceptedChuteIsAtMostLast, AcceptedKeyIsAtMostLargest, AllAccepted, NoRefusalIsAllAccepted, RefusedBeginsInside}
 
@@ -80,6 +82,20 @@ accepted-chute-is-at-most-last part command e = chute-that-fits (command .kind) 
 -- the identifier reader accepted it
 pub accepted-key-is-at-most-largest : AcceptedKeyIsAtMostLargest
 accepted-key-is-at-most-largest part command e = accepted-is-at-most-largest (take 13 (drop 1 part)) (command .key) (accepted-passed part command e .read)
+
+-- so is the key of every command of a list: one that stands for a refused reading has key 0
+pub list-key-is-at-most-largest : (list : List ℕ) (i : ℕ) (command : Command) → getElem? (commandsIn list) i ≡ some command → command .key ≤ largestKey
+unfolding commandsIn readings commandFrom
+list-key-is-at-most-largest list i command = each (partsOf list) i
+  where
+    read : (part : List ℕ) (r : Outcome) → readCommand part ≡ r → commandFrom r .key ≤ largestKey
+    read part (accepted c) e = accepted-key-is-at-most-largest part c e
+    read part (refused n) e = omega arith
+
+    each : (ps : List (List ℕ)) (i : ℕ) → getElem? (map commandFrom (map readCommand ps)) i ≡ some command → command .key ≤ largestKey
+    each [] i e = let z : _≡_ {A = ℕ} 0 1 = cc in absurd (omega arith)
+    each (part ∷ ps) zero e = let same : commandFrom (readCommand part) ≡ command = cc in rw (← same) (read part (readCommand part) refl)
+    each (part ∷ ps) (suc i) e = each ps i e
 
 -- the search ends at the first that is not
 pub no-refusal-is-all-accepted : NoRefusalIsAllAccepted

@@ -68,17 +68,17 @@ unfolding advanceOn
 advance-is l commands schedule o s fit whole setup state = rw (fit, whole, setup, state)
 
 -- the lists are those that a schedule reaches from the opening
-abbrev Reach : Setup → Lists → List ℕ → Type 0
+abbrev pub Reach : Setup → Lists → List ℕ → Type 0
 Reach o l ts = (allWithin (o .workers) ts ≡ true) × (l ≡ listsOf o (steps o ts (opened o)))
 
 -- the opening reaches its lists by no step
-opening-reaches : (o : Setup) (l : Lists) → l ≡ listsOf o (opened o) → Reach o l []
+pub opening-reaches : (o : Setup) (l : Lists) → l ≡ listsOf o (opened o) → Reach o l []
 unfolding allWithin steps
 opening-reaches o l e = (refl, e)
 
 module _ (o : Setup) (acc : Accepted o) (ts : List ℕ) (within : allWithin (o .workers) ts ≡ true) where
   -- a reached state is formed, its keys ascend, and its lists are read as it
-  formed : Formed o (steps o ts (opened o))
+  pub formed : Formed o (steps o ts (opened o))
   formed = steps-formed o (accepted-formed o acc) ts within (opened o) (opened-formed o (acc .size .0) (accepted-formed o acc))
 
   ascending : ascends (steps o ts (opened o) .service .store .used) (steps o ts (opened o) .service .store .keys) ≡ true
@@ -103,7 +103,7 @@ module _ (o : Setup) (acc : Accepted o) (ts : List ℕ) (within : allWithin (o .
 
 module _ (o : Setup) (acc : Accepted o) (commands : List ℕ) (same : o .commands ≡ commandsIn commands) (long : length commands ≡ 16 * length (o .commands)) where
   -- an accepted call adds its schedule
-  accepted-reaches : (l m : Lists) (ts schedule : List ℕ) → Reach o l ts → advanceOn l commands schedule ≡ accepted m → Reach o m (ts ++ schedule)
+  pub accepted-reaches : (l m : Lists) (ts schedule : List ℕ) → Reach o l ts → advanceOn l commands schedule ≡ accepted m → Reach o m (ts ++ schedule)
   accepted-reaches l m ts schedule r e =
       let performed = sym (call-performs o acc ts (r .0) commands same long schedule) ∙ rw (r .1) at e in
       let pass = passed (allWithin (o .workers) schedule) 11 performed in
@@ -128,7 +128,7 @@ module _ (o : Setup) (acc : Accepted o) (commands : List ℕ) (same : o .command
 
   module _ (l : Lists) (ts : List ℕ) (r : Reach o l ts) where
     -- what is read of the lists is the reached state
-    state-is : stateIn l ≡ steps o ts (opened o)
+    pub state-is : stateIn l ≡ steps o ts (opened o)
     state-is = rw (r .1) (read-back o acc ts (r .0))
 
     answer-is : (c : ℕ) → getD (0 ∷ l .answers) c 0 ≡ steps o ts (opened o) .service .answers c
@@ -139,7 +139,7 @@ module _ (o : Setup) (acc : Accepted o) (commands : List ℕ) (same : o .command
     more-accepted more within = rw (r .1) (call-performs o acc ts (r .0) commands same long more ∙ rw within)
 
     -- each part is the model's
-    holds : HoldsAfter o commands l ts
+    pub holds : HoldsAfter o commands l ts
     holds =
         let model : Holds o ts = demand-3 o acc ts (r .0) in
         let f = model .finish in

@@ -1,14 +1,14 @@
--- Laws of lists of numbers as bytes: what the filling and writing loops leave, and that the bytes of the numbers that bytes write are these bytes.
--- Assumes nothing.
-use Prim.Native.Nat.{ℕ, suc, _+_, _*_, _/_, _≤_, _<_}
+-- Laws of lists of numbers as bytes: what the filling and writing loops leave, that the bytes of the numbers that bytes write are these bytes,
+-- and that numbers that fit their bytes are read back. Assumes nothing.
+use Prim.Native.Nat.{ℕ, suc, _+_, _*_, _/_, _^_, _≤_, _<_}
 use native.Mathlib.Nat.{mul-div-cancel-left, mul-le-mul-left, mul-suc, zero-add}
 use native.Mathlib.Omega.{arith}
-use mathlib.Core.Path.{_≡_, sym, ap, _∙_}
+use mathlib.Core.Path.{_≡_, refl, sym, ap, _∙_}
 use mathlib.Core.List.{List}
 use lib.ListN.{length, getD, take, drop}
 use lib.Seq.{take-all}
 use Rattle.state_bytes.specs.Bytes.{bytesOf, numberAt, tabulate, fields}
-use Rattle.state_bytes.proofs.Bytes.{Bytes, bytes-length, number-stands, fields-length, fields-of, tabulate-length, tabulate-at}
+use Rattle.state_bytes.proofs.Bytes.{Bytes, bytes-length, number-stands, lies-whole, lies-number, lies-field, fields-length, fields-of, tabulate-length, tabulate-at, tabulate-is}
 use Rattle.depot_c.specs.Numbers.{numbersIn, bytesIn}
 use Rattle.state_bytes.proofs.Fill.{Filled, filled-all}
 use Rattle.state_bytes.proofs.Paste.{PutFields, fields-all, pasted-whole}
@@ -45,3 +45,26 @@ unfolding bytesIn
 put-numbers k from a long p past =
     let f : ℕ → List ℕ = λ j. bytesOf k (getD from j 0) in
     fields-all p past ∙ pasted-whole (fields (length from) f) a (fields-length k (length from) f (λ j. bytes-length k (getD from j 0)) ∙ sym long)
+
+-- ---- numbers read back
+
+module _ (k : ℕ) (numbers : List ℕ) where
+  -- k bytes for each number
+  pub bytes-in-length : length (bytesIn k numbers) ≡ k * length numbers
+  unfolding bytesIn
+  bytes-in-length = fields-length k (length numbers) _ (λ i. bytes-length k (getD numbers i 0))
+
+  -- a number that fits them is read where they lie
+  pub number-in-bytes : (i : ℕ) → i < length numbers → getD numbers i 0 < 256 ^ k → numberAt k (k * i) (bytesIn k numbers) ≡ getD numbers i 0
+  unfolding bytesIn
+  number-in-bytes i h fits =
+      let f : ℕ → List ℕ = λ j. bytesOf k (getD numbers j 0) in
+      rw (← zero-add (k * i))
+      (lies-number k (getD numbers i 0) fits (lies-field k (length numbers) f (λ j. bytes-length k (getD numbers j 0)) (lies-whole (fields (length numbers) f)) i h))
+
+  -- so numbers that all fit are those that their bytes write
+  pub bytes-in-read-back : 0 < k → ((i : ℕ) → getD numbers i 0 < 256 ^ k) → numbersIn k (bytesIn k numbers) ≡ numbers
+  unfolding numbersIn
+  bytes-in-read-back positive fit =
+      rw (count-of k (length numbers) (bytesIn k numbers) positive bytes-in-length)
+      (tabulate-is (length numbers) _ numbers 0 refl (λ i h. number-in-bytes i h (fit i)))

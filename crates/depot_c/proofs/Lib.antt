@@ -1,3 +1,5 @@
 pub mod Entries
 pub mod Outcomes
 pub mod Reporting
+pub mod Accepted
+pub mod Demand3

@@ -9,7 +9,7 @@ use Rattle.s10.specs.Outcome.{readText}
 use Rattle.s10.specs.Outcome as Identifier
 use Rattle.state_bytes.specs.Bytes.{bytesOf}
 use Rattle.state_bytes.specs.Layout.{Lists, lists, stateIn}
-use Rattle.controller.specs.Calls.{Outcome, accepted, refused, numberOf, placeOf}
+use Rattle.controller.specs.Calls.{Outcome, accepted, refused, numberOf, placeOf, openOn, advanceOn}
 use Rattle.panel.specs.Reports.{pendingCounts, workerStatusBytes, workersIn}
 use Rattle.depot_c.specs.Numbers.{numbersIn, bytesIn}
 use Rattle.depot_c.specs.declared.Wanted.{Wanted}
@@ -43,6 +43,22 @@ answerOf o = numberOf o + 256 * placeOf o
 unfoldable pub left : Outcome → Lists → Lists
 left (accepted l) old = encoded l
 left (refused n place) old = old
+
+-- ---- opening and advancing
+
+-- what `depot_open` answers on the caller's byte lists, and the byte lists that it leaves
+abbrev pub openAnswer : ℕ → ℕ → ℕ → List ℕ → Lists → ℕ
+openAnswer size workers capacity commands b = answerOf (openOn size workers capacity commands (decoded b))
+
+abbrev pub openLeft : ℕ → ℕ → ℕ → List ℕ → Lists → Lists
+openLeft size workers capacity commands b = left (openOn size workers capacity commands (decoded b)) b
+
+-- and `depot_advance`
+abbrev pub advanceAnswer : Lists → List ℕ → List ℕ → ℕ
+advanceAnswer b commands schedule = answerOf (advanceOn (decoded b) commands schedule)
+
+abbrev pub advanceLeft : Lists → List ℕ → List ℕ → Lists
+advanceLeft b commands schedule = left (advanceOn (decoded b) commands schedule) b
 
 -- ---- identifiers
 

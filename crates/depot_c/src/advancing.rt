@@ -2,7 +2,7 @@
 ghost use mathlib.Core.Path.{_≡_};
 ghost use Rattle.state_bytes.specs.Layout.{lists};
 ghost use Rattle.controller.specs.Calls.{advanceOn, advanceNumber};
-ghost use Rattle.depot_c.specs.Boundary.{decoded, entries, answerOf, left, Rooms};
+ghost use Rattle.depot_c.specs.Boundary.{entries, answerOf, left, advanceAnswer, advanceLeft, Rooms};
 use crate::lists::MOST;
 use crate::lists::are_whole;
 use crate::lists::have_room;
@@ -59,8 +59,8 @@ pub extern "C" fn depot_advance(
     commands: &[u8],
     schedule: &[u8],
 ) -> u64
-    ensures number { λ r. ⌜ r ≡ answerOf (advanceOn (decoded (lists (now (state .entry)) (now (keys .entry)) (now (chutes .entry)) (now (answers .entry)))) (now (commands .entry)) (now (schedule .entry))) ⌝ }
-    ensures left { λ r. ⌜ lists (now (state .exit)) (now (keys .exit)) (now (chutes .exit)) (now (answers .exit)) ≡ left (advanceOn (decoded (lists (now (state .entry)) (now (keys .entry)) (now (chutes .entry)) (now (answers .entry)))) (now (commands .entry)) (now (schedule .entry))) (lists (now (state .entry)) (now (keys .entry)) (now (chutes .entry)) (now (answers .entry))) ⌝ }
+    ensures number { λ r. ⌜ r ≡ advanceAnswer (lists (now (state .entry)) (now (keys .entry)) (now (chutes .entry)) (now (answers .entry))) (now (commands .entry)) (now (schedule .entry)) ⌝ }
+    ensures left { λ r. ⌜ lists (now (state .exit)) (now (keys .exit)) (now (chutes .exit)) (now (answers .exit)) ≡ advanceLeft (lists (now (state .entry)) (now (keys .entry)) (now (chutes .entry)) (now (answers .entry))) (now (commands .entry)) (now (schedule .entry)) ⌝ }
 {
     let key_count = keys.len() / 8;
     let chute_count = chutes.len() / 2;

@@ -4,7 +4,7 @@ ghost use mathlib.Core.List.{[]};
 ghost use Prim.Native.Nat.{_+_, _*_, _≤_};
 ghost use Rattle.state_bytes.specs.Layout.{lists};
 ghost use Rattle.controller.specs.Calls.{openOn, openingNumber, openingPlace};
-ghost use Rattle.depot_c.specs.Boundary.{decoded, entries, answerOf, left, Rooms};
+ghost use Rattle.depot_c.specs.Boundary.{entries, answerOf, left, openAnswer, openLeft, Rooms};
 use crate::lists::MOST;
 use crate::lists::are_whole;
 use crate::lists::have_room;
@@ -130,8 +130,8 @@ pub extern "C" fn depot_open(
     workers: u64,
     capacity: u64,
 ) -> u64
-    ensures number { λ r. ⌜ r ≡ answerOf (openOn size workers capacity (now (commands .entry)) (decoded (lists (now (state .entry)) (now (keys .entry)) (now (chutes .entry)) (now (answers .entry))))) ⌝ }
-    ensures left { λ r. ⌜ lists (now (state .exit)) (now (keys .exit)) (now (chutes .exit)) (now (answers .exit)) ≡ left (openOn size workers capacity (now (commands .entry)) (decoded (lists (now (state .entry)) (now (keys .entry)) (now (chutes .entry)) (now (answers .entry))))) (lists (now (state .entry)) (now (keys .entry)) (now (chutes .entry)) (now (answers .entry))) ⌝ }
+    ensures number { λ r. ⌜ r ≡ openAnswer size workers capacity (now (commands .entry)) (lists (now (state .entry)) (now (keys .entry)) (now (chutes .entry)) (now (answers .entry))) ⌝ }
+    ensures left { λ r. ⌜ lists (now (state .exit)) (now (keys .exit)) (now (chutes .exit)) (now (answers .exit)) ≡ openLeft size workers capacity (now (commands .entry)) (lists (now (state .entry)) (now (keys .entry)) (now (chutes .entry)) (now (answers .entry))) ⌝ }
 {
     let key_count = keys.len() / 8;
     let chute_count = chutes.len() / 2;

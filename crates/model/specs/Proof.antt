@@ -11,3 +11,4 @@ pub mod Chain
 pub mod Formed
 pub mod Finish
 pub mod Theorem
+pub mod Bounds

@@ -1,0 +1,59 @@
+-- A call answers 0 exactly if it was accepted: a refusal has a number or a place. Assumes nothing.
+use Prim.Native.Nat.{ℕ, _+_, _/_, _%_, _<_}
+use native.Mathlib.Omega.{arith}
+use mathlib.Core.Path.{_≡_, refl}
+use mathlib.Core.Bool.{_&&_}
+use mathlib.Core.List.{List, [], _∷_}
+use lib.ListN.{length}
+use lib.Dec.{eqb, leb}
+use Rattle.command.specs.Read.{firstRefusal, readings, commandsIn}
+use Rattle.command.specs.Read as Command
+use Rattle.model.specs.Step.{Setup}
+use Rattle.model.specs.Statement.{allWithin}
+use Rattle.model.specs.Proof.Serial.{cond-cases}
+use Rattle.state_bytes.specs.Layout.{Lists, lengthsFit, stateFits, handedBackFit}
+use Rattle.controller.specs.Calls.{Outcome, accepted, refused, numberOf, placeOf, openedWith, openOn, advanceOn}
+use Rattle.depot_c.specs.Boundary.{answerOf}
+
+-- an accepted call answers 0
+pub accepted-answers : (l : Lists) → answerOf (accepted l) ≡ 0
+unfolding answerOf numberOf placeOf
+accepted-answers l = refl
+
+-- an outcome that answers 0 leaves lists
+abbrev pub IsAccepted : Outcome → Type 0
+IsAccepted outcome = answerOf outcome ≡ 0 → (l : Lists) × (outcome ≡ accepted l)
+
+-- a number from 1 on is no answer 0
+refused-number : (n : ℕ) → 0 < n → IsAccepted (refused n 0)
+unfolding answerOf numberOf placeOf
+refused-number n some e = absurd (omega arith)
+
+-- nor is a place from 1 on
+refused-place : (place : ℕ) (rs : List Command.Outcome) (o : Setup) → 0 < place → IsAccepted (openedWith (firstRefusal place rs) o)
+unfolding firstRefusal openedWith answerOf numberOf placeOf
+refused-place place [] o some e = (_, refl)
+refused-place place (Command.accepted command ∷ rs) o some e = refused-place (place + 1) rs o (omega arith) e
+refused-place place (Command.refused n ∷ rs) o some e = absurd (omega arith)
+
+-- test by test
+pub opening-accepted : (size workers capacity : ℕ) (commands : List ℕ) (l : Lists) → IsAccepted (openOn size workers capacity commands l)
+unfolding openOn
+opening-accepted size workers capacity commands l =
+    cond-cases IsAccepted (leb 1 size && leb size 150) (λ _.
+    cond-cases IsAccepted (leb 1 workers && leb workers 64) (λ _.
+    cond-cases IsAccepted (leb 1 capacity && leb capacity 4096) (λ _.
+    cond-cases IsAccepted (eqb (length commands % 16) 0) (λ _.
+    cond-cases IsAccepted (leb (length commands / 16) 4096) (λ _.
+    cond-cases IsAccepted (lengthsFit capacity (length commands / 16) l)
+    (λ _. refused-place 1 (readings commands) (record { size = size; workers = workers; capacity = capacity; commands = commandsIn commands }) (omega arith))
+    (λ _. refused-number 6 (omega arith))) (λ _. refused-number 5 (omega arith))) (λ _. refused-number 4 (omega arith)))
+    (λ _. refused-number 3 (omega arith))) (λ _. refused-number 2 (omega arith))) (λ _. refused-number 1 (omega arith))
+
+pub advance-accepted : (l : Lists) (commands schedule : List ℕ) → IsAccepted (advanceOn l commands schedule)
+unfolding advanceOn
+advance-accepted l commands schedule =
+    cond-cases IsAccepted (handedBackFit l commands) (λ _.
+    cond-cases IsAccepted (stateFits l) (λ _.
+    cond-cases IsAccepted (allWithin _ schedule) (λ _ _. (_, refl))
+    (λ _. refused-number 11 (omega arith))) (λ _. refused-number 12 (omega arith))) (λ _. refused-number 6 (omega arith))

@@ -1,0 +1,199 @@
+-- Demand 3 over the calls of the belt host, proved: the numbers of the lists that calls reach fit their bytes, so the byte lists kept are
+-- always read as the lists of the state that the performed schedules reach, and the three parts are those over calls on numbers. Assumes nothing.
+use Prim.Native.Nat.{ℕ, zero, suc, _-_, _*_, _%_, _^_, _≤_, _<_}
+use native.Mathlib.Omega.{arith}
+use mathlib.Core.Path.{_≡_, refl, sym, ap, _∙_}
+use mathlib.Core.Bool.{Bool, true, false, cond}
+use mathlib.Core.List.{List, [], _∷_, _++_, append-assoc, append-nil}
+use mathlib.Core.Option.{none, some}
+use lib.ListN.{length, getD}
+use lib.Dec.{eqb}
+use borrow.Author.Tests.{eq-eqb, eqb-true}
+use Rattle.s10.specs.Text.{largestKey}
+use Rattle.command.specs.declared.Command.{Command}
+use Rattle.command.specs.Read.{commandsIn}
+use Rattle.command.proofs.Laws.{list-key-is-at-most-largest}
+use Rattle.model.specs.declared.Thread.the-variants.{Idle}
+use Rattle.model.specs.Store.{Store}
+use Rattle.model.specs.Step.{Setup, State, opened, commandAt, steps}
+use Rattle.model.specs.Statement.{Accepted, allWithin, EachCommand}
+use Rattle.model.specs.Proof.Tests.{none-some}
+use Rattle.model.specs.Proof.Bounds.{reached-keys, reached-answers}
+use Rattle.state_bytes.specs.Layout.{Lists, threadBytes, listsOf, stateIn}
+use Rattle.state_bytes.proofs.Bytes.{below-or-past, lies-taken, lies-field, tabulate-length, tabulate-at, tabulate-past}
+use Rattle.state_bytes.proofs.StateParts.{thread-length, part-lies}
+use Rattle.state_bytes.proofs.RoundTrip.{lists-state, lists-answers, lists-keys, lists-chutes}
+use Rattle.controller.specs.Calls.{Outcome, accepted, advanceOn}
+use Rattle.controller.specs.Demand3.{Call}
+use Rattle.controller.proofs.AcceptedOpening.{IsOpened, accepted-opening}
+use Rattle.controller.proofs.Demand3.{Reach, opening-reaches, formed, accepted-reaches, state-is, holds}
+use Rattle.depot_c.specs.Numbers.{bytesIn}
+use Rattle.depot_c.specs.Boundary.{areWhole, entries, decoded, encoded, left, advanceAnswer, advanceLeft}
+use Rattle.depot_c.specs.Demand3.{answerTo, afterCall, after, Proper, schedules, answerAt, TableIs, IsIdle, HoldsAfter, Demand3}
+use Rattle.depot_c.proofs.Entries.{bytes-in-length, number-in-bytes, bytes-in-read-back}
+use Rattle.depot_c.proofs.Outcomes.{decoded-whole}
+use Rattle.depot_c.proofs.Accepted.{accepted-answers, opening-accepted, advance-accepted}
+
+-- ---- lists of numbers and their bytes
+
+-- each number fits its bytes
+pub record Bounded (l : Lists) : Type 0 where
+  pub keys : (i : ℕ) → getD (l .keys) i 0 < 256 ^ 8
+  pub chutes : (i : ℕ) → getD (l .chutes) i 0 < 256 ^ 2
+  pub answers : (i : ℕ) → getD (l .answers) i 0 < 256 ^ 2
+
+-- bytes of numbers end with a number
+encoded-whole : (l : Lists) → areWhole (length (encoded l .keys)) (length (encoded l .chutes)) (length (encoded l .answers)) ≡ true
+unfolding areWhole encoded
+encoded-whole l =
+    let keys = eq-eqb (length (bytesIn 8 (l .keys)) % 8) 0 (omega (arith, bytes-in-length 8 (l .keys))) in
+    let chutes = eq-eqb (length (bytesIn 2 (l .chutes)) % 2) 0 (omega (arith, bytes-in-length 2 (l .chutes))) in
+    let answers = eq-eqb (length (bytesIn 2 (l .answers)) % 2) 0 (omega (arith, bytes-in-length 2 (l .answers))) in
+    rw (keys, chutes, answers)
+
+-- lists whose numbers fit are those that their bytes write
+pub encoded-read-back : (l : Lists) → Bounded l → decoded (encoded l) ≡ l
+unfolding entries encoded
+encoded-read-back l fit =
+    decoded-whole (encoded l) (encoded-whole l)
+    ∙ rw (bytes-in-read-back 8 (l .keys) (omega arith) (fit .keys), bytes-in-read-back 2 (l .chutes) (omega arith) (fit .chutes), bytes-in-read-back 2 (l .answers) (omega arith) (fit .answers))
+
+-- ---- what calls reach
+
+-- a command's key fits eight bytes
+key-fits : (commands : List ℕ) (k : ℕ) (c : Command) → commandAt (commandsIn commands) k ≡ some c → c .key < 256 ^ 8
+unfolding commandAt largestKey
+key-fits commands zero c at = absurd (none-some none refl at)
+key-fits commands (suc i) c at = omega (arith, list-key-is-at-most-largest commands i c at)
+
+module _ (o : Setup) (acc : Accepted o) (commands : List ℕ) (same : o .commands ≡ commandsIn commands) (long : length commands ≡ 16 * length (o .commands)) where
+  -- the numbers of a reached state's lists fit: each key is a command's or 0, and an answer is at most 1003
+  state-bounded : (ts : List ℕ) → allWithin (o .workers) ts ≡ true → Bounded (listsOf o (steps o ts (opened o)))
+  state-bounded ts within =
+      let s : State = steps o ts (opened o) in
+      let given : ℕ → ℕ = λ j. s .answers (suc j) in
+      record {
+        keys = λ i. rw (lists-keys o s) (reached-keys o acc ts within (λ n. n < 256 ^ 8) (omega arith) (λ k c at. key-fits commands k c (rw same at at)) i);
+        chutes = λ i. rw (lists-chutes o s) (omega (arith, formed o acc ts within .chutes-fit i));
+        answers = λ i. rw (lists-answers o s)
+            (below-or-past i (length (o .commands))
+            (λ h. rw (tabulate-at (length (o .commands)) given 0 i h) (omega (arith, reached-answers o acc ts within (suc i) (omega arith) (omega arith))))
+            (λ h. rw (tabulate-past (length (o .commands)) given 0 i h) (omega arith)));
+      }
+
+  -- so lists that calls reach are read back from their bytes
+  pub reached-read-back : (l : Lists) (ts : List ℕ) → Reach o l ts → decoded (encoded l) ≡ l
+  reached-read-back l ts r = rw (r .1) (encoded-read-back (listsOf o (steps o ts (opened o))) (state-bounded ts (r .0)))
+
+  -- the byte lists are those of lists that a schedule reaches
+  record BytesReach (b : Lists) (ts : List ℕ) : Type 0 where
+    lists : Lists
+    bytes : b ≡ encoded lists
+    reach : Reach o lists ts
+
+  -- what is read of them is these lists
+  read-reached : (b : Lists) (ts : List ℕ) (r : BytesReach b ts) → decoded b ≡ r .lists
+  read-reached b ts r = ap decoded (r .bytes) ∙ reached-read-back (r .lists) ts (r .reach)
+
+  -- an accepted call adds its schedule, and leaves the bytes of the lists reached
+  accepted-call : (b : Lists) (ts schedule : List ℕ) → BytesReach b ts → advanceAnswer b commands schedule ≡ 0 → BytesReach (advanceLeft b commands schedule) (ts ++ schedule)
+  unfolding left
+  accepted-call b ts schedule r e =
+      let a = advance-accepted (decoded b) commands schedule e in
+      record {
+        lists = a .0;
+        bytes = ap (λ (x : Outcome). left x b) (a .1);
+        reach = accepted-reaches o acc commands same long (r .lists) (a .0) ts schedule (r .reach) (ap (λ (l : Lists). advanceOn l commands schedule) (sym (read-reached b ts r)) ∙ a .1);
+      }
+
+  -- a refused call adds nothing, and leaves the byte lists
+  call-reaches : (call : Call) (b : Lists) (ts : List ℕ) → (answerTo call ≡ 0 → (call .lists ≡ b) × (call .commands ≡ commands)) → BytesReach b ts
+      → BytesReach (afterCall call b) (ts ++ cond (eqb (answerTo call) 0) (call .schedule) [])
+  unfolding answerTo afterCall
+  call-reaches call b ts proper r = by (eqb (answerTo call) 0) refl
+    where
+      by : (t : Bool) → eqb (answerTo call) 0 ≡ t
+          → BytesReach (cond t (advanceLeft (call .lists) (call .commands) (call .schedule)) b) (ts ++ cond t (call .schedule) [])
+      by true e =
+          let zero-answer = eqb-true (answerTo call) 0 e in
+          let handed = proper zero-answer in
+          rw (handed .0, handed .1) (accepted-call b ts (call .schedule) r (rw (handed .0, handed .1) at zero-answer))
+      by false e = rw (append-nil ts) r
+
+  -- call by call
+  calls-reach : (calls : List Call) (b : Lists) (ts : List ℕ) → BytesReach b ts → Proper commands b calls → BytesReach (after calls b) (ts ++ schedules calls)
+  unfolding after schedules
+  calls-reach [] b ts r proper = rw append-nil r
+  calls-reach (call ∷ calls) b ts r proper =
+      let performed : List ℕ = cond (eqb (answerTo call) 0) (call .schedule) [] in
+      rw (← append-assoc ts performed (schedules calls))
+      (calls-reach calls (afterCall call b) (ts ++ performed) (call-reaches call b ts (proper .0) r) (proper .1))
+
+  -- ---- the three parts
+
+  -- the bytes of a thread that is read as idle are an idle one's: they are laid out so
+  idle-read : (l : Lists) (ts : List ℕ) → Reach o l ts → (t : ℕ) → t ≤ o .workers → stateIn l .threads t ≡ Idle → IsIdle t (encoded l)
+  unfolding encoded
+  idle-read l ts r t h e =
+      let s : State = steps o ts (opened o) in
+      let idle : s .threads t ≡ Idle = ap (λ (x : State). x .threads t) (sym (state-is o acc commands same long l ts r)) ∙ e in
+      let laid = lies-field 5 65 (λ i. threadBytes (s .threads i)) (λ i. thread-length (s .threads i)) (part-lies o s 12 (omega arith)) t (omega (arith, acc .workers)) in
+      rw (r .1, lists-state o s, ← idle) (lies-taken 5 (thread-length (s .threads t)) laid)
+
+  module _ (l : Lists) (ts : List ℕ) (r : Reach o l ts) where
+    -- there is an answer for each command
+    answers-length : length (l .answers) ≡ length (o .commands)
+    answers-length = ap (λ (m : Lists). length (m .answers)) (r .1) ∙ rw (lists-answers o (steps o ts (opened o))) (tabulate-length (length (o .commands)) _)
+
+    -- the two bytes at a command's place are its answer
+    answer-read : EachCommand o (λ c. answerAt c (encoded l) ≡ getD (0 ∷ l .answers) c 0)
+    unfolding answerAt encoded
+    answer-read zero low high = absurd (omega arith)
+    answer-read (suc i) low high =
+        let fit : Bounded l = rw (r .1) (state-bounded ts (r .0)) in
+        let place : suc i - 1 ≡ i = omega arith in
+        rw place (number-in-bytes 2 (l .answers) i (omega (arith, answers-length)) (fit .answers i))
+
+    -- a store read of the lists is the chute table of their bytes
+    table-read : (store : Store) → stateIn l .store ≡ store → TableIs store (encoded l)
+    unfolding stateIn encoded
+    table-read store e = record {
+      keys = ap (λ (st : Store). bytesIn 8 (st .keys)) e;
+      chutes = ap (λ (st : Store). bytesIn 2 (st .chutes)) e;
+      used = ap (λ (st : Store). st .used) e;
+    }
+
+    -- a call on the bytes is one on the lists
+    call-read : (more : List ℕ) (m : Lists) → advanceOn l commands more ≡ accepted m
+        → (advanceAnswer (encoded l) commands more ≡ 0) × (advanceLeft (encoded l) commands more ≡ encoded m)
+    unfolding left
+    call-read more m e = rw (reached-read-back l ts r, e) (accepted-answers m, refl)
+
+    -- each part is the one over calls on numbers
+    bytes-hold : HoldsAfter o commands (encoded l) ts
+    bytes-hold =
+        let numbers = holds o acc commands same long l ts r in
+        let f = numbers .finish in
+        let m : Lists = f .1 in
+        let last : Reach o m (ts ++ f .0) = accepted-reaches o acc commands same long l m ts (f .0) r (f .2) in
+        let call = call-read (f .0) m (f .2) in
+        record {
+          answer = λ c low high. answer-read c low high ∙ numbers .answer c low high;
+          table = λ all. (λ c low high. rw (answer-read c low high) (numbers .table all .0 c low high), table-read _ (numbers .table all .1));
+          finish = (f .0, call .0, f .3, λ t h. rw (call .1) (idle-read m (ts ++ f .0) last t h (f .4 t h)));
+        }
+
+-- the opening's byte lists are those of the lists that no step has left, and every proper list of calls goes on from there
+pub demand-3-over-byte-calls : Demand3
+unfolding left
+demand-3-over-byte-calls size workers capacity commands lent b answer is calls proper =
+    let o : Setup = record { size = size; workers = workers; capacity = capacity; commands = commandsIn commands } in
+    let a = opening-accepted size workers capacity commands (decoded lent) answer in
+    let opening : IsOpened o commands (a .0) = accepted-opening size workers capacity commands (decoded lent) (a .0) (a .1) in
+    let first : BytesReach o (opening .setup) commands refl (opening .long) b [] = record {
+      lists = a .0;
+      bytes = sym is ∙ ap (λ (x : Outcome). left x lent) (a .1);
+      reach = opening-reaches o (a .0) (opening .lists);
+    } in
+    let last = calls-reach o (opening .setup) commands refl (opening .long) calls b [] first proper in
+    rw (last .bytes) (bytes-hold o (opening .setup) commands refl (opening .long) (last .lists) (schedules calls) (last .reach))

@@ -1,0 +1,83 @@
+-- Demand 3 over the calls of the belt host: "a single claim about the whole list of dealing calls, and not one for each call", said of the
+-- byte lists that it lends and the numbers that it is answered. What `depot_open` and `depot_advance` answer and leave is what their contracts
+-- say: `openAnswer`, `openLeft`, `advanceAnswer` and `advanceLeft`. A call is accepted if it answers 0, and refused if not. Assumes nothing.
+use Prim.Native.Nat.{ℕ, _+_, _-_, _*_, _≤_}
+use mathlib.Core.Path.{_≡_}
+use mathlib.Core.Bool.{true, cond}
+use mathlib.Core.List.{List, [], _∷_, _++_}
+use lib.ListN.{take, drop}
+use lib.Dec.{eqb}
+use Rattle.model.specs.declared.Thread.the-variants.{Idle}
+use Rattle.model.specs.Serial.{serialEntries}
+use Rattle.model.specs.Store.{Store, layOut}
+use Rattle.model.specs.Step.{Setup, opened}
+use Rattle.model.specs.Statement.{wrote, removed, EachCommand, serialAnswer}
+use Rattle.command.specs.Read.{commandsIn}
+use Rattle.state_bytes.specs.Bytes.{numberAt}
+use Rattle.state_bytes.specs.Layout.{Lists, threadBytes}
+use Rattle.controller.specs.Demand3.{Call}
+use Rattle.depot_c.specs.Numbers.{bytesIn}
+use Rattle.depot_c.specs.Boundary.{openAnswer, openLeft, advanceAnswer, advanceLeft}
+
+-- ---- lists of calls
+
+-- what `depot_advance` answers to a call, which hands over byte lists, commands and a schedule
+unfoldable pub answerTo : Call → ℕ
+answerTo call = advanceAnswer (call .lists) (call .commands) (call .schedule)
+
+-- the byte lists that the host has after a call, where it had b: those that an accepted call leaves. "A refused call, even one handed
+-- something else in their place, leaves run and lists as they were."
+unfoldable pub afterCall : Call → Lists → Lists
+afterCall call b = cond (eqb (answerTo call) 0) (advanceLeft (call .lists) (call .commands) (call .schedule)) b
+
+unfoldable pub after : List Call → Lists → Lists
+after [] b = b
+after (call ∷ calls) b = after calls (afterCall call b)
+
+-- "Each accepted call gets the run and lists as those before it left them": the byte lists b, and the opening's commands. A refused call
+-- may be handed anything.
+abbrev pub Proper : List ℕ → Lists → List Call → Type 0
+Proper commands b [] = Unit {0}
+Proper commands b (call ∷ calls) = (answerTo call ≡ 0 → (call .lists ≡ b) × (call .commands ≡ commands)) × Proper commands (afterCall call b) calls
+
+-- the schedules of the accepted calls, one after the other
+unfoldable pub schedules : List Call → List ℕ
+schedules [] = []
+schedules (call ∷ calls) = cond (eqb (answerTo call) 0) (call .schedule) [] ++ schedules calls
+
+-- ---- what is read of byte lists
+
+-- the answer to command c, from 1 on: the two bytes at its place
+unfoldable pub answerAt : ℕ → Lists → ℕ
+answerAt c b = numberAt 2 (2 * (c - 1)) (b .answers)
+
+-- the chute table is a store: the bytes of its keys, the bytes of its chutes, and at byte 8 of the run how many entries it uses
+pub record TableIs (store : Store) (b : Lists) : Type 0 where
+  pub keys : b .keys ≡ bytesIn 8 (store .keys)
+  pub chutes : b .chutes ≡ bytesIn 2 (store .chutes)
+  pub used : numberAt 2 8 (b .state) ≡ store .used
+
+-- thread t is idle: its five bytes, from byte 4390 of the run on, are an idle one's
+abbrev pub IsIdle : ℕ → Lists → Type 0
+IsIdle t b = take 5 (drop (4390 + 5 * t) (b .state)) ≡ threadBytes Idle
+
+-- ---- the claim
+
+-- the three parts, of the byte lists that the calls leave and the schedules that were performed
+pub record HoldsAfter (o : Setup) (commands : List ℕ) (b : Lists) (ts : List ℕ) : Type 0 where
+  -- "Each answer is 0 before its command's writing turn, and from that turn on the one that running the whole list of commands [..] gives."
+  pub answer : EachCommand o (λ c. answerAt c b ≡ cond (wrote o c ts (opened o)) (serialAnswer o c) 0)
+  -- "When all commands are removed, every answer is given and the chute table is that run's, entry for entry."
+  pub table : EachCommand o (λ c. removed o c ts (opened o) ≡ true) →
+      EachCommand o (λ c. 1 ≤ answerAt c b) × TableIs (layOut (o .capacity) (serialEntries (o .capacity) (o .commands))) b
+  -- "And some further dealing is accepted and leaves every command removed and every party idle"
+  pub finish : (more : List ℕ) × (advanceAnswer b commands more ≡ 0) × EachCommand o (λ c. removed o c (ts ++ more) (opened o) ≡ true)
+      × ((t : ℕ) → t ≤ o .workers → IsIdle t (advanceLeft b commands more))
+
+-- every opening that `depot_open` answers 0, leaving b, and every proper list of calls from there
+abbrev pub Demand3 : Type 0
+Demand3 =
+    (size workers capacity : ℕ) (commands : List ℕ) (lent b : Lists) →
+    openAnswer size workers capacity commands lent ≡ 0 → openLeft size workers capacity commands lent ≡ b →
+    (calls : List Call) → Proper commands b calls →
+    HoldsAfter (record { size = size; workers = workers; capacity = capacity; commands = commandsIn commands }) commands (after calls b) (schedules calls)
