@@ -8,7 +8,7 @@ use lib.ListN.{length}
 use lib.Dec.{eqb, leb}
 use Rattle.command.specs.Read.{firstRefusal, readings, commandsIn}
 use Rattle.command.specs.Read as Command
-use Rattle.model.specs.Step.{Setup}
+use Rattle.model.specs.Setup.{Setup}
 use Rattle.model.specs.Statement.{allWithin}
 use Rattle.model.specs.Proof.Serial.{cond-cases}
 use Rattle.state_bytes.specs.Layout.{Lists, lengthsFit, stateFits, handedBackFit}

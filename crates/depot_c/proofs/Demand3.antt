@@ -15,7 +15,8 @@ use Rattle.command.specs.Read.{commandsIn}
 use Rattle.command.proofs.Laws.{list-key-is-at-most-largest}
 use Rattle.model.specs.declared.Thread.the-variants.{Idle}
 use Rattle.model.specs.Store.{Store}
-use Rattle.model.specs.Step.{Setup, State, opened, commandAt, steps}
+use Rattle.model.specs.Setup.{Setup, commandAt}
+use Rattle.model.specs.Step.{State, opened, steps}
 use Rattle.model.specs.Statement.{Accepted, allWithin, EachCommand}
 use Rattle.model.specs.Proof.Tests.{none-some}
 use Rattle.model.specs.Proof.Bounds.{reached-keys, reached-answers}
@@ -71,10 +72,10 @@ module _ (o : Setup) (acc : Accepted o) (commands : List ℕ) (same : o .command
   state-bounded : (ts : List ℕ) → allWithin (o .workers) ts ≡ true → Bounded (listsOf o (steps o ts (opened o)))
   state-bounded ts within =
       let s : State = steps o ts (opened o) in
-      let given : ℕ → ℕ = λ j. s .answers (suc j) in
+      let given : ℕ → ℕ = λ j. s .service .answers (suc j) in
       record {
         keys = λ i. rw (lists-keys o s) (reached-keys o acc ts within (λ n. n < 256 ^ 8) (omega arith) (λ k c at. key-fits commands k c (rw same at at)) i);
-        chutes = λ i. rw (lists-chutes o s) (omega (arith, formed o acc ts within .chutes-fit i));
+        chutes = λ i. rw (lists-chutes o s) (omega (arith, formed o acc ts within .service .store .chutes-fit i));
         answers = λ i. rw (lists-answers o s)
             (below-or-past i (length (o .commands))
             (λ h. rw (tabulate-at (length (o .commands)) given 0 i h) (omega (arith, reached-answers o acc ts within (suc i) (omega arith) (omega arith))))
@@ -155,7 +156,7 @@ module _ (o : Setup) (acc : Accepted o) (commands : List ℕ) (same : o .command
         rw place (number-in-bytes 2 (l .answers) i (omega (arith, answers-length)) (fit .answers i))
 
     -- a store read of the lists is the chute table of their bytes
-    table-read : (store : Store) → stateIn l .store ≡ store → TableIs store (encoded l)
+    table-read : (store : Store) → stateIn l .service .store ≡ store → TableIs store (encoded l)
     unfolding stateIn encoded
     table-read store e = record {
       keys = ap (λ (st : Store). bytesIn 8 (st .keys)) e;

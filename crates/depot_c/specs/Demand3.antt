@@ -10,7 +10,8 @@ use lib.Dec.{eqb}
 use Rattle.model.specs.declared.Thread.the-variants.{Idle}
 use Rattle.model.specs.Serial.{serialEntries}
 use Rattle.model.specs.Store.{Store, layOut}
-use Rattle.model.specs.Step.{Setup, opened}
+use Rattle.model.specs.Setup.{Setup}
+use Rattle.model.specs.Step.{opened}
 use Rattle.model.specs.Statement.{wrote, removed, EachCommand, serialAnswer}
 use Rattle.command.specs.Read.{commandsIn}
 use Rattle.state_bytes.specs.Bytes.{numberAt}

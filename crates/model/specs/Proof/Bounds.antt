@@ -13,7 +13,8 @@ use Rattle.command.specs.declared.Command.{Command}
 use Rattle.command.proofs.Laws.{chute-that-fits}
 use Rattle.model.specs.Serial.{Entry, Served, present, chuteAt, serveKind, serve, answersFrom, serialAnswers}
 use Rattle.model.specs.Store.{layOut}
-use Rattle.model.specs.Step.{Setup, opened, commandAt, steps}
+use Rattle.model.specs.Setup.{Setup, commandAt}
+use Rattle.model.specs.Step.{opened, steps}
 use Rattle.model.specs.Statement.{Accepted, allWithin, wrote, EachCommand, serialAnswer}
 use Rattle.model.specs.Proof.Serial.{All, cond-cases, all-putIn, all-takeOut, all-setChute, serve-keeps}
 use Rattle.model.specs.Proof.Service.{entriesOf, entries-keep}
@@ -87,12 +88,12 @@ serial-fits o acc (suc n) =
 module _ (o : Setup) (acc : Accepted o) (ts : List ℕ) (within : allWithin (o .workers) ts ≡ true) where
   -- what holds of 0 and of each command's key holds of each key of the store
   pub reached-keys : (P : ℕ → Type 0) → P 0 → ((k : ℕ) (c : Command) → commandAt (o .commands) k ≡ some c → P (c .key)) → (i : ℕ)
-      → P (getD (steps o ts (opened o) .store .keys) i 0)
+      → P (getD (steps o ts (opened o) .service .store .keys) i 0)
   reached-keys P none own i =
       rw (table-at-any-moment o acc ts within) (keys-each P (o .capacity) _ none (entries-each (λ (e : Entry). P (e .key)) o _ own) i)
 
   -- each answer is 0 or the serial run's
-  pub reached-answers : EachCommand o (λ c. steps o ts (opened o) .answers c ≤ 1003)
+  pub reached-answers : EachCommand o (λ c. steps o ts (opened o) .service .answers c ≤ 1003)
   reached-answers c low high =
       rw (demand-3 o acc ts within .answer c low high)
       (cond-cases (λ (n : ℕ). n ≤ 1003) (wrote o c ts (opened o)) (λ _. serial-fits o acc c) (λ _. omega arith))
