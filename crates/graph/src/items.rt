@@ -9,6 +9,7 @@ ghost use lib.Dec.{eqb};
 ghost use Rattle.command.specs.Read.{readCommand, commandFrom};
 ghost use Rattle.model.specs.Step.{bothDependent};
 ghost use Rattle.graph.specs.Items.{itemOf, keptAt};
+use command::AnyKind;
 use command::Command;
 use command::Kind;
 use command::Reading;
@@ -26,15 +27,14 @@ pub fn item_of(kinds: &[u8; 151], keys: &[u64; 151], chutes: &[u16; 151], node: 
     ensures { λ r. ⌜ itemOf r ≡ keptAt (now (kinds .entry)) (now (keys .entry)) (now (chutes .entry)) (node .0) ⌝ }
 {
     let n = node.0 as usize;
-    let kind = kinds[n];
-    if kind == 0 {
-        return Item::Nothing;
+    match Kind::of(kinds[n]) {
+        AnyKind::Known(kind) => Item::Of(Command {
+            kind,
+            key: keys[n],
+            chute: chutes[n],
+        }),
+        AnyKind::Unknown => Item::Nothing,
     }
-    Item::Of(Command {
-        kind: Kind::of(kind),
-        key: keys[n],
-        chute: chutes[n],
-    })
 }
 
 // Keeps a command for a node. Each array is lent as a slice, as in `arrays`.
