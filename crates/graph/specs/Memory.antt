@@ -97,7 +97,7 @@ memory next seq executing locked waits keys chutes answers c = record {
   chutes = chutes;
   answers = answers;
   free = c .free .0;
-  loaded = c .loaded;
+  loaded = c .loaded .0;
   used = c .used;
 }
 

@@ -28,7 +28,7 @@ pub record Shown (k : Counters) (next seq : List ℕ) (executing locked : List B
   pub waits-is : s .waits ≡ sets waits
   pub threads-are : (t : ℕ) → s .threads t ≡ getD threads t Idle
   pub free-is : s .free ≡ k .free .0
-  pub loaded-is : s .loaded ≡ k .loaded
+  pub loaded-is : s .loaded ≡ k .loaded .0
   pub used-is : s .store .used ≡ k .used
 
 abbrev pub Lays : Settings → Counters → List ℕ → List ℕ → List Bool → List Bool → List (List ℕ) → List Thread → List ℕ → Type 0

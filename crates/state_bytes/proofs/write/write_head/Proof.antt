@@ -70,7 +70,7 @@ four c =
 six : (c : tie.After-put-number6) →
     let o = entry6 c .args .settings in
     let k = entry6 c .args .counters in
-    Put 0 (bytesOf 1 (o .size) ++ bytesOf 1 (o .workers) ++ bytesOf 2 (o .capacity) ++ bytesOf 2 (o .count) ++ bytesOf 2 (k .loaded) ++ bytesOf 2 (k .used)) 10
+    Put 0 (bytesOf 1 (o .size) ++ bytesOf 1 (o .workers) ++ bytesOf 2 (o .capacity) ++ bytesOf 2 (o .count) ++ bytesOf 2 (k .loaded .0) ++ bytesOf 2 (k .used)) 10
     (entry6 c .args .state .now) (c .put-number6 .last .0)
 six c =
     let fifth = c .before .before .before .before in
