@@ -154,7 +154,6 @@ keep-all-requires c κs =
     let start = entry at in
     let commands = start .args .commands .now in (
       read-placed (given start) (read-out at) commands (lengths start) (range start),
-      lengths start .commands-are ∙ ap (λ (n : ℕ). 16 * n) (sym (fit-count (given start) commands (lengths start))),
       zeros 151,
     )
 
