@@ -103,8 +103,8 @@ advance-numbered l commands schedule =
 
 pub printed-refused : (text : Lists → List ℕ) (o : Outcome) (n : ℕ) → n ≡ numberOf o → (n ≡ 0 → ⊥) → printed text o ≡ refusal n
 unfolding printed numberOf
-printed-refused text (accepted l) n e some = absurd (some e)
-printed-refused text (refused m place) n e some = ap refusal (sym e)
+printed-refused text (accepted l) n e not-0 = absurd (not-0 e)
+printed-refused text (refused m place) n e not-0 = ap refusal (sym e)
 
 pub printed-accepted : (text : Lists → List ℕ) (o : Outcome) (l left : Lists) → Numbered o → numberOf o ≡ 0 → left ≡ kept o l → printed text o ≡ text left
 unfolding printed numberOf kept
