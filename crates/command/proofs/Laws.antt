@@ -3,7 +3,7 @@ use Prim.Native.Nat.{ℕ, zero, suc, _+_, _/_, _≤_, _<_}
 use mathlib.Core.Path.{_≡_, refl, sym, ap, subst}
 use mathlib.Core.Bool.{Bool, true, false, cond, _&&_, or-comm, and-eq-true-iff}
 use mathlib.Core.List.{List, [], _∷_, map}
-use mathlib.Core.Option.{some}
+use mathlib.Core.Option.{Option, none, some}
 use native.Mathlib.Omega.{arith}
 use borrow.Author.Tests.{leb-true, eqb-true, eqb-false, eq-eqb, ne-eqb}
 use lib.Dec.{eqb, leb}
@@ -15,9 +15,9 @@ use Rattle.s10.proofs.Laws.{accepted-is-at-most-largest}
 use Rattle.command.specs.declared.Kind.{Kind}
 use Rattle.command.specs.declared.Kind.the-variants.{Insert, Delete, Read, Update}
 use Rattle.command.specs.declared.Command.{Command}
-use Rattle.command.specs.Read.{Outcome, accepted, refused, isKind, kindOf, chuteFits, chuteOf, withChute, readCommand, parts, partsOf, readings, allAccepted, refusedAt, firstRefusal, commandFrom, commandsIn}
+use Rattle.command.specs.Read.{Outcome, accepted, refused, kindOf, chuteFits, chuteOf, withKind, withChute, readCommand, parts, partsOf, readings, allAccepted, refusedAt, firstRefusal, commandFrom, commandsIn}
 use Rattle.command.specs.Dependent.{isInsertOrDelete, isUpdate, areDependent}
-use Rattle.command.specs.Laws.{DependenceIsSymmetric, AcceptedChuteFits, AcceptedChuteIsAtMostLast, AcceptedKeyIsAtMostLargest, AllAccepted, NoRefusalIsAllAccepted, RefusedBeginsInside}
+use Rattle.command.specs.Laws.{DependenceIsSymmetric, KindOfItsNumber, AcceptedChuteFits, AcceptedChuteIsAtMostLast, AcceptedKeyIsAtMostLargest, AllAccepted, NoRefusalIsAllAccepted, RefusedBeginsInside}
 
 -- equality goes both ways
 eqb-comm : (m n : ℕ) → eqb m n ≡ eqb n m
@@ -33,6 +33,14 @@ unfolding areDependent
 dependence-is-symmetric a b =
     rw (or-comm (isInsertOrDelete (a .kind)) (isInsertOrDelete (b .kind)), eqb-comm (a .key) (b .key), or-comm (isUpdate (a .kind)) (isUpdate (b .kind)))
 
+-- the tests of a number find each kind at its own
+pub kind-of-its-number : KindOfItsNumber
+unfolding kindOf
+kind-of-its-number Insert = refl
+kind-of-its-number Delete = refl
+kind-of-its-number Read = refl
+kind-of-its-number Update = refl
+
 -- what an accepted command has passed
 record Accepted (part : List ℕ) (command : Command) : Type 0 where
   fits : chuteFits (command .kind) (command .chute) ≡ true
@@ -40,28 +48,24 @@ record Accepted (part : List ℕ) (command : Command) : Type 0 where
 
 -- an outcome is accepted only past every test
 accepted-passed : (part : List ℕ) (command : Command) → readCommand part ≡ accepted command → Accepted part command
-unfolding readCommand withChute
-accepted-passed part command e = cases (isKind (getD part 0 0)) (readText (take 13 (drop 1 part))) refl e
+unfolding readCommand withKind withChute
+accepted-passed part command e = cases (kindOf (getD part 0 0)) (readText (take 13 (drop 1 part))) refl e
   where
-    kind : Kind
-    kind = kindOf (getD part 0 0)
-
     bytes : List ℕ
     bytes = drop 14 part
 
-    chosen : (key : ℕ) (b : Bool) → readText (take 13 (drop 1 part)) ≡ Identifier.accepted key → eqb (length bytes) 2 && chuteFits kind (chuteOf bytes) ≡ b →
+    chosen : (kind : Kind) (key : ℕ) (b : Bool) → readText (take 13 (drop 1 part)) ≡ Identifier.accepted key → eqb (length bytes) 2 && chuteFits kind (chuteOf bytes) ≡ b →
         cond b (accepted (record { kind = kind; key = key; chute = chuteOf bytes })) (refused 10) ≡ accepted command → Accepted part command
-    chosen key true r f e =
+    chosen kind key true r f e =
         let read : Command = record { kind = kind; key = key; chute = chuteOf bytes } in
         let same : read ≡ command = cc in
         subst (λ (c : Command). Accepted part c) same (record { fits = and-eq-true-iff (eqb (length bytes) 2) _ .0 f .1; read = r })
-    chosen key false r f e = let z : _≡_ {A = ℕ} 0 1 = cc in absurd (omega arith)
+    chosen kind key false r f e = let z : _≡_ {A = ℕ} 0 1 = cc in absurd (omega arith)
 
-    cases : (k : Bool) (o : Identifier.Outcome) → readText (take 13 (drop 1 part)) ≡ o → cond k (withChute kind o bytes) (refused 7) ≡ accepted command →
-        Accepted part command
-    cases true (Identifier.accepted key) r e = chosen key _ r refl e
-    cases true (Identifier.refused n) r e = let z : _≡_ {A = ℕ} 0 1 = cc in absurd (omega arith)
-    cases false o r e = let z : _≡_ {A = ℕ} 0 1 = cc in absurd (omega arith)
+    cases : (k : Option Kind) (o : Identifier.Outcome) → readText (take 13 (drop 1 part)) ≡ o → withKind k o bytes ≡ accepted command → Accepted part command
+    cases (some kind) (Identifier.accepted key) r e = chosen kind key _ r refl e
+    cases (some kind) (Identifier.refused n) r e = let z : _≡_ {A = ℕ} 0 1 = cc in absurd (omega arith)
+    cases none o r e = let z : _≡_ {A = ℕ} 0 1 = cc in absurd (omega arith)
 
 -- the last test passed
 pub accepted-chute-fits : AcceptedChuteFits

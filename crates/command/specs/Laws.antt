@@ -3,15 +3,21 @@ use Prim.Native.Nat.{ℕ, _+_, _*_, _≤_, _<_}
 use mathlib.Core.Path.{_≡_}
 use mathlib.Core.Bool.{true}
 use mathlib.Core.List.{List, [], _∷_}
+use mathlib.Core.Option.{some}
 use lib.ListN.{length}
 use Rattle.s10.specs.Text.{largestKey}
+use Rattle.command.specs.declared.Kind.{Kind}
 use Rattle.command.specs.declared.Command.{Command}
-use Rattle.command.specs.Read.{Outcome, accepted, refused, chuteFits, readCommand, readings, allAccepted, refusedAt, firstRefusal}
+use Rattle.command.specs.Read.{Outcome, accepted, refused, kindOf, kindNumber, chuteFits, readCommand, readings, allAccepted, refusedAt, firstRefusal}
 use Rattle.command.specs.Dependent.{areDependent}
 
 -- Of two commands each depends on the other, or neither does.
 abbrev pub DependenceIsSymmetric : Type 0
 DependenceIsSymmetric = (a b : Command) → areDependent a b ≡ areDependent b a
+
+-- A kind is that of its number.
+abbrev pub KindOfItsNumber : Type 0
+KindOfItsNumber = (kind : Kind) → kindOf (kindNumber kind) ≡ some kind
 
 -- An accepted command carries a chute that fits its kind.
 abbrev pub AcceptedChuteFits : Type 0

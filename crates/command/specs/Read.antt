@@ -2,12 +2,15 @@
 use Prim.Native.Nat.{ℕ, zero, suc, _+_, _*_, _/_}
 use mathlib.Core.Bool.{Bool, cond, _&&_}
 use mathlib.Core.List.{List, [], _∷_, map}
+use mathlib.Core.Option.{Option, none, some}
 use lib.ListN.{length, getD, take, drop}
 use lib.Dec.{eqb, leb}
 use Rattle.s10.specs.Outcome.{readText}
 use Rattle.s10.specs.Outcome as Identifier
 use Rattle.command.specs.declared.Kind.{Kind}
 use Rattle.command.specs.declared.Kind.the-variants.{Insert, Delete, Read, Update}
+use Rattle.command.specs.declared.AnyKind.{AnyKind}
+use Rattle.command.specs.declared.AnyKind.the-variants.{Known, Unknown}
 use Rattle.command.specs.declared.Command.{Command}
 use Rattle.command.specs.declared.Reading.{Reading}
 use Rattle.command.specs.declared.Reading.the-variants.{Read as Accepted, UnknownKind, Malformed, WrongCheckDigit, WrongChute}
@@ -27,18 +30,20 @@ outcome Malformed = refused 8
 outcome WrongCheckDigit = refused 9
 outcome WrongChute = refused 10
 
--- "kind (1 insert, 2 delete, 3 read, 4 update)"
-unfoldable pub isKind : ℕ → Bool
-isKind k = leb 1 k && leb k 4
-
-unfoldable pub kindOf : ℕ → Kind
-kindOf k = cond (eqb k 1) Insert (cond (eqb k 2) Delete (cond (eqb k 3) Read Update))
+-- "kind (1 insert, 2 delete, 3 read, 4 update)"; any other number is no kind's
+unfoldable pub kindOf : ℕ → Option Kind
+kindOf n = cond (eqb n 1) (some Insert) (cond (eqb n 2) (some Delete) (cond (eqb n 3) (some Read) (cond (eqb n 4) (some Update) none)))
 
 abbrev pub kindNumber : Kind → ℕ
 kindNumber Insert = 1
 kindNumber Delete = 2
 kindNumber Read = 3
 kindNumber Update = 4
+
+-- the kind that each answer of `Kind::of` stands for
+abbrev pub knownKind : AnyKind → Option Kind
+knownKind (Known kind) = some kind
+knownKind Unknown = none
 
 -- "Insert and update carry chute 1 to 512; delete and read carry 0"
 unfoldable pub chuteFits : Kind → ℕ → Bool
@@ -58,11 +63,17 @@ withChute kind (Identifier.accepted key) bytes =
     cond (eqb (length bytes) 2 && chuteFits kind (chuteOf bytes)) (accepted (record { kind = kind; key = key; chute = chuteOf bytes })) (refused 10)
 withChute kind (Identifier.refused n) bytes = refused n
 
+-- what follows the kind: refusal 7, "kind not 1 to 4", or what follows the identifier's outcome
+unfoldable pub withKind : Option Kind → Identifier.Outcome → List ℕ → Outcome
+unfolding withChute
+withKind none identifier bytes = refused 7
+withKind (some kind) identifier bytes = withChute kind identifier bytes
+
 -- "A command is 16 bytes: kind, identifier, chute"; refusals 7, 8, 9 and 10 in this order. A part that ends early or late lacks what
 -- would stand there: no kind is 7, a short identifier is 8, a chute of other than two bytes is 10.
 unfoldable pub readCommand : List ℕ → Outcome
-unfolding isKind kindOf withChute
-readCommand part = cond (isKind (getD part 0 0)) (withChute (kindOf (getD part 0 0)) (readText (take 13 (drop 1 part))) (drop 14 part)) (refused 7)
+unfolding kindOf withKind
+readCommand part = withKind (kindOf (getD part 0 0)) (readText (take 13 (drop 1 part))) (drop 14 part)
 
 -- "Each command is read from its own stretch inside the list": the first n parts of 16 bytes; only the last can be shorter
 unfoldable pub parts : ℕ → List ℕ → List (List ℕ)

@@ -4,7 +4,7 @@ ghost use Prim.Native.Nat.{_+_, _*_, min};
 ghost use mathlib.Core.Bool.{_&&_};
 ghost use lib.Dec.{leb};
 ghost use Rattle.s10.specs.Outcome.{accepted};
-ghost use Rattle.command.specs.Read.{outcome, kindOf, chuteFits, withChute, readCommand, listOutcome, firstRefusal, readings, kindNumber};
+ghost use Rattle.command.specs.Read.{outcome, knownKind, kindOf, chuteFits, withChute, readCommand, listOutcome, firstRefusal, readings, kindNumber};
 ghost use Rattle.command.specs.Dependent.{isInsertOrDelete, isUpdate, areDependent};
 use s10::Identifier;
 
@@ -16,6 +16,12 @@ pub enum Kind {
     Delete,
     Read,
     Update,
+}
+
+// What the number of a kind stands for.
+pub enum AnyKind {
+    Known(Kind),
+    Unknown,
 }
 
 pub struct Command {
@@ -60,11 +66,9 @@ impl Command {
         if part.len() == 0 {
             return Reading::UnknownKind;
         }
-        let number = part[0];
-        if number < Kind::FIRST || number > Kind::LAST {
+        let AnyKind::Known(kind) = Kind::of(part[0]) else {
             return Reading::UnknownKind;
-        }
-        let kind = Kind::of(number);
+        };
         let end = smaller(Command::CHUTE, part.len());
         let identifier = Identifier::read(&part[Command::IDENTIFIER..end]);
         match identifier {
@@ -91,20 +95,16 @@ impl Command {
 }
 
 impl Kind {
-    // The numbers of the first kind and of the last.
-    const FIRST: u8 = 1;
-
-    const LAST: u8 = 4;
-
-    // The kind of a number from the first to the last.
-    pub fn of(number: u8) -> Kind
-        ensures { λ r. ⌜ r ≡ kindOf number ⌝ }
+    // The kind of a number.
+    pub fn of(number: u8) -> AnyKind
+        ensures { λ r. ⌜ knownKind r ≡ kindOf number ⌝ }
     {
         match number {
-            1 => Kind::Insert,
-            2 => Kind::Delete,
-            3 => Kind::Read,
-            _ => Kind::Update,
+            1 => AnyKind::Known(Kind::Insert),
+            2 => AnyKind::Known(Kind::Delete),
+            3 => AnyKind::Known(Kind::Read),
+            4 => AnyKind::Known(Kind::Update),
+            _ => AnyKind::Unknown,
         }
     }
 

@@ -105,7 +105,7 @@ no-members n y =
 
 -- the counters at opening
 abbrev pub firstCounters : Counters
-firstCounters = record { free = node 1; loaded = 0; used = 0 }
+firstCounters = record { free = node 1; loaded = record { 0 = 0 }; used = 0 }
 
 -- the arrays of the opening: the first free list, and everything else 0, false or idle
 pub opened-shown : (o : Setup) (next : List ℕ) → ((n : ℕ) → getD next n 0 ≡ firstNext (o .size) n)

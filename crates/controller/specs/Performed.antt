@@ -21,7 +21,7 @@ use Rattle.state_bytes.specs.Written.{Sets}
 -- the counters that stand in state bytes
 pub record CountersIn (b : List ℕ) (k : Counters) : Type 0 where
   pub free-is : k .free .0 ≡ numberAt 1 10 b
-  pub loaded-is : k .loaded ≡ numberAt 2 6 b
+  pub loaded-is : k .loaded .0 ≡ numberAt 2 6 b
   pub used-is : k .used ≡ numberAt 2 8 b
 
 -- the settings that stand in state bytes, with as many commands as they say

@@ -6,6 +6,7 @@ ghost use Rattle.graph.specs.Memory.{memory};
 ghost use Rattle.state_bytes.specs.Layout.{lists, atEntry, atExit, listsOf, setupIn, stateIn, stateLength};
 ghost use Rattle.controller.specs.Calls.{numberOf, kept, advanceNumber, advanceOn};
 ghost use Rattle.controller.specs.Performed.{CountersIn, SettingsIn, Passes, Performs, Performed};
+use command::Seq;
 use model::Counters;
 use model::Thread;
 use node_set::Node;
@@ -90,9 +91,10 @@ fn counters_in(state: &[u8]) -> Counters
     ensures { λ r. ⌜ CountersIn (now (state .entry)) r ⌝ }
 {
     let free = Node(state[FREE]);
+    let loaded = Seq(number_at(state, LOADED) as usize);
     Counters {
         free,
-        loaded: number_at(state, LOADED) as usize,
+        loaded,
         used: number_at(state, USED) as usize,
     }
 }

@@ -205,7 +205,7 @@ fn write_opened(state: &mut [u8], settings: Settings)
     let threads = [Thread::Idle; 65];
     let counters = Counters {
         free: Node(1),
-        loaded: 0,
+        loaded: Seq(0),
         used: 0,
     };
     write_state(

@@ -5,6 +5,7 @@ use native.Mathlib.Omega.{arith}
 use mathlib.Core.Path.{_≡_, refl, ap, sym, _∙_}
 use mathlib.Core.Bool.{Bool, true, false, cond, _&&_}
 use mathlib.Core.List.{List, [], _∷_, map}
+use mathlib.Core.Option.{Option, none, some}
 use borrow.Author.Tests.{le-leb, lt-leb}
 use lib.ListN.{length, getD, take, drop, length-replicate}
 use lib.Dec.{eqb, leb}
@@ -12,7 +13,7 @@ use Rattle.s10.specs.Text.{isWellFormed, serialDigits, checkDigit}
 use Rattle.s10.specs.Outcome.{readText}
 use Rattle.s10.specs.Outcome as Identifier
 use Rattle.command.specs.declared.Kind.{Kind}
-use Rattle.command.specs.Read.{firstRefusal, partsOf, readings, readCommand, withChute, isKind, kindOf, chuteFits, chuteOf}
+use Rattle.command.specs.Read.{firstRefusal, partsOf, readings, readCommand, withKind, withChute, kindOf, chuteFits, chuteOf}
 use Rattle.command.specs.Read as Command
 use Rattle.model.specs.Setup.{Setup}
 use Rattle.model.specs.Statement.{allWithin}
@@ -53,12 +54,14 @@ chute-numbered kind _ bytes (identifier-accepted key) =
     tested CommandNumbered (eqb (length bytes) 2 && chuteFits kind (chuteOf bytes)) _ _ (command-accepted _) (command-refused 9)
 chute-numbered kind _ bytes (identifier-refused n) = command-refused n
 
+kind-numbered : (kind : Option Kind) (o : Identifier.Outcome) (bytes : List ℕ) → IdentifierNumbered o → CommandNumbered (withKind kind o bytes)
+unfolding withKind
+kind-numbered none o bytes n = command-refused 6
+kind-numbered (some kind) o bytes n = chute-numbered kind o bytes n
+
 command-numbered : (part : List ℕ) → CommandNumbered (readCommand part)
 unfolding readCommand
-command-numbered part =
-    tested CommandNumbered (isKind (getD part 0 0)) _ _
-    (chute-numbered (kindOf (getD part 0 0)) (readText (take 13 (drop 1 part))) (drop 14 part) (identifier-numbered (take 13 (drop 1 part))))
-    (command-refused 6)
+command-numbered part = kind-numbered (kindOf (getD part 0 0)) (readText (take 13 (drop 1 part))) (drop 14 part) (identifier-numbered (take 13 (drop 1 part)))
 
 -- the first refusal of a list is one of its commands'
 first-of : (place : ℕ) (o : Command.Outcome) (rest : List Command.Outcome) (setup : Setup) → CommandNumbered o
@@ -100,8 +103,8 @@ advance-numbered l commands schedule =
 
 pub printed-refused : (text : Lists → List ℕ) (o : Outcome) (n : ℕ) → n ≡ numberOf o → (n ≡ 0 → ⊥) → printed text o ≡ refusal n
 unfolding printed numberOf
-printed-refused text (accepted l) n e some = absurd (some e)
-printed-refused text (refused m place) n e some = ap refusal (sym e)
+printed-refused text (accepted l) n e not-0 = absurd (not-0 e)
+printed-refused text (refused m place) n e not-0 = ap refusal (sym e)
 
 pub printed-accepted : (text : Lists → List ℕ) (o : Outcome) (l left : Lists) → Numbered o → numberOf o ≡ 0 → left ≡ kept o l → printed text o ≡ text left
 unfolding printed numberOf kept

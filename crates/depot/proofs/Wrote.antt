@@ -1,12 +1,18 @@
--- Laws of text written into a lent list: two texts one behind the other are one text. Assumes nothing.
+-- Laws of text written into a lent list: no text changes nothing, and two texts one behind the other are one text. Assumes nothing.
 use Prim.Native.Nat.{ℕ, _+_, _≤_}
 use native.Mathlib.Omega.{arith}
 use mathlib.Core.Path.{_≡_, ap, sym, _∙_}
-use mathlib.Core.List.{List, _++_, append-assoc}
-use lib.ListN.{length, take, drop, length-append}
+use mathlib.Core.List.{List, [], _++_, append-assoc, append-nil}
+use lib.ListN.{length, take, drop, length-append, take-append-drop}
 use lib.Seq.{length-take-le, take-at, drop-at, drop-drop}
 use Rattle.io.specs.Counts.{Counts}
 use Rattle.depot.specs.Wrote.{Wrote}
+
+-- a list as it was has no text more
+pub wrote-nothing : (at : ℕ) (list : List ℕ) → Wrote [] at list list at
+wrote-nothing at list =
+    let none : at + 0 ≡ at = omega arith in
+    record { end = omega arith; list = sym (simp (append-nil, none) (take-append-drop at list)) }
 
 module _ {first second before middle after : List ℕ} {at next answer : ℕ} where
   -- the second text begins where the first ends, so it stands right behind it

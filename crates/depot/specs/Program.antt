@@ -2,6 +2,7 @@
 use Prim.Native.Nat.{ℕ, zero, suc, _+_, _*_, _/_, _%_}
 use mathlib.Core.Bool.{cond, _||_}
 use mathlib.Core.List.{List, [], _∷_, _++_}
+use mathlib.Core.Option.{Option, none, some}
 use lib.ListN.{length, getD, take, drop, replicate}
 use lib.Dec.{ltb}
 use Rattle.command.specs.declared.Kind.{Kind}
@@ -36,6 +37,11 @@ kindName Delete = ascii "delete"
 kindName Read = ascii "read"
 kindName Update = ascii "update"
 
+-- nothing for none, which no command of an accepted list has
+abbrev pub nameOf : Option Kind → List ℕ
+nameOf none = []
+nameOf (some kind) = kindName kind
+
 -- ---- lines
 
 -- "A refusal prints `refused` and the number."
@@ -45,7 +51,7 @@ refusal n = ascii "refused " ++ decimal n ++ newline
 -- "Else one line a command: place, kind, identifier, answer": the identifier's 13 characters stand as in the input
 unfoldable pub commandLine : ℕ → List ℕ → ℕ → List ℕ
 commandLine place command answer =
-    decimal place ++ space ++ kindName (kindOf (getD command 0 0)) ++ space ++ take 13 (drop 1 command) ++ space ++ decimal answer ++ newline
+    decimal place ++ space ++ nameOf (kindOf (getD command 0 0)) ++ space ++ take 13 (drop 1 command) ++ space ++ decimal answer ++ newline
 
 -- the commands' lines one after the other; the places are 1, 2, 3 and on
 unfoldable pub commandLines : List ℕ → List ℕ → List ℕ

@@ -3,15 +3,17 @@ ghost use Prim.Native.Nat.{_+_, _*_, _≤_, _<_};
 ghost use mathlib.Core.Path.{_≡_};
 ghost use mathlib.Core.List.{[], _++_};
 ghost use lib.ListN.{length};
+ghost use Rattle.command.specs.Read.{knownKind};
 ghost use Rattle.state_bytes.specs.Layout.{lists, stateIn};
 ghost use Rattle.model.specs.Graph.{chainFrom};
-ghost use Rattle.depot.specs.Program.{decimal, space, kindName, refusal, commandLine, commandLines, totals, report};
+ghost use Rattle.depot.specs.Program.{decimal, space, nameOf, refusal, commandLine, commandLines, totals, report};
 ghost use Rattle.depot.specs.Wrote.{Wrote};
 use crate::text::NEWLINE;
 use crate::text::SPACE;
 use crate::text::put_byte;
 use crate::text::put_number;
 use crate::text::put_text;
+use command::AnyKind;
 use command::Command;
 use command::Kind;
 use state_bytes::NEXT;
@@ -33,13 +35,16 @@ pub fn put_refusal(out: &mut [u8], number: u64) -> usize
     put_byte(out, at, NEWLINE)
 }
 
-// The name of a kind.
-fn put_kind(out: &mut [u8], at: usize, kind: Kind) -> usize
+// The name of a kind; nothing for an unknown one.
+fn put_kind(out: &mut [u8], at: usize, kind: AnyKind) -> usize
     requires { ⌜ at + 6 ≤ length (now out) ⌝ }
-    ensures { λ r. ⌜ Wrote (kindName kind) at (now (out .entry)) (now (out .exit)) r ⌝ }
+    ensures { λ r. ⌜ Wrote (nameOf (knownKind kind)) at (now (out .entry)) (now (out .exit)) r ⌝ }
     ensures { λ r. ⌜ r ≤ at + 6 ⌝ }
 {
-    match kind {
+    let AnyKind::Known(known) = kind else {
+        return at;
+    };
+    match known {
         Kind::Insert => put_text(out, at, b"insert"),
         Kind::Delete => put_text(out, at, b"delete"),
         Kind::Read => put_text(out, at, b"read"),
@@ -48,9 +53,9 @@ fn put_kind(out: &mut [u8], at: usize, kind: Kind) -> usize
 }
 
 // A line's first two words, each with a space behind it.
-fn put_start(out: &mut [u8], at: usize, place: usize, kind: Kind) -> usize
+fn put_start(out: &mut [u8], at: usize, place: usize, kind: AnyKind) -> usize
     requires { ⌜ (at + 12 ≤ length (now out)) × (place < 10000) ⌝ }
-    ensures { λ r. ⌜ Wrote (decimal place ++ space ++ kindName kind ++ space) at (now (out .entry)) (now (out .exit)) r ⌝ }
+    ensures { λ r. ⌜ Wrote (decimal place ++ space ++ nameOf (knownKind kind) ++ space) at (now (out .entry)) (now (out .exit)) r ⌝ }
     ensures { λ r. ⌜ r ≤ at + 12 ⌝ }
 {
     let at = put_number(out, at, place as u64);

@@ -1,11 +1,10 @@
 -- The commands of a list by their sequence numbers, and the commands kept for the nodes after a change of one node. Assumes nothing.
-use Prim.Native.Nat.{ℕ, zero, suc, _+_, _*_, _/_, _≤_, _<_}
+use Prim.Native.Nat.{ℕ, zero, suc, _+_, _-_, _*_, _/_, _≤_, _<_}
 use mathlib.Core.Path.{_≡_, refl, sym, _∙_}
 use mathlib.Core.Bool.{cond}
 use mathlib.Core.List.{List, [], _∷_, map}
 use mathlib.Core.Option.{Option, none, some}
 use mathlib.Core.Logic.{⊎-elim}
-use native.Mathlib.Numerals.{add-one}
 use native.Mathlib.Omega.{arith}
 use lib.ListN.{length, take, drop, getElem?, length-map}
 use lib.Dec.{eqb}
@@ -40,10 +39,14 @@ module _ (bytes : List ℕ) (count : ℕ) (whole : length bytes ≡ 16 * count) 
   unfolding commandsIn
   commands-length = rw (length-map, length-readings) parts-count
 
-  -- the command of place i + 1 is the one read at index i
-  pub command-is : (i : ℕ) → i < count → commandAt (commandsIn bytes) (i + 1) ≡ some (commandFrom (readCommand (take 16 (drop (16 * i) bytes))))
-  unfolding commandAt commandsIn readings partsOf
-  command-is i h = rw (add-one, parts-count) (part-command count i bytes h)
+-- the command of a place is the one read from the sixteen bytes that end there
+pub command-is : (bytes : List ℕ) (place : ℕ) → 1 ≤ place → 16 * place ≤ length bytes
+    → commandAt (commandsIn bytes) place ≡ some (commandFrom (readCommand (take 16 (drop (16 * place - 16) bytes))))
+unfolding commandAt commandsIn readings partsOf
+command-is bytes zero from to = absurd (omega arith)
+command-is bytes (suc i) from to =
+    let start : 16 * suc i - 16 ≡ 16 * i = omega arith in
+    rw start (part-command ((length bytes + 15) / 16) i bytes (omega arith))
 
 -- a place that has a command is one of the list's
 pub command-placed : (cs : List Command) (place : ℕ) (c : Command) → commandAt cs place ≡ some c → (1 ≤ place) × (place ≤ length cs)

@@ -10,6 +10,7 @@ use lib.Dec.{eqb}
 use borrow.Author.Count.{below-more}
 use borrow.Author.Tests.{eq-eqb, ne-eqb}
 use Rattle.command.specs.declared.Command.{Command}
+use Rattle.command.specs.Read.{kindOf}
 use Rattle.model.specs.Setup.{commandAt}
 use Rattle.graph.specs.Items.{keptAt, Kept}
 use Rattle.graph.proofs.Commands.{none-at-zero}
@@ -21,9 +22,9 @@ pub record KeptBelow (cs : List Command) (seq : ℕ → ℕ) (kinds keys chutes 
   pub past : (m : ℕ) → n ≤ m → keptAt kinds keys chutes m ≡ none
 
 module _ (cs : List Command) (seq : ℕ → ℕ) where
-  -- kind 0 is no command
+  -- 0 is no kind's number
   pub none-kept : (kinds keys chutes : List ℕ) → ((m : ℕ) → getD kinds m 0 ≡ 0) → KeptBelow cs seq kinds keys chutes 0
-  unfolding keptAt
+  unfolding keptAt kindOf
   none-kept kinds keys chutes empty = record { few = omega arith; first = λ m h. absurd (omega arith); past = λ m h. rw (empty m) }
 
   module _ {kinds keys chutes : List ℕ} {n : ℕ} (kept : KeptBelow cs seq kinds keys chutes n) (h : n < 151) where

@@ -82,7 +82,7 @@ pub record Ready (list : List ℕ) (kinds itemKeys itemChutes : List ℕ) (m : M
 
 abbrev pub memory : List ℕ → List ℕ → List Bool → List Bool → List (List ℕ) → List ℕ → List ℕ → List ℕ → Counters → Memory
 memory next seq executing locked waits keys chutes answers c = record {
-  graph = record { next = next; seq = seq; executing = executing; locked = locked; waits = waits; free = c .free .0; loaded = c .loaded };
+  graph = record { next = next; seq = seq; executing = executing; locked = locked; waits = waits; free = c .free .0; loaded = c .loaded .0 };
   service = record { keys = keys; chutes = chutes; answers = answers; used = c .used };
 }
 

@@ -7,6 +7,7 @@ ghost use Rattle.command.specs.Read.{commandsIn};
 ghost use Rattle.graph.specs.Items.{Kept};
 use crate::items::command_at;
 use crate::items::keep;
+use command::Seq;
 use node_set::Node;
 
 // Keeps for each node the command of its sequence number, where no node has one kept yet.
@@ -17,14 +18,14 @@ pub fn keep_all(
     keys: &mut [u64; 151],
     chutes: &mut [u16; 151],
 )
-    requires { ⌜ ((n : ℕ) → 16 * getD (now seq) n 0 ≤ length (now list)) × (length (now list) ≡ 16 * length (commandsIn (now list))) × ((n : ℕ) → getD (now kinds) n 0 ≡ 0) ⌝ }
+    requires { ⌜ ((n : ℕ) → 16 * getD (now seq) n 0 ≤ length (now list)) × ((n : ℕ) → getD (now kinds) n 0 ≡ 0) ⌝ }
     ensures { λ _. ⌜ Kept (commandsIn (now (list .entry))) (numbers (now (seq .entry))) (now (kinds .exit)) (now (keys .exit)) (now (chutes .exit)) ⌝ }
 {
     let mut n = 0;
     while n < 151 {
-        let place = seq[n] as usize;
-        if place > 0 {
-            let command = command_at(list, place - 1);
+        let place = Seq(seq[n] as usize);
+        if place.0 > 0 {
+            let command = command_at(list, place);
             keep(kinds, keys, chutes, Node(n as u8), command);
         }
         n += 1;

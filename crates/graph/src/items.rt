@@ -3,15 +3,17 @@ ghost use mathlib.Core.Path.{_≡_};
 ghost use mathlib.Core.Bool.{Bool, cond};
 ghost use mathlib.Core.Option.{none, some};
 ghost use mathlib.Core.List.{List};
-ghost use Prim.Native.Nat.{ℕ, _+_, _*_, _≤_};
-ghost use lib.ListN.{length, take, drop};
+ghost use Prim.Native.Nat.{ℕ, _*_, _≤_};
+ghost use lib.ListN.{length};
 ghost use lib.Dec.{eqb};
-ghost use Rattle.command.specs.Read.{readCommand, commandFrom};
-ghost use Rattle.model.specs.Setup.{bothDependent};
+ghost use Rattle.command.specs.Read.{commandsIn};
+ghost use Rattle.model.specs.Setup.{commandAt, bothDependent};
 ghost use Rattle.graph.specs.Items.{itemOf, keptAt};
+use command::AnyKind;
 use command::Command;
 use command::Kind;
 use command::Reading;
+use command::Seq;
 use node_set::Node;
 
 // The command of a node, if it has one.
@@ -26,15 +28,14 @@ pub fn item_of(kinds: &[u8; 151], keys: &[u64; 151], chutes: &[u16; 151], node: 
     ensures { λ r. ⌜ itemOf r ≡ keptAt (now (kinds .entry)) (now (keys .entry)) (now (chutes .entry)) (node .0) ⌝ }
 {
     let n = node.0 as usize;
-    let kind = kinds[n];
-    if kind == 0 {
-        return Item::Nothing;
+    match Kind::of(kinds[n]) {
+        AnyKind::Known(kind) => Item::Of(Command {
+            kind,
+            key: keys[n],
+            chute: chutes[n],
+        }),
+        AnyKind::Unknown => Item::Nothing,
     }
-    Item::Of(Command {
-        kind: Kind::of(kind),
-        key: keys[n],
-        chute: chutes[n],
-    })
 }
 
 // Keeps a command for a node. Each array is lent as a slice, as in `arrays`.
@@ -81,13 +82,13 @@ pub fn dependent(a: Item, b: Item) -> bool
     }
 }
 
-// The command at index i of the list, from 0. One that is refused reads as a read of key 0.
-pub fn command_at(list: &[u8], i: usize) -> Command
-    requires { ⌜ 16 * i + 16 ≤ length (now list) ⌝ }
-    ensures { λ r. ⌜ r ≡ commandFrom (readCommand (take 16 (drop (16 * i) (now (list .entry))))) ⌝ }
+// The command of a place. One that is refused reads as a read of key 0.
+pub fn command_at(list: &[u8], place: Seq) -> Command
+    requires { ⌜ (1 ≤ place .0) × (16 * place .0 ≤ length (now list)) ⌝ }
+    ensures { λ r. ⌜ commandAt (commandsIn (now (list .entry))) (place .0) ≡ some r ⌝ }
 {
-    let at = i * Command::LENGTH;
-    let end = at + Command::LENGTH;
+    let end = place.0 * Command::LENGTH;
+    let at = end - Command::LENGTH;
     match Command::read(&list[at..end]) {
         Reading::Read(command) => command,
         Reading::UnknownKind

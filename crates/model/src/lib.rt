@@ -1,5 +1,6 @@
 // What the controller does, as definitions: the serial run, the steps, and the statement of demand 3. This crate has types
 // and no function: specs/ holds the definitions, specs/Proof/ the theorems.
+use command::Seq;
 use node_set::Node;
 
 // Where one thread stands ("party" of document 01): thread 0 is the loader, the others are workers. `own` is the node that
@@ -18,9 +19,9 @@ pub enum Thread {
     Clearing { at: Node, own: Node },
 }
 
-// What steps count: the first free node, the commands loaded, and the store's places in use.
+// What steps count: the first free node, the place of the last command loaded, and the store's places in use.
 pub struct Counters {
     pub free: Node,
-    pub loaded: usize,
+    pub loaded: Seq,
     pub used: usize,
 }

@@ -14,4 +14,4 @@ pasted at part b = sets b at part
 abbrev pub headOf : Settings → Counters → List ℕ
 headOf c k =
     bytesOf 1 (c .size) ++ bytesOf 1 (c .workers) ++ bytesOf 2 (c .capacity) ++ bytesOf 2 (c .count)
-    ++ bytesOf 2 (k .loaded) ++ bytesOf 2 (k .used) ++ bytesOf 1 (k .free .0)
+    ++ bytesOf 2 (k .loaded .0) ++ bytesOf 2 (k .used) ++ bytesOf 1 (k .free .0)

@@ -25,7 +25,7 @@ pub record Shown (k : Counters) (next seq : List ℕ) (executing locked : List B
   pub graph-is : Shows (s .graph) next seq executing locked waits
   pub threads-are : (t : ℕ) → s .threads t ≡ getD threads t Idle
   pub free-is : s .graph .free ≡ k .free .0
-  pub loaded-is : s .graph .loaded ≡ k .loaded
+  pub loaded-is : s .graph .loaded ≡ k .loaded .0
   pub used-is : s .service .store .used ≡ k .used
 
 abbrev pub Lays : Settings → Counters → List ℕ → List ℕ → List Bool → List Bool → List (List ℕ) → List Thread → List ℕ → Type 0

@@ -157,11 +157,12 @@ fn write_head(state: &mut [u8], settings: Settings, counters: Counters)
     ensures { λ _. ⌜ now (state .exit) ≡ pasted 0 (headOf settings counters) (now (state .entry)) ⌝ }
 {
     let free = counters.free;
+    let loaded = counters.loaded;
     put_number(state, SIZE, 1, settings.size as u64);
     put_number(state, WORKERS, 1, settings.workers as u64);
     put_number(state, CAPACITY, 2, settings.capacity as u64);
     put_number(state, COUNT, 2, settings.count as u64);
-    put_number(state, LOADED, 2, counters.loaded as u64);
+    put_number(state, LOADED, 2, loaded.0 as u64);
     put_number(state, USED, 2, counters.used as u64);
     put_number(state, FREE, 1, free.0 as u64);
 }

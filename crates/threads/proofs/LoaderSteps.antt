@@ -1,22 +1,22 @@
 -- The model's step of the loader, by the loader's state, from what the functions on the arrays ensure. Assumes nothing.
-use Prim.Native.Nat.{ℕ, _+_, _<_, _*_}
+use Prim.Native.Nat.{ℕ, _+_, _*_}
 use mathlib.Core.Path.{_≡_, refl, sym, ap, _∙_}
 use mathlib.Core.Bool.{Bool, true, false, cond, _||_}
 use mathlib.Core.List.{List, [], _∷_}
 use mathlib.Core.Option.{some}
 use native.Mathlib.Omega.{arith}
-use lib.ListN.{length, take, drop}
+use lib.ListN.{length}
 use lib.Dec.{eqb, leb}
 use denote.Enum.Declared.{tagOf}
 use types.Run.{OneOf, miss}
 use Rattle.command.specs.declared.Command.{Command}
-use Rattle.command.specs.Read.{readCommand, commandFrom, commandsIn}
+use Rattle.command.specs.Read.{commandsIn}
 use Rattle.node_set.specs.declared.Node.{Node}
 use Rattle.model.specs.declared.Thread.{Thread}
 use Rattle.model.specs.declared.Thread.the-variants.{Idle, Loading, Searching, Holding, LookedUp, Written, Walking, Clearing}
 use Rattle.model.proofs.Thread.{the-type}
 use Rattle.model.specs.Upd.{upd}
-use Rattle.model.specs.Setup.{Setup}
+use Rattle.model.specs.Setup.{Setup, commandAt}
 use Rattle.model.specs.Graph.{setLocked, setLoaded, setSeq, setNext, setFree}
 use Rattle.model.specs.Step.{State, node, step, loaderStep, loaderIdle, load, moveTo}
 use Rattle.model.specs.Proof.Upd.{upd-id}
@@ -24,7 +24,7 @@ use Rattle.graph.specs.Arrays.{numbers, flags, Nodes, Within, Loaded}
 use Rattle.graph.specs.Items.{keptAt}
 use Rattle.graph.specs.Memory.{Memory, shown, Ready, Steps, LoaderWalks}
 use Rattle.graph.proofs.Bridge.{nodes-stored}
-use Rattle.graph.proofs.Commands.{commands-length, command-is, kept-stored}
+use Rattle.graph.proofs.Commands.{commands-length, kept-stored}
 use Rattle.threads.proofs.Readiness.{withArrays, graph-ready}
 
 -- a memory after a load
@@ -102,14 +102,14 @@ module _ (list kinds itemKeys itemChutes : List ℕ) (m : Memory) where
   load-waits waits ready = unchanged Idle (λ o threads commands. rw (blocked-is true o (ready .whole) commands waits)) ready
 
   pub load-takes : (next′ seq′ : List ℕ) (locked′ : List Bool) (rest : ℕ) (kinds′ itemKeys′ itemChutes′ : List ℕ) (command : Command)
-      → blocked (length (m .service .answers)) (m .graph .loaded) (m .graph .free) (m .graph .locked) ≡ false → m .graph .loaded < length (m .service .answers)
+      → blocked (length (m .service .answers)) (m .graph .loaded) (m .graph .free) (m .graph .locked) ≡ false
       → Loaded (m .graph .free) (m .graph .loaded + 1) (m .graph .next) (m .graph .seq) (m .graph .locked) next′ seq′ locked′ rest
-      → command ≡ commandFrom (readCommand (take 16 (drop (16 * m .graph .loaded) list)))
+      → commandAt (commandsIn list) (m .graph .loaded + 1) ≡ some command
       → ((n : ℕ) → keptAt kinds′ itemKeys′ itemChutes′ n ≡ cond (eqb n (m .graph .free)) (some command) (keptAt kinds itemKeys itemChutes n))
       → Ready list kinds itemKeys itemChutes m Idle
       → Steps list 0 Idle m kinds′ itemKeys′ itemChutes′ (Loading (node 0) (node (m .graph .free))) (afterLoad next′ seq′ locked′ rest m)
   unfolding loaderStep loaderIdle load moveTo setLocked setLoaded setSeq setNext setFree
-  load-takes next′ seq′ locked′ rest kinds′ itemKeys′ itemChutes′ command free more loaded read kept ready =
+  load-takes next′ seq′ locked′ rest kinds′ itemKeys′ itemChutes′ command free loaded read kept ready =
       loader-steps kinds′ itemKeys′ itemChutes′ Idle (Loading (node 0) (node (m .graph .free))) (afterLoad next′ seq′ locked′ rest m)
       (λ o threads commands is.
       rw (blocked-is false o (ready .whole) commands free, loaded .next-is, loaded .seq-is, loaded .locked-is, loaded .rest-is))
@@ -118,7 +118,7 @@ module _ (list kinds itemKeys itemChutes : List ℕ) (m : Memory) where
         free = rw (loaded .rest-is) (ready .nodes (m .graph .free));
         within = (omega arith, ready .free);
         kept = kept-stored (commandsIn list) (numbers (m .graph .seq)) (numbers seq′) kinds itemKeys itemChutes kinds′ itemKeys′ itemChutes′ (m .graph .free) (m .graph .loaded + 1)
-            (some command) (rw read (command-is list (length (m .service .answers)) (ready .whole) (m .graph .loaded) more)) (loaded .seq-is) kept (ready .kept);
+            (some command) read (loaded .seq-is) kept (ready .kept);
         whole = ready .whole;
         few = ready .few;
       })

@@ -69,7 +69,7 @@ module _ (at own : Node) (free : ℕ) (next seq : List ℕ) (executing locked : 
       was t = Clearing at own
 
       s : State
-      s = shown (memory next seq executing locked waits [] [] [] (record { free = node free; loaded = 0; used = 0 })) was
+      s = shown (memory next seq executing locked waits [] [] [] (record { free = node free; loaded = record { 0 = 0 }; used = 0 })) was
 
       showing : Shows (s .graph) next seq executing locked waits
       showing = record { next-is = refl; seq-is = refl; executing-is = refl; locked-is = refl; waits-is = refl }

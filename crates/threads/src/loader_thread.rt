@@ -35,17 +35,17 @@ fn load_next(
     let free = counters.free;
     let loaded = counters.loaded;
     let used = counters.used;
-    if answers.len() <= loaded || free.0 == 0 || locked[0] {
+    if answers.len() <= loaded.0 || free.0 == 0 || locked[0] {
         return Stepped {
             thread: Thread::Idle,
             counters,
         };
     }
+    let loaded = Seq(loaded.0 + 1);
     let command = command_at(list, loaded);
     keep(kinds, item_keys, item_chutes, free, command);
-    let loaded = loaded + 1;
     let own = free;
-    let free = load(next, seq, locked, own, Seq(loaded));
+    let free = load(next, seq, locked, own, loaded);
     let thread = Thread::Loading { at: Node(0), own };
     let counters = Counters { free, loaded, used };
     Stepped { thread, counters }

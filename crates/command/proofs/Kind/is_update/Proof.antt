@@ -4,7 +4,7 @@ use mathlib.Core.Bool.{false}
 use mathlib.Core.List.{[], _∷_}
 use borrow.Author.Needs.{needs}
 use Rattle.command.specs.declared.Kind.{Kind}
-use Rattle.command.specs.Read.{kindOf}
+use Rattle.command.specs.declared.Kind.the-variants.{Insert, Delete, Read}
 use Rattle.command.specs.Dependent.{isUpdate}
 use Rattle.command.proofs.Places.{one-of}
 use Rattle.command.proofs.Kind.is_update.Statement.{statement}
@@ -18,8 +18,8 @@ unfolding isUpdate
 returns c = search needs
 
 returns-2 : tie.Need-returns-2
-unfolding kindOf isUpdate
-returns-2 c = one-of (λ (k : Kind). false ≡ isUpdate k) (c .before .args .self) 0 (1 ∷ 2 ∷ []) (c .match .keys2) (refl, (refl, refl))
+unfolding isUpdate
+returns-2 c = one-of (λ (k : Kind). false ≡ isUpdate k) (c .before .args .self) Insert (Delete ∷ Read ∷ []) (c .match .keys2) (refl, (refl, refl))
 
 pub is-update-spec : {M : Type 1} → statement M
 is-update-spec = tie.close (tie.spec enum-told returns returns-2)

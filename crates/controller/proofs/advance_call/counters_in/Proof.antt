@@ -7,23 +7,23 @@ use borrow.Author.Needs.{needs}
 use Rattle.controller.proofs.advance_call.counters_in.Statement.{statement}
 use Rattle.controller.proofs.advance_call.counters_in.Tie as tie
 
-shared-slice-read-t4 : tie.Need-shared-slice-read-t4
+shared-slice-read-t5 : tie.Need-shared-slice-read-t5
 unfolding stateLength
-shared-slice-read-t4 c = omega arith
+shared-slice-read-t5 c = omega arith
 
 number-at-requires : tie.Need-number-at-requires
 unfolding stateLength
 number-at-requires c κs = omega arith
 
-cast-t6 : tie.Need-cast-t6
-cast-t6 c = search needs
+cast-t7 : tie.Need-cast-t7
+cast-t7 c = search needs
 
 number-at-requires-2 : tie.Need-number-at-requires-2
 unfolding stateLength
 number-at-requires-2 c κs = omega arith
 
-cast-t8 : tie.Need-cast-t8
-cast-t8 c = search needs
+cast-t7-2 : tie.Need-cast-t7-2
+cast-t7-2 c = search needs
 
 returns : tie.Need-returns
 unfolding stateLength
@@ -34,4 +34,4 @@ returns c =
 pub counters-in-spec : {M : Type 1} → statement M
 counters-in-spec =
     tie.close
-    (tie.spec shared-slice-read-t4 number-at-requires cast-t6 number-at-requires-2 cast-t8 returns)
+    (tie.spec shared-slice-read-t5 number-at-requires cast-t7 number-at-requires-2 cast-t7-2 returns)

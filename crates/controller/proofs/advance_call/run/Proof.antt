@@ -1,7 +1,7 @@
 -- `advance_call::run` meets its contract: what is read from the lists shows their state, and is ready for the schedule's steps. Assumes nothing.
-use Prim.Native.Nat.{ℕ, _*_}
+use Prim.Native.Nat.{ℕ}
 use native.Mathlib.Omega.{arith}
-use mathlib.Core.Path.{_≡_, refl, sym, ap, _∙_}
+use mathlib.Core.Path.{_≡_, refl, ap, _∙_}
 use mathlib.Core.Bool.{Bool}
 use mathlib.Core.List.{List}
 use lib.ListN.{length}
@@ -152,11 +152,7 @@ keep-all-requires : tie.Need-keep-all-requires
 keep-all-requires c κs =
     let at = c .before .before .before .before in
     let start = entry at in
-    let commands = start .args .commands .now in (
-      read-placed (given start) (read-out at) commands (lengths start) (range start),
-      lengths start .commands-are ∙ ap (λ (n : ℕ). 16 * n) (sym (fit-count (given start) commands (lengths start))),
-      zeros 151,
-    )
+    (read-placed (given start) (read-out at) (start .args .commands .now) (lengths start) (range start), zeros 151)
 
 perform-requires : tie.Need-perform-requires
 perform-requires c κs =

@@ -1,14 +1,11 @@
 -- `fill::keep_all` meets its contract. The loop's invariant: the first n nodes have their commands, and the others none. Assumes nothing.
-use Prim.Native.Nat.{_+_, _*_, _-_, _≤_, _<_}
+use Prim.Native.Nat.{_-_, _<_}
 use native.Mathlib.Omega.{arith}
-use mathlib.Core.Path.{_≡_, sym, ap, _∙_}
 use mathlib.Core.Option.{some}
 use mathlib.Core.Logic.{⊎-elim}
-use lib.ListN.{length}
 use borrow.Author.Needs.{needs}
 use Rattle.graph.specs.Arrays.{numbers}
 use Rattle.command.specs.Read.{commandsIn}
-use Rattle.graph.proofs.Commands.{command-is}
 use Rattle.graph.proofs.Filled.{KeptBelow, none-kept, kept-without, kept-with, all-kept}
 use Rattle.graph.proofs.fill.keep_all.Statement.{statement}
 use Rattle.graph.proofs.fill.keep_all.Tie as tie
@@ -20,22 +17,22 @@ abbrev μ-loop : tie.MeasureT-loop
 μ-loop seq list kinds₀ keys₀ chutes₀ n₀ kinds keys chutes n = 151 - n
 
 loop-holds : tie.Need-loop-holds Inv-loop μ-loop
-loop-holds c = none-kept _ _ _ _ _ (c .before .pre .2)
+loop-holds c = none-kept _ _ _ _ _ (c .before .pre .1)
 
-mul-place : tie.Need-mul-place Inv-loop μ-loop
-mul-place c = omega arith
+mul-t10 : tie.Need-mul-t10 Inv-loop μ-loop
+mul-t10 c = omega arith
 
-element-copy-out-place : tie.Need-element-copy-out-place Inv-loop μ-loop
-element-copy-out-place c = search needs
+element-copy-out-t13 : tie.Need-element-copy-out-t13 Inv-loop μ-loop
+element-copy-out-t13 c = search needs
 
-cast-place : tie.Need-cast-place Inv-loop μ-loop
-cast-place c = omega (arith, c .before .before .before .before .pre .0 (c .before .before .loop .n))
-
-sub-command-at : tie.Need-sub-command-at Inv-loop μ-loop
-sub-command-at c = omega arith
+cast-t14 : tie.Need-cast-t14 Inv-loop μ-loop
+cast-t14 c = omega (arith, c .before .before .before .before .pre .0 (c .before .before .loop .n))
 
 command-at-requires : tie.Need-command-at-requires Inv-loop μ-loop
-command-at-requires c κs = omega (arith, c .before .before .before .before .before .pre .0 (c .before .before .before .loop .n))
+command-at-requires c κs =
+    let pass = c .before .before .before .before in
+    let fits = pass .before .before .pre .0 (pass .loop .n) in
+    (omega arith, omega arith)
 
 cast-t19 : tie.Need-cast-t19 Inv-loop μ-loop
 cast-t19 c = omega arith
@@ -51,17 +48,10 @@ loop-less c = omega arith
 
 loop-again : tie.Need-loop-again Inv-loop μ-loop
 loop-again c =
-    let pass = c .before .before .before .loop in
-    let start = c .before .before .before .before .before in
-    let list = start .args .list .now in
-    let place = numbers (start .args .seq .now) (pass .n) in
-    let fits : 16 * place ≤ length list = start .pre .0 (pass .n) in
+    let pass = c .before .before .before .before .loop in
     let h : pass .n < 151 = omega arith in
     ⊎-elim
-    (λ w.
-    let again : place - 1 + 1 ≡ place = omega (arith, w .0 .taken) in
-    let is = command-is list (length (commandsIn list)) (start .pre .1) (place - 1) (omega (arith, fits, start .pre .1, w .0 .taken)) in
-    rw (w .6, w .7, w .8) (kept-with _ _ (pass .inv) h _ _ _ (some (w .1 .result)) (rw again at is ∙ ap some (sym (w .1 .ensures))) (w .5 .ensures)))
+    (λ w. rw (w .6, w .7, w .8) (kept-with _ _ (pass .inv) h _ _ _ (some (w .1 .result)) (w .1 .ensures) (w .5 .ensures)))
     (λ w. rw (w .1, w .2, w .3) (kept-without _ _ (pass .inv) h (omega (arith, w .0 .left))))
     (c .if1 .came)
 
@@ -75,10 +65,9 @@ keep-all-spec =
     Inv-loop
     μ-loop
     loop-holds
-    mul-place
-    element-copy-out-place
-    cast-place
-    sub-command-at
+    mul-t10
+    element-copy-out-t13
+    cast-t14
     command-at-requires
     cast-t19
     keep-requires

@@ -1,27 +1,29 @@
 -- `items::command_at` meets its contract: the reading of the command's own sixteen bytes, a refused one being a read of key 0. Assumes
 -- nothing.
-use Prim.Native.Nat.{_+_, _-_, _*_}
+use Prim.Native.Nat.{_-_, _*_}
 use mathlib.Core.Logic.{⊎-elim}
 use mathlib.Core.Path.{_≡_, refl}
 use mathlib.Core.List.{[], _∷_}
+use mathlib.Core.Option.{some}
 use native.Mathlib.Omega.{arith}
 use borrow.Author.Needs.{needs}
 use denote.Enum.Declared.{tagOf}
 use types.Run.{OneOf}
-use lib.ListN.{take, drop}
 use Rattle.command.specs.declared.Kind.the-variants.{Read}
 use Rattle.command.specs.declared.Reading.{Reading}
 use Rattle.command.specs.declared.Reading.the-variants.{Read as Accepted, UnknownKind, Malformed, WrongCheckDigit, WrongChute}
-use Rattle.command.specs.Read.{outcome, readCommand, commandFrom}
+use Rattle.command.specs.Read.{outcome, commandFrom, commandsIn}
 use Rattle.command.proofs.Reading.{the-type}
+use Rattle.model.specs.Setup.{commandAt}
+use Rattle.graph.proofs.Commands.{command-is}
 use Rattle.graph.proofs.items.command_at.Statement.{statement}
 use Rattle.graph.proofs.items.command_at.Tie as tie
 
-mul-at : tie.Need-mul-at
-mul-at c = search needs
+mul-end : tie.Need-mul-end
+mul-end c = search needs
 
-add-end : tie.Need-add-end
-add-end c = search needs
+sub-at : tie.Need-sub-at
+sub-at c = search needs
 
 sub-read : tie.Need-sub-read
 sub-read c = search needs
@@ -51,29 +53,30 @@ refused-reads Malformed e = refl
 refused-reads WrongCheckDigit e = refl
 refused-reads WrongChute e = refl
 
--- the reading is that of the command's own sixteen bytes
+-- the reading is that of the sixteen bytes that end with the command's place
 part-read : (c : tie.After-read) →
-    let a = c .before .before .before .args in
-    readCommand (take 16 (drop (16 * a .i) (a .list .now))) ≡ outcome (c .read .result)
+    let a = c .before .before .before .before .args in
+    commandAt (commandsIn (a .list .now)) (a .place .0) ≡ some (commandFrom (outcome (c .read .result)))
 part-read c =
-    let a = c .before .before .before .args in
-    let start : 16 * a .i ≡ a .i * 16 = omega arith in
-    let size : a .i * 16 + 16 - a .i * 16 ≡ 16 = omega arith in
-    rw (start, c .read .ensures, size)
+    let start = c .before .before .before .before in
+    let a = start .args in
+    let size : a .place .0 * 16 - (a .place .0 * 16 - 16) ≡ 16 = omega arith in
+    let swap : 16 * a .place .0 ≡ a .place .0 * 16 = omega arith in
+    rw (command-is (a .list .now) (a .place .0) (start .pre .0) (start .pre .1), c .read .ensures, size, swap)
 
 returns : tie.Need-returns
 unfolding commandFrom
 returns c = rw (part-read (c .before .before .before), c .before .command .given .1)
 
 returns-2 : tie.Need-returns-2
-returns-2 c = rw (part-read (c .before)) (refused-reads (c .before .read .result) (c .match .keys2))
+returns-2 c = rw (part-read (c .before), refused-reads (c .before .read .result) (c .match .keys2))
 
 pub command-at-spec : {M : Type 1} → statement M
 command-at-spec =
     tie.close
     (tie.spec
-    mul-at
-    add-end
+    mul-end
+    sub-at
     sub-read
     part-read-start
     part-read-end

@@ -37,18 +37,18 @@ put-number-requires-4 c κs = search needs
 put-number-requires-5 : tie.Need-put-number-requires-5
 put-number-requires-5 c κs = search needs
 
-put-number-requires-6 : tie.Need-put-number-requires-6
-put-number-requires-6 c κs = search needs
-
 cast-put-number-5 : tie.Need-cast-put-number-5
 cast-put-number-5 c = search needs
 
--- the function's entry, from the fourth, the sixth and the last call
+-- the function's entry, from the fourth call on
 abbrev entry4 : tie.After-put-number4 → tie.Start
-entry4 c = c .before .before .before .before .before .before .before .before .before .before .before .before .before .before .before .before .before .before .before .before
+entry4 c = c .before .before .before .before .before .before .before .before .before .before .before .before .before .before .before .before .before .before .before .before .before
+
+abbrev entry5 : tie.After-put-number5 → tie.Start
+entry5 c = entry4 (c .before .before .before .before)
 
 abbrev entry6 : tie.After-put-number6 → tie.Start
-entry6 c = entry4 (c .before .before .before .before .before .before .before .before)
+entry6 c = entry5 (c .before .before .before .before)
 
 abbrev entry7 : tie.After-put-number7 → tie.Start
 entry7 c = entry6 (c .before .before .before .before .before)
@@ -66,16 +66,24 @@ four c =
     let three = put-more two _ 2 2 refl (bytes-length 2 _) (third .put-number3 .ensures) in
     put-more three _ 4 2 refl (bytes-length 2 _) (c .put-number4 .ensures)
 
--- and two counters
+-- the place of the last command loaded
+five : (c : tie.After-put-number5) →
+    let o = entry5 c .args .settings in
+    let k = entry5 c .args .counters in
+    Put 0 (bytesOf 1 (o .size) ++ bytesOf 1 (o .workers) ++ bytesOf 2 (o .capacity) ++ bytesOf 2 (o .count) ++ bytesOf 2 (k .loaded .0)) 8
+    (entry5 c .args .state .now) (c .put-number5 .last .0)
+five c = put-more (four (c .before .before .before .before)) _ 6 2 refl (bytes-length 2 _) (c .put-number5 .ensures)
+
+put-number-requires-6 : tie.Need-put-number-requires-6
+put-number-requires-6 c κs = omega (arith, put-length (five (c .before .before .before)), entry5 (c .before .before .before) .pre)
+
+-- the store's places in use
 six : (c : tie.After-put-number6) →
     let o = entry6 c .args .settings in
     let k = entry6 c .args .counters in
-    Put 0 (bytesOf 1 (o .size) ++ bytesOf 1 (o .workers) ++ bytesOf 2 (o .capacity) ++ bytesOf 2 (o .count) ++ bytesOf 2 (k .loaded) ++ bytesOf 2 (k .used)) 10
+    Put 0 (bytesOf 1 (o .size) ++ bytesOf 1 (o .workers) ++ bytesOf 2 (o .capacity) ++ bytesOf 2 (o .count) ++ bytesOf 2 (k .loaded .0) ++ bytesOf 2 (k .used)) 10
     (entry6 c .args .state .now) (c .put-number6 .last .0)
-six c =
-    let fifth = c .before .before .before .before in
-    let five = put-more (four (fifth .before .before .before .before)) _ 6 2 refl (bytes-length 2 _) (fifth .put-number5 .ensures) in
-    put-more five _ 8 2 refl (bytes-length 2 _) (c .put-number6 .ensures)
+six c = put-more (five (c .before .before .before .before)) _ 8 2 refl (bytes-length 2 _) (c .put-number6 .ensures)
 
 -- and the first free node
 seven : (c : tie.After-put-number7) → Put 0 (headOf (entry7 c .args .settings) (entry7 c .args .counters)) 11 (entry7 c .args .state .now) (c .put-number7 .last .0)

@@ -16,9 +16,9 @@ element-copy-out-if3 c = search needs
 
 returns : tie.Need-returns
 returns c =
-    let start = c .before .before .before .before in
+    let start = c .before .before .before .before .before .before in
     let a = start .args in
-    let tests = blocked-if (length (a .answers .now)) (a .counters .loaded) (a .counters .free .0) (a .locked .now) in
+    let tests = blocked-if (length (a .answers .now)) (a .counters .loaded .0) (a .counters .free .0) (a .locked .now) in
     λ executing waits keys chutes. load-waits _ _ _ _ _
     (⊎-elim
     (λ w. tests true _ _ (le-leb _ _ (w .taken)) refl refl)
@@ -28,30 +28,31 @@ returns c =
     (c .if1 .came))
     (ready-beside _ _ _ _ _ _ (start .pre) executing waits keys chutes)
 
+add-t21 : tie.Need-add-t21
+add-t21 c = search needs
+
 command-at-requires : tie.Need-command-at-requires
 command-at-requires c κs = search needs
 
 keep-requires : tie.Need-keep-requires
 keep-requires c κs = search needs
 
-add-loaded : tie.Need-add-loaded
-add-loaded c = search needs
-
 load-requires : tie.Need-load-requires
 load-requires c κs = search needs
 
 returns-2 : tie.Need-returns-2
 returns-2 c =
-    let start = c .before .before .before .before .before .before .before .before .before .before .before .before .before .before .before .before .before in
-    let a = start .args in
     let kept = c .before .before .before .before in
-    let test3 = kept .before .before .before .before .before in
+    let read = kept .before .before .before .before in
+    let test3 = read .before .before in
     let test2 = test3 .before .before in
     let test1 = test2 .before .before in
-    let free = blocked-if (length (a .answers .now)) (a .counters .loaded) (a .counters .free .0) (a .locked .now) false false false
+    let start = test1 .before .before .before .before .before .before in
+    let a = start .args in
+    let free = blocked-if (length (a .answers .now)) (a .counters .loaded .0) (a .counters .free .0) (a .locked .now) false false false
     (lt-leb _ _ (test1 .if1 .left)) (test2 .if2 .left) (test3 .if3 .left) in
     λ executing waits keys chutes. load-takes _ _ _ _ _ _ _ _ _ _ _ _ _
-    free (test1 .if1 .left) (c .load .ensures) (kept .before .before .before .before .command-at .ensures) (kept .keep .ensures)
+    free (c .load .ensures) (read .command-at .ensures) (kept .keep .ensures)
     (ready-beside _ _ _ _ _ _ (start .pre) executing waits keys chutes)
 
 pub load-next-spec : {M : Type 1} → statement M
@@ -60,8 +61,8 @@ load-next-spec =
     (tie.spec
     element-copy-out-if3
     returns
+    add-t21
     command-at-requires
     keep-requires
-    add-loaded
     load-requires
     returns-2)

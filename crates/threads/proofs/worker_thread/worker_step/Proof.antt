@@ -23,7 +23,7 @@ enum-known-thread c = search needs
 search-requires : tie.Need-search-requires
 search-requires c κs =
     let known = c .before .before .before .before .before in
-    let start = known .before .before .before .before .before .before in
+    let start = known .before .before .before .before .before .before .before in
     (start .pre .nodes, rw (known .thread .given .1) at (start .pre .within))
 
 enum-known-thread-2 : tie.Need-enum-known-thread-2
@@ -32,7 +32,7 @@ enum-known-thread-2 c = search needs
 item-of-requires : tie.Need-item-of-requires
 item-of-requires c κs =
     let known = c .before .before in
-    rw (known .thread2 .given .1) at (known .before .before .before .before .before .before .pre .within)
+    rw (known .thread2 .given .1) at (known .before .before .before .before .before .before .before .pre .within)
 
 look-up-requires : tie.Need-look-up-requires
 look-up-requires c κs = search needs
@@ -43,7 +43,7 @@ enum-known-thread-3 c = search needs
 item-of-requires-2 : tie.Need-item-of-requires-2
 item-of-requires-2 c κs =
     let known = c .before .before in
-    rw (known .thread3 .given .1) at (known .before .before .before .before .before .before .pre .within)
+    rw (known .thread3 .given .1) at (known .before .before .before .before .before .before .before .pre .within)
 
 cast-place-of : tie.Need-cast-place-of
 cast-place-of c = search needs
@@ -54,7 +54,7 @@ mul-place-of c = search needs
 element-copy-out-place-of : tie.Need-element-copy-out-place-of
 element-copy-out-place-of c =
     let known = c .before .before .before .before in
-    let within : known .thread3 .given .0 .0 .0 ≤ 150 = rw (known .thread3 .given .1) at (known .before .before .before .before .before .before .pre .within) in
+    let within : known .thread3 .given .0 .0 .0 ≤ 150 = rw (known .thread3 .given .1) at (known .before .before .before .before .before .before .before .pre .within) in
     omega arith
 
 place-of-requires : tie.Need-place-of-requires
@@ -66,7 +66,7 @@ write-requires c κs =
     let placed = c .before .before .before in
     let item = placed .before .before .before in
     let known = item .before .before .before in
-    let start = known .before .before .before .before .before .before in
+    let start = known .before .before .before .before .before .before .before in
     let within : known .thread3 .given .0 .0 .0 ≤ 150 = rw (known .thread3 .given .1) at (start .pre .within) in
     rw (placed .place-of .ensures) (start .pre .placed (known .thread3 .given .0 .0 .0) command within (sym (item .item-of2 .ensures) ∙ e))
 
@@ -102,7 +102,7 @@ enum-known-thread-5 c = search needs
 walk-requires : tie.Need-walk-requires
 walk-requires c κs =
     let known = c .before .before .before in
-    let start = known .before .before .before .before .before .before in
+    let start = known .before .before .before .before .before .before .before in
     let within = rw (known .thread5 .given .1) at (start .pre .within) in
     (start .pre .nodes, within .0, within .1)
 
@@ -112,7 +112,7 @@ enum-known-thread-6 c = search needs
 clear-own-requires : tie.Need-clear-own-requires
 clear-own-requires c κs =
     let known = c .before .before .before .before .before .before .before in
-    let start = known .before .before .before .before .before .before in
+    let start = known .before .before .before .before .before .before .before in
     let within = rw (known .thread6 .given .1) at (start .pre .within) in
     (start .pre .nodes, within .0, within .1, start .pre .free)
 
