@@ -1,5 +1,6 @@
 // Advancing: the tests of a handed-back state, then the steps of a schedule.
 ghost use mathlib.Core.Path.{_≡_};
+ghost use Prim.Native.Nat.{_≤_};
 ghost use lib.ListN.{length};
 ghost use Rattle.model.specs.Step.{steps};
 ghost use Rattle.graph.specs.Memory.{memory};
@@ -38,6 +39,20 @@ pub enum Advancing {
     WrongLength,
     UnknownThread,
     WrongState,
+}
+
+impl Advancing {
+    // The answer's number.
+    pub fn number(self) -> u64
+        ensures { λ r. ⌜ (r ≡ advanceNumber self) × (r ≤ 12) ⌝ }
+    {
+        match self {
+            Advancing::Advanced => 0,
+            Advancing::WrongLength => 6,
+            Advancing::UnknownThread => 11,
+            Advancing::WrongState => 12,
+        }
+    }
 }
 
 // Performs a schedule, one step a byte. A refusal leaves every list as it was.

@@ -34,6 +34,46 @@ pub enum Opening {
     WrongChuteAt(Seq),
 }
 
+impl Opening {
+    // The answer's number.
+    pub fn number(self) -> u64
+        ensures { λ r. ⌜ (r ≡ openingNumber self) × (r ≤ 12) ⌝ }
+    {
+        match self {
+            Opening::Opened => 0,
+            Opening::WrongGraphSize => 1,
+            Opening::WrongWorkers => 2,
+            Opening::WrongCapacity => 3,
+            Opening::WrongListLength => 4,
+            Opening::TooManyCommands => 5,
+            Opening::WrongLength => 6,
+            Opening::UnknownKindAt(_) => 7,
+            Opening::MalformedAt(_) => 8,
+            Opening::WrongCheckDigitAt(_) => 9,
+            Opening::WrongChuteAt(_) => 10,
+        }
+    }
+
+    // The place of the command that was refused, 0 for none.
+    pub fn place(self) -> usize
+        ensures { λ r. ⌜ r ≡ openingPlace self ⌝ }
+    {
+        match self {
+            Opening::Opened => 0,
+            Opening::WrongGraphSize => 0,
+            Opening::WrongWorkers => 0,
+            Opening::WrongCapacity => 0,
+            Opening::WrongListLength => 0,
+            Opening::TooManyCommands => 0,
+            Opening::WrongLength => 0,
+            Opening::UnknownKindAt(seq) => seq.0,
+            Opening::MalformedAt(seq) => seq.0,
+            Opening::WrongCheckDigitAt(seq) => seq.0,
+            Opening::WrongChuteAt(seq) => seq.0,
+        }
+    }
+}
+
 // What the settings and the list may be at most; each setting is at least 1.
 const LARGEST_SIZE: u64 = 150;
 

@@ -1,7 +1,7 @@
 // Advancing, on byte lists.
 ghost use mathlib.Core.Path.{_≡_};
 ghost use Rattle.state_bytes.specs.Layout.{lists};
-ghost use Rattle.controller.specs.Calls.{advanceOn, advanceNumber};
+ghost use Rattle.controller.specs.Calls.{advanceOn};
 ghost use Rattle.depot_c.specs.Boundary.{decoded, entries, answerOf, left, Rooms};
 use crate::lists::MOST;
 use crate::lists::are_whole;
@@ -9,20 +9,7 @@ use crate::lists::have_room;
 use crate::lists::long_answer;
 use crate::lists::read_lists;
 use crate::lists::write_lists;
-use controller::Advancing;
 use controller::advance;
-
-// The number that an advance's answer is at the boundary.
-fn advancing_answer(advancing: Advancing) -> u64
-    ensures { λ r. ⌜ r ≡ advanceNumber advancing ⌝ }
-{
-    match advancing {
-        Advancing::Advanced => 0,
-        Advancing::WrongLength => 6,
-        Advancing::UnknownThread => 11,
-        Advancing::WrongState => 12,
-    }
-}
 
 // Advances, with rooms for the numbers of the byte lists.
 fn advance_within(
@@ -42,7 +29,7 @@ fn advance_within(
 {
     read_lists(keys, chutes, answers, key_room, chute_room, answer_room);
     let advancing = advance(state, key_room, chute_room, answer_room, commands, schedule);
-    let answer = advancing_answer(advancing);
+    let answer = advancing.number();
     if answer == 0 {
         write_lists(keys, chutes, answers, key_room, chute_room, answer_room);
     }

@@ -13,52 +13,12 @@ use crate::lists::write_lists;
 use controller::Opening;
 use controller::open;
 
-// The number of an opening's answer.
-fn opening_number(opening: Opening) -> u64
-    ensures { λ r. ⌜ (r ≡ openingNumber opening) × (r ≤ 10) ⌝ }
-{
-    match opening {
-        Opening::Opened => 0,
-        Opening::WrongGraphSize => 1,
-        Opening::WrongWorkers => 2,
-        Opening::WrongCapacity => 3,
-        Opening::WrongListLength => 4,
-        Opening::TooManyCommands => 5,
-        Opening::WrongLength => 6,
-        Opening::UnknownKindAt(_) => 7,
-        Opening::MalformedAt(_) => 8,
-        Opening::WrongCheckDigitAt(_) => 9,
-        Opening::WrongChuteAt(_) => 10,
-    }
-}
-
-// The place of an opening's answer.
-fn opening_place(opening: Opening) -> usize
-    ensures { λ r. ⌜ r ≡ openingPlace opening ⌝ }
-{
-    match opening {
-        Opening::Opened => 0,
-        Opening::WrongGraphSize => 0,
-        Opening::WrongWorkers => 0,
-        Opening::WrongCapacity => 0,
-        Opening::WrongListLength => 0,
-        Opening::TooManyCommands => 0,
-        Opening::WrongLength => 0,
-        Opening::UnknownKindAt(seq) => seq.0,
-        Opening::MalformedAt(seq) => seq.0,
-        Opening::WrongCheckDigitAt(seq) => seq.0,
-        Opening::WrongChuteAt(seq) => seq.0,
-    }
-}
-
 // A refusal's number and the command's place, in one number.
 fn opening_answer(opening: Opening) -> u64
     requires { ⌜ openingPlace opening ≤ 4096 ⌝ }
     ensures { λ r. ⌜ r ≡ openingNumber opening + 256 * openingPlace opening ⌝ }
 {
-    let number = opening_number(opening);
-    let place = opening_place(opening);
-    number + 256 * place as u64
+    opening.number() + 256 * opening.place() as u64
 }
 
 // The answer where the lists cannot be those of an accepted opening.

@@ -11,7 +11,7 @@ use Rattle.depot_c.proofs.advancing.advance_within.Statement.{statement
 use Rattle.depot_c.proofs.advancing.advance_within.Tie as tie
 
 -- the places after the calls, from the answer back to the function's entry
-abbrev called : tie.After-advancing-answer → tie.After-advance
+abbrev called : tie.After-number → tie.After-advance
 called c = c .before .before .before .before .before .before .before .before .before
 
 abbrev read : tie.After-advance → tie.After-read-lists
@@ -20,7 +20,7 @@ read c = c .before .before .before .before .before .before .before .before .befo
 abbrev start : tie.After-read-lists → tie.Start
 start c = c .before .before .before .before .before .before .before .before .before .before .before .before .before .before .before .before
 
-abbrev entry : tie.After-advancing-answer → tie.Start
+abbrev entry : tie.After-number → tie.Start
 entry c = start (read (called c))
 
 -- the proved call on the numbers of the lists that the function gets
@@ -28,11 +28,11 @@ abbrev outcome : tie.Start → Lists → Outcome
 outcome c l = advanceOn l (c .args .commands .now) (c .args .schedule .now)
 
 -- its answer is the one on the entries
-answer-is : (c : tie.After-advancing-answer)
-    → c .advancing-answer .result ≡ answerOf (outcome (entry c) (entries (lists (entry c .args .state .now) (entry c .args .keys .now) (entry c .args .chutes .now) (entry c .args .answers .now))))
+answer-is : (c : tie.After-number)
+    → c .number .result ≡ answerOf (outcome (entry c) (entries (lists (entry c .args .state .now) (entry c .args .keys .now) (entry c .args .chutes .now) (entry c .args .answers .now))))
 answer-is c =
     let args = entry c .args in
-    c .advancing-answer .ensures ∙ omega arith ∙ answer-on (args .state .now) (args .keys .now) (args .chutes .now) (args .answers .now) (outcome (entry c)) (read (called c) .read-lists .ensures)
+    c .number .ensures .0 ∙ omega arith ∙ answer-on (args .state .now) (args .keys .now) (args .chutes .now) (args .answers .now) (outcome (entry c)) (read (called c) .read-lists .ensures)
     (called c .advance .ensures .0) (sym (advance-place _ _ _))
 
 read-lists-requires : tie.Need-read-lists-requires
@@ -41,8 +41,8 @@ read-lists-requires c κs = search needs
 advance-requires : tie.Need-advance-requires
 advance-requires c κs = search needs
 
-advancing-answer-requires : tie.Need-advancing-answer-requires
-advancing-answer-requires c κs = search needs
+number-requires : tie.Need-number-requires
+number-requires c κs = search needs
 
 write-lists-requires : tie.Need-write-lists-requires
 write-lists-requires c κs =
@@ -129,7 +129,7 @@ advance-within-spec =
     (tie.spec
     read-lists-requires
     advance-requires
-    advancing-answer-requires
+    number-requires
     write-lists-requires
     same-length
     same-length-2
