@@ -5,7 +5,7 @@ ghost use lib.ListN.{length};
 ghost use Rattle.model.specs.Step.{steps};
 ghost use Rattle.graph.specs.Memory.{memory};
 ghost use Rattle.state_bytes.specs.Layout.{lists, listsOf, setupIn, stateIn, stateLength};
-ghost use Rattle.controller.specs.Calls.{numberOf, kept, advanceNumber, advanceOn};
+ghost use Rattle.controller.specs.Calls.{numberOf, placeOf, kept, advanceNumber, advancePlace, advanceOn};
 ghost use Rattle.controller.specs.Performed.{CountersIn, SettingsIn, Passes, Performs, Performed};
 use model::Counters;
 use model::Thread;
@@ -65,6 +65,7 @@ pub fn advance(
     schedule: &[u8],
 ) -> Advancing
     ensures number { λ r. ⌜ advanceNumber r ≡ numberOf (advanceOn (lists (now (state .entry)) (now (keys .entry)) (now (chutes .entry)) (now (answers .entry))) (now (commands .entry)) (now (schedule .entry))) ⌝ }
+    ensures place { λ r. ⌜ advancePlace r ≡ placeOf (advanceOn (lists (now (state .entry)) (now (keys .entry)) (now (chutes .entry)) (now (answers .entry))) (now (commands .entry)) (now (schedule .entry))) ⌝ }
     ensures left { λ r. ⌜ lists (now (state .exit)) (now (keys .exit)) (now (chutes .exit)) (now (answers .exit)) ≡ kept (advanceOn (lists (now (state .entry)) (now (keys .entry)) (now (chutes .entry)) (now (answers .entry))) (now (commands .entry)) (now (schedule .entry))) (lists (now (state .entry)) (now (keys .entry)) (now (chutes .entry)) (now (answers .entry))) ⌝ }
 {
     if !lengths_fit(

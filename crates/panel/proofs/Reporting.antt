@@ -15,7 +15,7 @@ use Rattle.state_bytes.proofs.Passed.{lengths-passed}
 use Rattle.panel.specs.declared.Report.{Report}
 use Rattle.panel.proofs.Report.{the-type}
 use Rattle.panel.specs.declared.Report.the-variants.{Reported, WrongLength, WrongState}
-use Rattle.panel.specs.Reports.{reportOf, reportNumber, reportLeft}
+use Rattle.panel.specs.Reports.{reportOf, reportPlace, reportNumber, reportLeft}
 
 -- ---- the tests
 
@@ -49,6 +49,12 @@ module _ (l : Lists) (commands : List ℕ) (lent wanted : ℕ) where
   passed-lengths e =
       let both = and-eq-true-iff (handedBackFit l commands) (eqb lent wanted) .0 (not-six (handedBackFit l commands && eqb lent wanted) (cond (stateFits l) 0 12) e) in
       (lengths-passed l commands (both .0) .state, eqb-true lent wanted (both .1))
+
+-- no report names a command
+pub no-place : (r : Report) → reportPlace r ≡ 0
+no-place Reported = refl
+no-place WrongLength = refl
+no-place WrongState = refl
 
 -- ---- what is left
 

@@ -3,7 +3,7 @@ ghost use mathlib.Core.Path.{_≡_};
 ghost use lib.ListN.{length};
 ghost use Rattle.node_set.specs.Members.{countBelow};
 ghost use Rattle.state_bytes.specs.Layout.{Lists, lists, stateLength, stateIn};
-ghost use Rattle.panel.specs.Reports.{reportOf, reportNumber, reportLeft, pendingCounts};
+ghost use Rattle.panel.specs.Reports.{reportOf, reportPlace, reportNumber, reportLeft, pendingCounts};
 use crate::Report;
 use crate::tested::tested;
 use node_set::count;
@@ -66,6 +66,7 @@ pub fn pending_counts(
     counts: &mut [u8],
 ) -> Report
     ensures number { λ r. ⌜ reportOf r ≡ reportNumber (lists (now (state .entry)) (now (keys .entry)) (now (chutes .entry)) (now (answers .entry))) (now (commands .entry)) (length (now (counts .entry))) 150 ⌝ }
+    ensures place { λ r. ⌜ reportPlace r ≡ 0 ⌝ }
     ensures left { λ r. ⌜ now (counts .exit) ≡ reportLeft (reportOf r) (pendingCounts (stateIn (lists (now (state .entry)) (now (keys .entry)) (now (chutes .entry)) (now (answers .entry))))) (now (counts .entry)) ⌝ }
 {
     let report = tested(

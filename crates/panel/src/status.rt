@@ -7,7 +7,7 @@ ghost use lib.Dec.{eqb};
 ghost use lib.ListN.{length, drop};
 ghost use Rattle.state_bytes.specs.Bytes.{tabulate};
 ghost use Rattle.state_bytes.specs.Layout.{Lists, lists, stateLength, stateIn};
-ghost use Rattle.panel.specs.Reports.{reportOf, reportNumber, reportLeft, statusOf, reported, stateNumber, workerStatus, workerStatusBytes, workersIn};
+ghost use Rattle.panel.specs.Reports.{reportOf, reportPlace, reportNumber, reportLeft, statusOf, reported, stateNumber, workerStatus, workerStatusBytes, workersIn};
 use crate::Report;
 use crate::WorkerState;
 use crate::WorkerStatus;
@@ -118,6 +118,7 @@ pub fn worker_status_bytes(
     bytes: &mut [u8],
 ) -> Report
     ensures number { λ r. ⌜ reportOf r ≡ reportNumber (lists (now (state .entry)) (now (keys .entry)) (now (chutes .entry)) (now (answers .entry))) (now (commands .entry)) (length (now (bytes .entry))) 128 ⌝ }
+    ensures place { λ r. ⌜ reportPlace r ≡ 0 ⌝ }
     ensures left { λ r. ⌜ now (bytes .exit) ≡ reportLeft (reportOf r) (workerStatusBytes (workersIn (now (state .entry))) (stateIn (lists (now (state .entry)) (now (keys .entry)) (now (chutes .entry)) (now (answers .entry))))) (now (bytes .entry)) ⌝ }
 {
     let report = tested(
@@ -168,6 +169,7 @@ pub fn worker_status(
     status: &mut [WorkerStatus],
 ) -> Report
     ensures number { λ r. ⌜ reportOf r ≡ reportNumber (lists (now (state .entry)) (now (keys .entry)) (now (chutes .entry)) (now (answers .entry))) (now (commands .entry)) (length (now (status .entry))) 64 ⌝ }
+    ensures place { λ r. ⌜ reportPlace r ≡ 0 ⌝ }
     ensures left { λ r. ⌜ now (status .exit) ≡ reportLeft (reportOf r) (workerStatus (workersIn (now (state .entry))) (stateIn (lists (now (state .entry)) (now (keys .entry)) (now (chutes .entry)) (now (answers .entry))))) (now (status .entry)) ⌝ }
 {
     let report = tested(

@@ -82,7 +82,7 @@ returns-2 c =
     let answers = call .advance .last .1 .1 .1 .0 in
     let left = lists state (call .advance .last .1 .0) (call .advance .last .1 .1 .0) answers in
     let none = sym (answer .number .ensures .0 ∙ call .advance .ensures .0) ∙ test .if1 .left in
-    let accepting = printed-accepted (report commands) (advanceOn lent commands schedule) lent left (advance-numbered lent commands schedule) none (call .advance .ensures .1) in
+    let accepting = printed-accepted (report commands) (advanceOn lent commands schedule) lent left (advance-numbered lent commands schedule) none (call .advance .ensures .1 .1) in
     rw (accepting, report-by-bytes commands left (lists state [] [] answers) refl refl) (last .put-report .ensures)
 
 pub advance-and-report-spec : {M : Type 1} → statement M

@@ -1,7 +1,7 @@
 -- `depot_c::advancing::advance_within` meets its contract: the numbers are read, the proved call is made, and what it leaves is written. Assumes nothing.
 use native.Mathlib.Omega.{arith}
 use borrow.Author.Needs.{needs}
-use mathlib.Core.Path.{_≡_, sym, _∙_}
+use mathlib.Core.Path.{_≡_, _∙_}
 use lib.ListN.{length}
 use Rattle.state_bytes.specs.Layout.{Lists, lists}
 use Rattle.controller.specs.Calls.{Outcome, advanceOn}
@@ -33,7 +33,7 @@ answer-is : (c : tie.After-number)
 answer-is c =
     let args = entry c .args in
     c .number .ensures .0 ∙ omega arith ∙ answer-on (args .state .now) (args .keys .now) (args .chutes .now) (args .answers .now) (outcome (entry c)) (read (called c) .read-lists .ensures)
-    (called c .advance .ensures .0) (sym (advance-place _ _ _))
+    (called c .advance .ensures .0) (advance-place (called c .advance .result) ∙ called c .advance .ensures .1 .0)
 
 read-lists-requires : tie.Need-read-lists-requires
 read-lists-requires c κs = search needs
@@ -90,7 +90,7 @@ returns c =
     (λ i. omega (arith, before .before .before .before .before .before .before .before .before .before .before .before .before .slice-known4 .given i)) in (
       answer-is answer,
       written-on (args .state .now) (args .keys .now) (args .chutes .now) (args .answers .now) (outcome begin) (before .read-lists .ensures) whole
-          (called answer .advance .ensures .1) (c .before .before .before .before .before .before .write-lists .ensures),
+          (called answer .advance .ensures .1 .1) (c .before .before .before .before .before .before .write-lists .ensures),
     )
 
 same-length-8 : tie.Need-same-length-8
@@ -120,7 +120,7 @@ returns-2 c =
     let args = entry answer .args in (
       answer-is answer,
       refused-on (args .state .now) (args .keys .now) (args .chutes .now) (args .answers .now) (outcome (entry answer)) (read (called answer) .read-lists .ensures)
-          (called answer .advance .ensures .1) (λ z. c .if1 .left (answer-is answer ∙ z)),
+          (called answer .advance .ensures .1 .1) (λ z. c .if1 .left (answer-is answer ∙ z)),
     )
 
 pub advance-within-spec : {M : Type 1} → statement M
