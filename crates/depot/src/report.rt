@@ -14,13 +14,12 @@ use crate::text::put_number;
 use crate::text::put_text;
 use command::Command;
 use command::Kind;
-use state_bytes::NEXT;
+use node_set::Node;
 use state_bytes::USED;
+use state_bytes::next_at;
 use state_bytes::number_at;
 
-// How many nodes the table has, and a chain at most.
-const NODES: usize = 151;
-
+// How many nodes a chain has at most.
 const LONGEST_CHAIN: usize = 150;
 
 // The line of a refusal.
@@ -89,29 +88,17 @@ fn put_lines(out: &mut [u8], commands: &[u8], answers: &[u16]) -> usize
     at
 }
 
-// The next index of a node.
-fn next_of(state: &[u8], node: usize) -> usize
-    requires { ⌜ length (now state) ≡ 4715 ⌝ }
-    ensures { λ r. ⌜ r ≡ stateIn (lists (now (state .entry)) [] [] []) .next node ⌝ }
-{
-    if node < NODES {
-        state[NEXT + node] as usize
-    } else {
-        0
-    }
-}
-
 // How many nodes the chain has.
 fn chain_length(state: &[u8]) -> usize
     requires { ⌜ length (now state) ≡ 4715 ⌝ }
     ensures { λ r. ⌜ r ≡ length (chainFrom 150 0 (stateIn (lists (now (state .entry)) [] [] []))) ⌝ }
     ensures { λ r. ⌜ r ≤ 150 ⌝ }
 {
-    let mut node = 0;
+    let mut node = Node(0);
     let mut count = 0;
     while count < LONGEST_CHAIN {
-        node = next_of(state, node);
-        if node == 0 {
+        node = next_at(state, node);
+        if node.0 == 0 {
             return count;
         }
         count += 1;

@@ -6,32 +6,21 @@ ghost use Rattle.state_bytes.specs.Layout.{Lists, lists, stateLength, stateIn};
 ghost use Rattle.panel.specs.Reports.{reportOf, reportPlace, reportNumber, reportLeft, pendingCounts};
 use crate::Report;
 use crate::tested::tested;
+use node_set::Node;
 use node_set::count;
-use state_bytes::NEXT;
+use state_bytes::LAST_NODE;
+use state_bytes::next_at;
 use state_bytes::set_at;
 
 // How many entries the report has.
 const COUNTS: usize = 150;
 
-// The largest number of a node.
-const LAST_NODE: u8 = 150;
-
-// The node behind a node, 0 for none; a number that no node has is followed by none.
-fn next_of(state: &[u8], n: u8) -> u8
-    requires { ⌜ length (now state) ≡ stateLength ⌝ }
-    ensures { λ r. ⌜ ((l : Lists) → l .state ≡ now (state .entry) → r ≡ stateIn l .next n) ⌝ }
-{
-    if n > LAST_NODE {
-        return 0;
-    }
-    state[NEXT + n as usize]
-}
-
 // How many nodes a node waits for; a number that no node has waits for none.
-fn count_of(state: &[u8], n: u8) -> u8
+fn count_of(state: &[u8], node: Node) -> u8
     requires { ⌜ length (now state) ≡ stateLength ⌝ }
-    ensures { λ r. ⌜ ((l : Lists) → l .state ≡ now (state .entry) → r ≡ countBelow 192 (stateIn l .waits n)) ⌝ }
+    ensures { λ r. ⌜ ((l : Lists) → l .state ≡ now (state .entry) → r ≡ countBelow 192 (stateIn l .waits (node .0))) ⌝ }
 {
+    let n = node.0;
     if n > LAST_NODE {
         return 0;
     }
@@ -43,14 +32,14 @@ fn write_counts(state: &[u8], counts: &mut [u8])
     requires { ⌜ (length (now state) ≡ stateLength) × (length (now counts) ≡ 150) ⌝ }
     ensures { λ _. ⌜ ((l : Lists) → l .state ≡ now (state .entry) → now (counts .exit) ≡ pendingCounts (stateIn l)) ⌝ }
 {
-    let mut n = next_of(state, 0);
+    let mut node = next_at(state, Node(0));
     let mut i = 0;
     while i < COUNTS {
-        if n == 0 {
+        if node.0 == 0 {
             counts[i] = 0;
         } else {
-            counts[i] = count_of(state, n);
-            n = next_of(state, n);
+            counts[i] = count_of(state, node);
+            node = next_at(state, node);
         }
         i += 1;
     }
