@@ -6,7 +6,7 @@ use mathlib.Core.List.{List}
 use Rattle.model.specs.Step.{steps}
 use Rattle.model.specs.Statement.{allWithin}
 use Rattle.state_bytes.specs.Layout.{Lists, listsOf, setupIn, stateIn, stateFits, handedBackFit}
-use Rattle.controller.specs.Calls.{Outcome, accepted, refused, numberOf, kept, advanceOn}
+use Rattle.controller.specs.Calls.{Outcome, accepted, refused, numberOf, placeOf, kept, advanceOn}
 use Rattle.controller.specs.Performed.{Passes}
 
 module _ (l : Lists) (commands schedule : List ℕ) where
@@ -29,14 +29,14 @@ module _ (l : Lists) (commands schedule : List ℕ) where
   unfolding advanceOn
   accepts p = rw (p .lengths, p .state, p .named)
 
-  -- a refusal answers its number and leaves the lists
+  -- a refusal answers its number, with no place, and leaves the lists
   pub refused-so : (n : ℕ) → advanceOn l commands schedule ≡ refused n 0
-      → (n ≡ numberOf (advanceOn l commands schedule)) × (l ≡ kept (advanceOn l commands schedule) l)
-  unfolding numberOf kept
-  refused-so n e = (sym (ap numberOf e), sym (ap (λ (x : Outcome). kept x l) e))
+      → (n ≡ numberOf (advanceOn l commands schedule)) × ((0 ≡ placeOf (advanceOn l commands schedule)) × (l ≡ kept (advanceOn l commands schedule) l))
+  unfolding numberOf placeOf kept
+  refused-so n e = (sym (ap numberOf e), (sym (ap placeOf e), sym (ap (λ (x : Outcome). kept x l) e)))
 
-  -- an accepted call answers 0 and leaves its lists
+  -- an accepted call answers 0, with no place, and leaves its lists
   pub accepted-so : (m after : Lists) → m ≡ after → advanceOn l commands schedule ≡ accepted after
-      → (0 ≡ numberOf (advanceOn l commands schedule)) × (m ≡ kept (advanceOn l commands schedule) l)
-  unfolding numberOf kept
-  accepted-so m after is e = (sym (ap numberOf e), rw (is, e))
+      → (0 ≡ numberOf (advanceOn l commands schedule)) × ((0 ≡ placeOf (advanceOn l commands schedule)) × (m ≡ kept (advanceOn l commands schedule) l))
+  unfolding numberOf placeOf kept
+  accepted-so m after is e = (sym (ap numberOf e), (sym (ap placeOf e), rw (is, e)))

@@ -76,11 +76,18 @@ openOn size workers capacity commands l =
 
 -- ---- a call on a handed-back state
 
+-- the document's number and place for each answer
 abbrev pub advanceNumber : Advancing → ℕ
 advanceNumber Advanced = 0
 advanceNumber WrongLengths = 6
 advanceNumber UnknownThread = 11
 advanceNumber WrongState = 12
+
+abbrev pub advancePlace : Advancing → ℕ
+advancePlace Advanced = 0
+advancePlace WrongLengths = 0
+advancePlace UnknownThread = 0
+advancePlace WrongState = 0
 
 -- "Any call on a handed-back run tests 6, then 12, then 11." "It is checked whole before its first turn"
 unfoldable pub advanceOn : Lists → List ℕ → List ℕ → Outcome

@@ -1,10 +1,11 @@
 // Advancing: the tests of a handed-back state, then the steps of a schedule.
 ghost use mathlib.Core.Path.{_≡_};
+ghost use Prim.Native.Nat.{_≤_};
 ghost use lib.ListN.{length};
 ghost use Rattle.model.specs.Step.{steps};
 ghost use Rattle.graph.specs.Memory.{memory};
 ghost use Rattle.state_bytes.specs.Layout.{lists, atEntry, atExit, listsOf, setupIn, stateIn, stateLength};
-ghost use Rattle.controller.specs.Calls.{numberOf, kept, advanceNumber, advanceOn};
+ghost use Rattle.controller.specs.Calls.{numberOf, placeOf, kept, advanceNumber, advancePlace, advanceOn};
 ghost use Rattle.controller.specs.Performed.{CountersIn, SettingsIn, Passes, Performs, Performed};
 use command::Seq;
 use model::Counters;
@@ -41,6 +42,20 @@ pub enum Advancing {
     WrongState,
 }
 
+impl Advancing {
+    // The answer's number.
+    pub fn number(self) -> u64
+        ensures { λ r. ⌜ (r ≡ advanceNumber self) × (r ≤ 12) ⌝ }
+    {
+        match self {
+            Advancing::Advanced => 0,
+            Advancing::WrongLength => 6,
+            Advancing::UnknownThread => 11,
+            Advancing::WrongState => 12,
+        }
+    }
+}
+
 // Performs a schedule, one step a byte. A refusal leaves every list as it was.
 pub fn advance(
     state: &mut [u8],
@@ -51,6 +66,7 @@ pub fn advance(
     schedule: &[u8],
 ) -> Advancing
     ensures number { λ r. ⌜ advanceNumber r ≡ numberOf (advanceOn (atEntry state keys chutes answers) (now (commands .entry)) (now (schedule .entry))) ⌝ }
+    ensures place { λ r. ⌜ advancePlace r ≡ placeOf (advanceOn (atEntry state keys chutes answers) (now (commands .entry)) (now (schedule .entry))) ⌝ }
     ensures left { λ r. ⌜ atExit state keys chutes answers ≡ kept (advanceOn (atEntry state keys chutes answers) (now (commands .entry)) (now (schedule .entry))) (atEntry state keys chutes answers) ⌝ }
 {
     if !lengths_fit(

@@ -7,7 +7,7 @@ ghost use lib.Dec.{leb};
 ghost use Rattle.command.specs.Read.{listOutcome};
 ghost use Rattle.model.specs.Setup.{Setup};
 ghost use Rattle.model.specs.Graph.{firstNext};
-ghost use Rattle.state_bytes.specs.Layout.{lists, stateLength, lengthsFit};
+ghost use Rattle.state_bytes.specs.Layout.{atExit, atEntry, stateLength, lengthsFit};
 ghost use Rattle.controller.specs.Calls.{numberOf, placeOf, kept, openingNumber, openingPlace, openedWith, openOn};
 ghost use Rattle.controller.specs.Opened.{setupOf, outcomeOf, LaysOpened};
 use command::Command;
@@ -35,6 +35,46 @@ pub enum Opening {
     WrongChuteAt(Seq),
 }
 
+impl Opening {
+    // The answer's number.
+    pub fn number(self) -> u64
+        ensures { λ r. ⌜ (r ≡ openingNumber self) × (r ≤ 12) ⌝ }
+    {
+        match self {
+            Opening::Opened => 0,
+            Opening::WrongGraphSize => 1,
+            Opening::WrongWorkers => 2,
+            Opening::WrongCapacity => 3,
+            Opening::WrongListLength => 4,
+            Opening::TooManyCommands => 5,
+            Opening::WrongLength => 6,
+            Opening::UnknownKindAt(_) => 7,
+            Opening::MalformedAt(_) => 8,
+            Opening::WrongCheckDigitAt(_) => 9,
+            Opening::WrongChuteAt(_) => 10,
+        }
+    }
+
+    // The place of the command that was refused, 0 for none.
+    pub fn place(self) -> usize
+        ensures { λ r. ⌜ r ≡ openingPlace self ⌝ }
+    {
+        match self {
+            Opening::Opened => 0,
+            Opening::WrongGraphSize => 0,
+            Opening::WrongWorkers => 0,
+            Opening::WrongCapacity => 0,
+            Opening::WrongListLength => 0,
+            Opening::TooManyCommands => 0,
+            Opening::WrongLength => 0,
+            Opening::UnknownKindAt(seq) => seq.0,
+            Opening::MalformedAt(seq) => seq.0,
+            Opening::WrongCheckDigitAt(seq) => seq.0,
+            Opening::WrongChuteAt(seq) => seq.0,
+        }
+    }
+}
+
 // What the settings and the list may be at most; each setting is at least 1.
 const LARGEST_SIZE: u64 = 150;
 
@@ -55,9 +95,9 @@ pub fn open(
     workers: u64,
     capacity: u64,
 ) -> Opening
-    ensures number { λ r. ⌜ openingNumber r ≡ numberOf (openOn size workers capacity (now (commands .entry)) (lists (now (state .entry)) (now (keys .entry)) (now (chutes .entry)) (now (answers .entry)))) ⌝ }
-    ensures place { λ r. ⌜ openingPlace r ≡ placeOf (openOn size workers capacity (now (commands .entry)) (lists (now (state .entry)) (now (keys .entry)) (now (chutes .entry)) (now (answers .entry)))) ⌝ }
-    ensures left { λ r. ⌜ lists (now (state .exit)) (now (keys .exit)) (now (chutes .exit)) (now (answers .exit)) ≡ kept (openOn size workers capacity (now (commands .entry)) (lists (now (state .entry)) (now (keys .entry)) (now (chutes .entry)) (now (answers .entry)))) (lists (now (state .entry)) (now (keys .entry)) (now (chutes .entry)) (now (answers .entry))) ⌝ }
+    ensures number { λ r. ⌜ openingNumber r ≡ numberOf (openOn size workers capacity (now (commands .entry)) (atEntry state keys chutes answers)) ⌝ }
+    ensures place { λ r. ⌜ openingPlace r ≡ placeOf (openOn size workers capacity (now (commands .entry)) (atEntry state keys chutes answers)) ⌝ }
+    ensures left { λ r. ⌜ atExit state keys chutes answers ≡ kept (openOn size workers capacity (now (commands .entry)) (atEntry state keys chutes answers)) (atEntry state keys chutes answers) ⌝ }
 {
     let answer = answer_for(
         state,
@@ -95,7 +135,7 @@ fn answer_for(
     workers: u64,
     capacity: u64,
 ) -> Opening
-    ensures { λ r. ⌜ openOn size workers capacity (now (commands .entry)) (lists (now (state .entry)) (now (keys .entry)) (now (chutes .entry)) (now (answers .entry))) ≡ outcomeOf r (setupOf size workers capacity (now (commands .entry))) ⌝ }
+    ensures { λ r. ⌜ openOn size workers capacity (now (commands .entry)) (atEntry state keys chutes answers) ≡ outcomeOf r (setupOf size workers capacity (now (commands .entry))) ⌝ }
 {
     let count = commands.len() / Command::LENGTH;
     if !is_within(size, LARGEST_SIZE) {
@@ -136,7 +176,7 @@ fn lengths_fit(
     capacity: u64,
     count: usize,
 ) -> bool
-    ensures { λ r. ⌜ r ≡ lengthsFit capacity count (lists (now (state .entry)) (now (keys .entry)) (now (chutes .entry)) (now (answers .entry))) ⌝ }
+    ensures { λ r. ⌜ r ≡ lengthsFit capacity count (atEntry state keys chutes answers) ⌝ }
 {
     state.len() == STATE_LENGTH
         && (answers.len() == count

@@ -2,52 +2,17 @@
 ghost use Prim.Native.Nat.{_*_, _≤_, _<_, min};
 ghost use mathlib.Core.Path.{_≡_};
 ghost use lib.ListN.{length};
-ghost use Rattle.state_bytes.specs.Layout.{lists};
-ghost use Rattle.controller.specs.Calls.{openingNumber, advanceNumber, openOn};
+ghost use Rattle.state_bytes.specs.Layout.{atEntry};
+ghost use Rattle.controller.specs.Calls.{openOn};
 ghost use Rattle.depot.specs.Program.{printed, advanced, zeros};
 ghost use Rattle.depot.specs.Wrote.{Wrote};
 use crate::report::put_refusal;
 use crate::report::put_report;
-use controller::Advancing;
-use controller::Opening;
 use controller::advance;
 use controller::open;
 
 // The most that a store may have room for.
 const LARGEST_CAPACITY: u64 = 4096;
-
-// The number of an opening's answer.
-fn opening_number(opening: Opening) -> u64
-    ensures { λ r. ⌜ r ≡ openingNumber opening ⌝ }
-    ensures { λ r. ⌜ r < 100 ⌝ }
-{
-    match opening {
-        Opening::Opened => 0,
-        Opening::WrongGraphSize => 1,
-        Opening::WrongWorkers => 2,
-        Opening::WrongCapacity => 3,
-        Opening::WrongListLength => 4,
-        Opening::TooManyCommands => 5,
-        Opening::WrongLength => 6,
-        Opening::UnknownKindAt(_) => 7,
-        Opening::MalformedAt(_) => 8,
-        Opening::WrongCheckDigitAt(_) => 9,
-        Opening::WrongChuteAt(_) => 10,
-    }
-}
-
-// The number of an advance's answer.
-fn advancing_number(advancing: Advancing) -> u64
-    ensures { λ r. ⌜ r ≡ advanceNumber advancing ⌝ }
-    ensures { λ r. ⌜ r < 100 ⌝ }
-{
-    match advancing {
-        Advancing::Advanced => 0,
-        Advancing::WrongLength => 6,
-        Advancing::UnknownThread => 11,
-        Advancing::WrongState => 12,
-    }
-}
 
 // Performs the schedule in opened lists, and writes what came of it.
 fn advance_and_report(
@@ -61,10 +26,10 @@ fn advance_and_report(
 ) -> usize
     requires { ⌜ (length (now commands) ≡ 16 * length (now answers)) × (length (now answers) < 4096) × (131072 ≤ length (now out)) ⌝ }
     requires { ⌜ length (now state) ≡ 4715 ⌝ }
-    ensures { λ r. ⌜ Wrote (advanced (now (commands .entry)) (now (schedule .entry)) (lists (now (state .entry)) (now (keys .entry)) (now (chutes .entry)) (now (answers .entry)))) 0 (now (out .entry)) (now (out .exit)) r ⌝ }
+    ensures { λ r. ⌜ Wrote (advanced (now (commands .entry)) (now (schedule .entry)) (atEntry state keys chutes answers)) 0 (now (out .entry)) (now (out .exit)) r ⌝ }
 {
     let advancing = advance(state, keys, chutes, answers, commands, schedule);
-    let number = advancing_number(advancing);
+    let number = advancing.number();
     if number != 0 {
         return put_refusal(out, number);
     }
@@ -86,7 +51,7 @@ fn open_and_advance(
 ) -> usize
     requires { ⌜ (length (now commands) ≡ 16 * length (now answers)) × (length (now answers) < 4096) × (131072 ≤ length (now out)) ⌝ }
     requires { ⌜ length (now state) ≡ 4715 ⌝ }
-    ensures { λ r. ⌜ Wrote (printed (advanced (now (commands .entry)) (now (schedule .entry))) (openOn size workers capacity (now (commands .entry)) (lists (now (state .entry)) (now (keys .entry)) (now (chutes .entry)) (now (answers .entry))))) 0 (now (out .entry)) (now (out .exit)) r ⌝ }
+    ensures { λ r. ⌜ Wrote (printed (advanced (now (commands .entry)) (now (schedule .entry))) (openOn size workers capacity (now (commands .entry)) (atEntry state keys chutes answers))) 0 (now (out .entry)) (now (out .exit)) r ⌝ }
 {
     let opening = open(
         state,
@@ -98,7 +63,7 @@ fn open_and_advance(
         workers,
         capacity,
     );
-    let number = opening_number(opening);
+    let number = opening.number();
     if number != 0 {
         return put_refusal(out, number);
     }

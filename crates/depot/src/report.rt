@@ -16,13 +16,14 @@ use crate::text::put_text;
 use command::AnyKind;
 use command::Command;
 use command::Kind;
-use state_bytes::NEXT;
+use command::Seq;
+use node_set::Node;
+use panel::answers_from;
 use state_bytes::USED;
+use state_bytes::next_at;
 use state_bytes::number_at;
 
-// How many nodes the table has, and a chain at most.
-const NODES: usize = 151;
-
+// How many nodes a chain has at most.
 const LONGEST_CHAIN: usize = 150;
 
 // The line of a refusal.
@@ -53,21 +54,21 @@ fn put_kind(out: &mut [u8], at: usize, kind: AnyKind) -> usize
 }
 
 // A line's first two words, each with a space behind it.
-fn put_start(out: &mut [u8], at: usize, place: usize, kind: AnyKind) -> usize
-    requires { ⌜ (at + 12 ≤ length (now out)) × (place < 10000) ⌝ }
-    ensures { λ r. ⌜ Wrote (decimal place ++ space ++ nameOf (knownKind kind) ++ space) at (now (out .entry)) (now (out .exit)) r ⌝ }
+fn put_start(out: &mut [u8], at: usize, place: Seq, kind: AnyKind) -> usize
+    requires { ⌜ (at + 12 ≤ length (now out)) × (place .0 < 10000) ⌝ }
+    ensures { λ r. ⌜ Wrote (decimal (place .0) ++ space ++ nameOf (knownKind kind) ++ space) at (now (out .entry)) (now (out .exit)) r ⌝ }
     ensures { λ r. ⌜ r ≤ at + 12 ⌝ }
 {
-    let at = put_number(out, at, place as u64);
+    let at = put_number(out, at, place.0 as u64);
     let at = put_byte(out, at, SPACE);
     let at = put_kind(out, at, kind);
     put_byte(out, at, SPACE)
 }
 
 // The line of a command: its place, kind, identifier and answer.
-fn put_line(out: &mut [u8], at: usize, place: usize, command: &[u8], answer: u16) -> usize
-    requires { ⌜ (at + 32 ≤ length (now out)) × (place < 10000) × (length (now command) ≡ 16) ⌝ }
-    ensures { λ r. ⌜ Wrote (commandLine place (now (command .entry)) answer) at (now (out .entry)) (now (out .exit)) r ⌝ }
+fn put_line(out: &mut [u8], at: usize, place: Seq, command: &[u8], answer: u16) -> usize
+    requires { ⌜ (at + 32 ≤ length (now out)) × (place .0 < 10000) × (length (now command) ≡ 16) ⌝ }
+    ensures { λ r. ⌜ Wrote (commandLine (place .0) (now (command .entry)) answer) at (now (out .entry)) (now (out .exit)) r ⌝ }
     ensures { λ r. ⌜ r ≤ at + 32 ⌝ }
 {
     let at = put_start(out, at, place, Kind::of(command[0]));
@@ -77,7 +78,7 @@ fn put_line(out: &mut [u8], at: usize, place: usize, command: &[u8], answer: u16
     put_byte(out, at, NEWLINE)
 }
 
-// The lines of all commands.
+// The lines of all commands. A command's answer is the first of those from its place on.
 fn put_lines(out: &mut [u8], commands: &[u8], answers: &[u16]) -> usize
     requires { ⌜ (length (now commands) ≡ 16 * length (now answers)) × (length (now answers) < 4096) × (131072 ≤ length (now out)) ⌝ }
     ensures { λ r. ⌜ Wrote (commandLines (now (commands .entry)) (now (answers .entry))) 0 (now (out .entry)) (now (out .exit)) r ⌝ }
@@ -88,22 +89,12 @@ fn put_lines(out: &mut [u8], commands: &[u8], answers: &[u16]) -> usize
     while i < answers.len() {
         let start = Command::LENGTH * i;
         let end = start + Command::LENGTH;
-        at = put_line(out, at, i + 1, &commands[start..end], answers[i]);
+        let place = Seq(i + 1);
+        let rest = answers_from(answers, place);
+        at = put_line(out, at, place, &commands[start..end], rest[0]);
         i += 1;
     }
     at
-}
-
-// The next index of a node.
-fn next_of(state: &[u8], node: usize) -> usize
-    requires { ⌜ length (now state) ≡ 4715 ⌝ }
-    ensures { λ r. ⌜ r ≡ stateIn (lists (now (state .entry)) [] [] []) .graph .next node ⌝ }
-{
-    if node < NODES {
-        state[NEXT + node] as usize
-    } else {
-        0
-    }
 }
 
 // How many nodes the chain has.
@@ -112,11 +103,11 @@ fn chain_length(state: &[u8]) -> usize
     ensures { λ r. ⌜ r ≡ length (chainFrom 150 0 (stateIn (lists (now (state .entry)) [] [] []) .graph)) ⌝ }
     ensures { λ r. ⌜ r ≤ 150 ⌝ }
 {
-    let mut node = 0;
+    let mut node = Node(0);
     let mut count = 0;
     while count < LONGEST_CHAIN {
-        node = next_of(state, node);
-        if node == 0 {
+        node = next_at(state, node);
+        if node.0 == 0 {
             return count;
         }
         count += 1;

@@ -12,11 +12,12 @@ use Rattle.command.specs.Read.{firstRefusal, readings, commandsIn}
 use Rattle.command.specs.Read as Command
 use Rattle.command.proofs.Laws.{length-readings}
 use Rattle.model.specs.Setup.{Setup}
-use Rattle.model.specs.Statement.{allWithin}
 use Rattle.model.specs.Proof.Tests.{fails}
 use Rattle.state_bytes.specs.Bytes.{numberAt}
 use Rattle.state_bytes.specs.Layout.{Lists, lists, stateLength, setupIn, countIn, stateFits, lengthsFit, handedBackFit}
-use Rattle.controller.specs.Calls.{Outcome, accepted, refused, numberOf, placeOf, kept, openedWith, openOn, advanceOn}
+use Rattle.controller.specs.Calls.{Outcome, accepted, refused, numberOf, placeOf, kept, openedWith, openOn, advanceOn, advancePlace}
+use Rattle.controller.specs.declared.«advance_call».Advancing.{Advancing}
+use Rattle.controller.specs.declared.«advance_call».Advancing.the-variants.{Advanced, WrongLength, UnknownThread, WrongState}
 use Rattle.depot_c.specs.Numbers.{numbersIn, bytesIn}
 use Rattle.depot_c.specs.Boundary.{areWhole, entries, decoded, encoded, answerOf, left}
 use Rattle.state_bytes.proofs.Bytes.{Bytes}
@@ -135,11 +136,11 @@ unfolding advanceOn
 long-advanced b commands schedule long = under (handedBackFit (entries b) commands) 6 (λ fit. rw (long-unfit b commands long fit))
 
 -- an advance names no command
-pub advance-place : (l : Lists) (commands schedule : List ℕ) → placeOf (advanceOn l commands schedule) ≡ 0
-unfolding advanceOn placeOf
-advance-place l commands schedule =
-    let P : Outcome → Type 0 = λ o. placeOf o ≡ 0 in
-    chosen P (handedBackFit l commands) (λ _. chosen P (stateFits l) (λ _. chosen P (allWithin _ schedule) (λ _. refl) (λ _. refl)) (λ _. refl)) (λ _. refl)
+pub advance-place : (r : Advancing) → 0 ≡ advancePlace r
+advance-place Advanced = refl
+advance-place WrongLength = refl
+advance-place UnknownThread = refl
+advance-place WrongState = refl
 
 -- one of two refusals without a place
 either-answer : (t : Bool) → answerOf (cond t (refused 12 0) (refused 6 0)) ≡ cond t 12 6

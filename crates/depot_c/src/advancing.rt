@@ -1,7 +1,7 @@
 // Advancing, on byte lists.
 ghost use mathlib.Core.Path.{_≡_};
-ghost use Rattle.state_bytes.specs.Layout.{lists};
-ghost use Rattle.controller.specs.Calls.{advanceOn, advanceNumber};
+ghost use Rattle.state_bytes.specs.Layout.{atExit, atEntry};
+ghost use Rattle.controller.specs.Calls.{advanceOn};
 ghost use Rattle.depot_c.specs.Boundary.{entries, answerOf, left, advanceAnswer, advanceLeft, Rooms};
 use crate::lists::MOST;
 use crate::lists::are_whole;
@@ -9,20 +9,7 @@ use crate::lists::have_room;
 use crate::lists::long_answer;
 use crate::lists::read_lists;
 use crate::lists::write_lists;
-use controller::Advancing;
 use controller::advance;
-
-// The number that an advance's answer is at the boundary.
-fn advancing_answer(advancing: Advancing) -> u64
-    ensures { λ r. ⌜ r ≡ advanceNumber advancing ⌝ }
-{
-    match advancing {
-        Advancing::Advanced => 0,
-        Advancing::WrongLength => 6,
-        Advancing::UnknownThread => 11,
-        Advancing::WrongState => 12,
-    }
-}
 
 // Advances, with rooms for the numbers of the byte lists.
 fn advance_within(
@@ -37,12 +24,12 @@ fn advance_within(
     answer_room: &mut [u16],
 ) -> u64
     requires { ⌜ Rooms (now keys) (now chutes) (now answers) (now «key_room») (now «chute_room») (now «answer_room») ⌝ }
-    ensures number { λ r. ⌜ r ≡ answerOf (advanceOn (entries (lists (now (state .entry)) (now (keys .entry)) (now (chutes .entry)) (now (answers .entry)))) (now (commands .entry)) (now (schedule .entry))) ⌝ }
-    ensures left { λ r. ⌜ lists (now (state .exit)) (now (keys .exit)) (now (chutes .exit)) (now (answers .exit)) ≡ left (advanceOn (entries (lists (now (state .entry)) (now (keys .entry)) (now (chutes .entry)) (now (answers .entry)))) (now (commands .entry)) (now (schedule .entry))) (lists (now (state .entry)) (now (keys .entry)) (now (chutes .entry)) (now (answers .entry))) ⌝ }
+    ensures number { λ r. ⌜ r ≡ answerOf (advanceOn (entries (atEntry state keys chutes answers)) (now (commands .entry)) (now (schedule .entry))) ⌝ }
+    ensures left { λ r. ⌜ atExit state keys chutes answers ≡ left (advanceOn (entries (atEntry state keys chutes answers)) (now (commands .entry)) (now (schedule .entry))) (atEntry state keys chutes answers) ⌝ }
 {
     read_lists(keys, chutes, answers, key_room, chute_room, answer_room);
     let advancing = advance(state, key_room, chute_room, answer_room, commands, schedule);
-    let answer = advancing_answer(advancing);
+    let answer = advancing.number();
     if answer == 0 {
         write_lists(keys, chutes, answers, key_room, chute_room, answer_room);
     }
@@ -59,8 +46,8 @@ pub extern "C" fn depot_advance(
     commands: &[u8],
     schedule: &[u8],
 ) -> u64
-    ensures number { λ r. ⌜ r ≡ advanceAnswer (lists (now (state .entry)) (now (keys .entry)) (now (chutes .entry)) (now (answers .entry))) (now (commands .entry)) (now (schedule .entry)) ⌝ }
-    ensures left { λ r. ⌜ lists (now (state .exit)) (now (keys .exit)) (now (chutes .exit)) (now (answers .exit)) ≡ advanceLeft (lists (now (state .entry)) (now (keys .entry)) (now (chutes .entry)) (now (answers .entry))) (now (commands .entry)) (now (schedule .entry)) ⌝ }
+    ensures number { λ r. ⌜ r ≡ advanceAnswer (atEntry state keys chutes answers) (now (commands .entry)) (now (schedule .entry)) ⌝ }
+    ensures left { λ r. ⌜ atExit state keys chutes answers ≡ advanceLeft (atEntry state keys chutes answers) (now (commands .entry)) (now (schedule .entry)) ⌝ }
 {
     let key_count = keys.len() / 8;
     let chute_count = chutes.len() / 2;

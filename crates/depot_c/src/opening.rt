@@ -2,7 +2,7 @@
 ghost use mathlib.Core.Path.{_≡_};
 ghost use mathlib.Core.List.{[]};
 ghost use Prim.Native.Nat.{_+_, _*_, _≤_};
-ghost use Rattle.state_bytes.specs.Layout.{lists};
+ghost use Rattle.state_bytes.specs.Layout.{lists, atExit, atEntry};
 ghost use Rattle.controller.specs.Calls.{openOn, openingNumber, openingPlace};
 ghost use Rattle.depot_c.specs.Boundary.{entries, answerOf, left, openAnswer, openLeft, Rooms};
 use crate::lists::MOST;
@@ -13,52 +13,12 @@ use crate::lists::write_lists;
 use controller::Opening;
 use controller::open;
 
-// The number of an opening's answer.
-fn opening_number(opening: Opening) -> u64
-    ensures { λ r. ⌜ (r ≡ openingNumber opening) × (r ≤ 10) ⌝ }
-{
-    match opening {
-        Opening::Opened => 0,
-        Opening::WrongGraphSize => 1,
-        Opening::WrongWorkers => 2,
-        Opening::WrongCapacity => 3,
-        Opening::WrongListLength => 4,
-        Opening::TooManyCommands => 5,
-        Opening::WrongLength => 6,
-        Opening::UnknownKindAt(_) => 7,
-        Opening::MalformedAt(_) => 8,
-        Opening::WrongCheckDigitAt(_) => 9,
-        Opening::WrongChuteAt(_) => 10,
-    }
-}
-
-// The place of an opening's answer.
-fn opening_place(opening: Opening) -> usize
-    ensures { λ r. ⌜ r ≡ openingPlace opening ⌝ }
-{
-    match opening {
-        Opening::Opened => 0,
-        Opening::WrongGraphSize => 0,
-        Opening::WrongWorkers => 0,
-        Opening::WrongCapacity => 0,
-        Opening::WrongListLength => 0,
-        Opening::TooManyCommands => 0,
-        Opening::WrongLength => 0,
-        Opening::UnknownKindAt(seq) => seq.0,
-        Opening::MalformedAt(seq) => seq.0,
-        Opening::WrongCheckDigitAt(seq) => seq.0,
-        Opening::WrongChuteAt(seq) => seq.0,
-    }
-}
-
 // A refusal's number and the command's place, in one number.
 fn opening_answer(opening: Opening) -> u64
     requires { ⌜ openingPlace opening ≤ 4096 ⌝ }
     ensures { λ r. ⌜ r ≡ openingNumber opening + 256 * openingPlace opening ⌝ }
 {
-    let number = opening_number(opening);
-    let place = opening_place(opening);
-    number + 256 * place as u64
+    opening.number() + 256 * opening.place() as u64
 }
 
 // The answer where the lists cannot be those of an accepted opening.
@@ -97,8 +57,8 @@ fn open_within(
     answer_room: &mut [u16],
 ) -> u64
     requires { ⌜ Rooms (now keys) (now chutes) (now answers) (now «key_room») (now «chute_room») (now «answer_room») ⌝ }
-    ensures number { λ r. ⌜ r ≡ answerOf (openOn size workers capacity (now (commands .entry)) (entries (lists (now (state .entry)) (now (keys .entry)) (now (chutes .entry)) (now (answers .entry))))) ⌝ }
-    ensures left { λ r. ⌜ lists (now (state .exit)) (now (keys .exit)) (now (chutes .exit)) (now (answers .exit)) ≡ left (openOn size workers capacity (now (commands .entry)) (entries (lists (now (state .entry)) (now (keys .entry)) (now (chutes .entry)) (now (answers .entry))))) (lists (now (state .entry)) (now (keys .entry)) (now (chutes .entry)) (now (answers .entry))) ⌝ }
+    ensures number { λ r. ⌜ r ≡ answerOf (openOn size workers capacity (now (commands .entry)) (entries (atEntry state keys chutes answers))) ⌝ }
+    ensures left { λ r. ⌜ atExit state keys chutes answers ≡ left (openOn size workers capacity (now (commands .entry)) (entries (atEntry state keys chutes answers))) (atEntry state keys chutes answers) ⌝ }
 {
     read_lists(keys, chutes, answers, key_room, chute_room, answer_room);
     let opening = open(
@@ -130,8 +90,8 @@ pub extern "C" fn depot_open(
     workers: u64,
     capacity: u64,
 ) -> u64
-    ensures number { λ r. ⌜ r ≡ openAnswer size workers capacity (now (commands .entry)) (lists (now (state .entry)) (now (keys .entry)) (now (chutes .entry)) (now (answers .entry))) ⌝ }
-    ensures left { λ r. ⌜ lists (now (state .exit)) (now (keys .exit)) (now (chutes .exit)) (now (answers .exit)) ≡ openLeft size workers capacity (now (commands .entry)) (lists (now (state .entry)) (now (keys .entry)) (now (chutes .entry)) (now (answers .entry))) ⌝ }
+    ensures number { λ r. ⌜ r ≡ openAnswer size workers capacity (now (commands .entry)) (atEntry state keys chutes answers) ⌝ }
+    ensures left { λ r. ⌜ atExit state keys chutes answers ≡ openLeft size workers capacity (now (commands .entry)) (atEntry state keys chutes answers) ⌝ }
 {
     let key_count = keys.len() / 8;
     let chute_count = chutes.len() / 2;

@@ -3,7 +3,7 @@ ghost use mathlib.Core.Path.{_≡_};
 ghost use mathlib.Core.Bool.{_&&_};
 ghost use lib.Dec.{eqb};
 ghost use lib.ListN.{length};
-ghost use Rattle.state_bytes.specs.Layout.{lists, stateIn};
+ghost use Rattle.state_bytes.specs.Layout.{atEntry, stateIn};
 ghost use Rattle.panel.specs.Reports.{reportOf, reportNumber, reportLeft, pendingCounts, workerStatusBytes, workersIn};
 ghost use Rattle.depot_c.specs.Boundary.{areWhole, decoded, entries, reportLength, reportIn, Rooms};
 use crate::Wanted;
@@ -61,8 +61,8 @@ fn report_within(
     answer_room: &mut [u16],
 ) -> u64
     requires { ⌜ Rooms (now keys) (now chutes) (now answers) (now «key_room») (now «chute_room») (now «answer_room») ⌝ }
-    ensures number { λ r. ⌜ r ≡ reportNumber (entries (lists (now (state .entry)) (now (keys .entry)) (now (chutes .entry)) (now (answers .entry)))) (now (commands .entry)) (length (now (out .entry))) (reportLength wanted) ⌝ }
-    ensures left { λ r. ⌜ now (out .exit) ≡ reportLeft r (reportIn wanted (now (state .entry)) (entries (lists (now (state .entry)) (now (keys .entry)) (now (chutes .entry)) (now (answers .entry))))) (now (out .entry)) ⌝ }
+    ensures number { λ r. ⌜ r ≡ reportNumber (entries (atEntry state keys chutes answers)) (now (commands .entry)) (length (now (out .entry))) (reportLength wanted) ⌝ }
+    ensures left { λ r. ⌜ now (out .exit) ≡ reportLeft r (reportIn wanted (now (state .entry)) (entries (atEntry state keys chutes answers))) (now (out .entry)) ⌝ }
 {
     read_lists(keys, chutes, answers, key_room, chute_room, answer_room);
     match wanted {
@@ -87,8 +87,8 @@ fn reported(
     out: &mut [u8],
     wanted: Wanted,
 ) -> u64
-    ensures number { λ r. ⌜ r ≡ reportNumber (decoded (lists (now (state .entry)) (now (keys .entry)) (now (chutes .entry)) (now (answers .entry)))) (now (commands .entry)) (length (now (out .entry))) (reportLength wanted) ⌝ }
-    ensures left { λ r. ⌜ now (out .exit) ≡ reportLeft r (reportIn wanted (now (state .entry)) (decoded (lists (now (state .entry)) (now (keys .entry)) (now (chutes .entry)) (now (answers .entry))))) (now (out .entry)) ⌝ }
+    ensures number { λ r. ⌜ r ≡ reportNumber (decoded (atEntry state keys chutes answers)) (now (commands .entry)) (length (now (out .entry))) (reportLength wanted) ⌝ }
+    ensures left { λ r. ⌜ now (out .exit) ≡ reportLeft r (reportIn wanted (now (state .entry)) (decoded (atEntry state keys chutes answers))) (now (out .entry)) ⌝ }
 {
     let key_count = keys.len() / 8;
     let chute_count = chutes.len() / 2;
@@ -126,8 +126,8 @@ pub extern "C" fn depot_pending_counts(
     commands: &[u8],
     counts: &mut [u8],
 ) -> u64
-    ensures number { λ r. ⌜ r ≡ reportNumber (decoded (lists (now (state .entry)) (now (keys .entry)) (now (chutes .entry)) (now (answers .entry)))) (now (commands .entry)) (length (now (counts .entry))) 150 ⌝ }
-    ensures left { λ r. ⌜ now (counts .exit) ≡ reportLeft r (pendingCounts (stateIn (decoded (lists (now (state .entry)) (now (keys .entry)) (now (chutes .entry)) (now (answers .entry)))))) (now (counts .entry)) ⌝ }
+    ensures number { λ r. ⌜ r ≡ reportNumber (decoded (atEntry state keys chutes answers)) (now (commands .entry)) (length (now (counts .entry))) 150 ⌝ }
+    ensures left { λ r. ⌜ now (counts .exit) ≡ reportLeft r (pendingCounts (stateIn (decoded (atEntry state keys chutes answers)))) (now (counts .entry)) ⌝ }
 {
     reported(
         state,
@@ -150,8 +150,8 @@ pub extern "C" fn depot_worker_status(
     commands: &[u8],
     status: &mut [u8],
 ) -> u64
-    ensures number { λ r. ⌜ r ≡ reportNumber (decoded (lists (now (state .entry)) (now (keys .entry)) (now (chutes .entry)) (now (answers .entry)))) (now (commands .entry)) (length (now (status .entry))) 128 ⌝ }
-    ensures left { λ r. ⌜ now (status .exit) ≡ reportLeft r (workerStatusBytes (workersIn (now (state .entry))) (stateIn (decoded (lists (now (state .entry)) (now (keys .entry)) (now (chutes .entry)) (now (answers .entry)))))) (now (status .entry)) ⌝ }
+    ensures number { λ r. ⌜ r ≡ reportNumber (decoded (atEntry state keys chutes answers)) (now (commands .entry)) (length (now (status .entry))) 128 ⌝ }
+    ensures left { λ r. ⌜ now (status .exit) ≡ reportLeft r (workerStatusBytes (workersIn (now (state .entry))) (stateIn (decoded (atEntry state keys chutes answers)))) (now (status .entry)) ⌝ }
 {
     reported(
         state,

@@ -1,4 +1,4 @@
--- The counts along the chain: what is read of a node, and a loop that goes from node to node and stays at 0 behind the last. Assumes nothing.
+-- The counts along the chain: how many nodes a node waits for, and a loop that goes from node to node and stays at 0 behind the last. Assumes nothing.
 use Prim.Native.Nat.{ℕ, zero, suc, _+_, _-_, _≤_, _<_}
 use native.Mathlib.Numerals.{add-one}
 use native.Mathlib.Omega.{arith}
@@ -40,16 +40,10 @@ unfolding countBelow
 count-within zero test = omega arith
 count-within (suc k) test = omega (arith, one-at-most (test k), count-within k test)
 
--- ---- what is read of a node
+-- ---- how many nodes a node waits for
 
 module _ (l : Lists) (n : ℕ) where
-  -- a number that no node has is followed by none and waits for none
-  pub next-past : 150 < n → 0 ≡ stateIn l .graph .next n
-  unfolding stateIn
-  next-past h =
-      let past : 151 ≤ n = omega arith in
-      rw (le-ltb n 151 past)
-
+  -- a number that no node has waits for none
   waits-past : 150 < n → (y : ℕ) → stateIn l .graph .waits n y ≡ false
   unfolding stateIn
   waits-past h y =
@@ -59,13 +53,7 @@ module _ (l : Lists) (n : ℕ) where
   pub count-past : 150 < n → 0 ≡ countBelow 192 (stateIn l .graph .waits n)
   count-past h = sym (count-same 192 (stateIn l .graph .waits n) (λ y. false) (waits-past h) ∙ count-none 192)
 
-  -- a node has what the bytes say
-  pub next-read : (b : List ℕ) → l .state ≡ b → n ≤ 150 → getD b (11 + n) 0 ≡ stateIn l .graph .next n
-  unfolding stateIn
-  next-read b same h =
-      let among : n < 151 = omega arith in
-      rw (lt-ltb n 151 among, same)
-
+  -- a node's set is what the bytes say
   waits-read : (b : List ℕ) → l .state ≡ b → n ≤ 150 → (y : ℕ) → member (setAt b n) y ≡ stateIn l .graph .waits n y
   unfolding stateIn
   waits-read b same h y =

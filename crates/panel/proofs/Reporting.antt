@@ -1,7 +1,7 @@
 -- What a report answers and leaves, by its tests. Assumes nothing.
 use Prim.Native.Nat.{ℕ}
 use native.Mathlib.Omega.{arith}
-use mathlib.Core.Path.{_≡_, refl}
+use mathlib.Core.Path.{_≡_, refl, _∙_}
 use mathlib.Core.Bool.{Bool, true, false, cond, _&&_, and-false, and-eq-true-iff}
 use mathlib.Core.List.{List, [], _∷_}
 use mathlib.Core.Logic.{⊎-elim}
@@ -15,7 +15,7 @@ use Rattle.state_bytes.proofs.Passed.{lengths-passed}
 use Rattle.panel.specs.declared.Report.{Report}
 use Rattle.panel.proofs.Report.{the-type}
 use Rattle.panel.specs.declared.Report.the-variants.{Reported, WrongLength, WrongState}
-use Rattle.panel.specs.Reports.{reportOf, reportNumber, reportLeft}
+use Rattle.panel.specs.Reports.{reportOf, reportPlace, reportNumber, reportLeft}
 
 -- ---- the tests
 
@@ -43,6 +43,11 @@ module _ (l : Lists) (commands : List ℕ) (lent wanted : ℕ) where
   unfolding reportNumber
   reports e same f = rw (e, eq-eqb lent wanted same, f)
 
+  -- a report list of the length wanted passes, whatever length that is
+  pub as-wanted : lent ≡ wanted → reportNumber l commands 64 64 ≡ reportNumber l commands lent wanted
+  unfolding reportNumber
+  as-wanted same = rw (eq-eqb lent wanted same)
+
   -- where the answer is 0, the lists have the lengths asked for
   pub passed-lengths : 0 ≡ reportNumber l commands lent wanted → (length (l .state) ≡ stateLength) × (lent ≡ wanted)
   unfolding reportNumber
@@ -50,12 +55,23 @@ module _ (l : Lists) (commands : List ℕ) (lent wanted : ℕ) where
       let both = and-eq-true-iff (handedBackFit l commands) (eqb lent wanted) .0 (not-six (handedBackFit l commands && eqb lent wanted) (cond (stateFits l) 0 12) e) in
       (lengths-passed l commands (both .0) .state, eqb-true lent wanted (both .1))
 
+-- no report names a command
+pub no-place : (r : Report) → reportPlace r ≡ 0
+no-place Reported = refl
+no-place WrongLength = refl
+no-place WrongState = refl
+
 -- ---- what is left
 
 -- a report that is made is left
 pub left-report {ℓ} : {A : Type ℓ} (r : Report) (report old : List A) → r ≡ Reported → report ≡ reportLeft (reportOf r) report old
 unfolding reportLeft
 left-report r report old e = rw e
+
+-- where the number is 0, what is left is the report
+pub made-report {ℓ} : {A : Type ℓ} (n : ℕ) (report old left : List A) → left ≡ reportLeft n report old → n ≡ 0 → left ≡ report
+unfolding reportLeft
+made-report n report old left is none = is ∙ rw none
 
 -- a refusal, any variant but the first, leaves the list
 pub left-old {ℓ} : {A : Type ℓ} (r : Report) (report old : List A) → OneOf (1 ∷ 2 ∷ []) (tagOf the-type r) → old ≡ reportLeft (reportOf r) report old

@@ -12,12 +12,12 @@ use Rattle.model.specs.Step.{State}
 use Rattle.state_bytes.specs.Bytes.{fields}
 use Rattle.state_bytes.specs.Layout.{Lists, stateLength, stateIn, threadAt}
 use Rattle.state_bytes.specs.Pasted.{pasted}
-use Rattle.state_bytes.proofs.Bytes.{fields-length}
+use Rattle.state_bytes.proofs.Bytes.{fields-length, tabulate-at}
 use Rattle.state_bytes.proofs.Fill.{number-one}
 use Rattle.state_bytes.proofs.Paste.{PutFields, fields-put, fields-all, pasted-whole}
 use Rattle.panel.specs.declared.WorkerStatus.{WorkerStatus}
 use Rattle.panel.specs.declared.WorkerState.the-variants as worker
-use Rattle.panel.specs.Reports.{entry, statusOf, reported, stateNumber, statusBytes, workerStatusBytes, workersIn}
+use Rattle.panel.specs.Reports.{entry, statusOf, reported, stateNumber, statusBytes, workerStatus, workerStatusBytes, workersIn}
 
 -- the worker count is byte 1
 workers-in : (b : List ℕ) → length b ≡ stateLength → workersIn b ≡ getD b 1 0
@@ -51,12 +51,12 @@ worker-shown b l t same long h k is shown =
 -- ---- as bytes
 
 -- the two bytes of worker i + 1
-abbrev pub bytesShown : List ℕ → Lists → ℕ → List ℕ
-bytesShown b l i = statusBytes (statusOf (reported (workersIn b) (stateIn l) (suc i)))
+abbrev pub bytesShown : ℕ → State → ℕ → List ℕ
+bytesShown workers s i = statusBytes (statusOf (reported workers s (suc i)))
 
-shown-length : (b : List ℕ) (l : Lists) (i : ℕ) → length (bytesShown b l i) ≡ 2
+shown-length : (workers : ℕ) (s : State) (i : ℕ) → length (bytesShown workers s i) ≡ 2
 unfolding statusBytes
-shown-length b l i = refl
+shown-length workers s i = refl
 
 -- two stores put an entry
 entry-pastes : (at : ℕ) (e : WorkerStatus) (number : ℕ) (bytes : List ℕ) → number ≡ stateNumber (e .state) → set (set bytes at number) (at + 1) (e .own .0) ≡ pasted at (statusBytes e) bytes
@@ -64,21 +64,27 @@ unfolding pasted statusBytes
 entry-pastes at e number bytes is = rw (is, add-one at)
 
 -- The first i workers' bytes are put.
-abbrev pub BytesPut : List ℕ → Lists → List ℕ → List ℕ → ℕ → Type 0
-BytesPut b l before bytes i = PutFields (bytesShown b l) 2 64 0 before bytes i
+abbrev pub BytesPut : ℕ → State → List ℕ → List ℕ → ℕ → Type 0
+BytesPut workers s before bytes i = PutFields (bytesShown workers s) 2 64 0 before bytes i
+
+-- a report's entry is its worker's
+entry-shown : (workers : ℕ) (s : State) (i : ℕ) (d : WorkerStatus) {status : List WorkerStatus} → i < 64 → status ≡ workerStatus workers s
+    → getD status i d ≡ statusOf (reported workers s (suc i))
+unfolding workerStatus
+entry-shown workers s i d h same = rw same (tabulate-at 64 (λ j. statusOf (reported workers s (suc j))) d i h)
 
 -- a pass puts those of the next worker
-pub bytes-more : (b : List ℕ) (l : Lists) {before bytes : List ℕ} {i : ℕ} (e : WorkerStatus) (number : ℕ) → BytesPut b l before bytes i → i < 64
-    → e ≡ statusOf (reported (workersIn b) (stateIn l) (i + 1)) → number ≡ stateNumber (e .state)
-    → BytesPut b l before (set (set bytes (2 * i) number) (2 * i + 1) (e .own .0)) (i + 1)
-bytes-more b l {before} {bytes} {i} e number put h shown is =
-    let same : statusBytes e ≡ bytesShown b l i = ap statusBytes shown ∙ ap (λ (t : ℕ). statusBytes (statusOf (reported (workersIn b) (stateIn l) t))) (add-one i) in
-    fields-put put (2 * i) h (omega arith) (shown-length b l i) (entry-pastes (2 * i) e number bytes is ∙ ap (λ (part : List ℕ). pasted (2 * i) part bytes) same)
+pub bytes-more : (workers : ℕ) (s : State) {before bytes : List ℕ} {i : ℕ} {status : List WorkerStatus} (d : WorkerStatus) (number : ℕ) → BytesPut workers s before bytes i → i < 64
+    → status ≡ workerStatus workers s → number ≡ stateNumber (getD status i d .state)
+    → BytesPut workers s before (set (set bytes (2 * i) number) (2 * i + 1) (getD status i d .own .0)) (i + 1)
+bytes-more workers s {before} {bytes} {i} {status} d number put h same is =
+    let shown : statusBytes (getD status i d) ≡ bytesShown workers s i = ap statusBytes (entry-shown workers s i d h same) in
+    fields-put put (2 * i) h (omega arith) (shown-length workers s i) (entry-pastes (2 * i) (getD status i d) number bytes is ∙ ap (λ (part : List ℕ). pasted (2 * i) part bytes) shown)
 
 -- after the last pass they are the report
-pub bytes-all : (b : List ℕ) (l : Lists) {before bytes : List ℕ} {i : ℕ} → BytesPut b l before bytes i → 64 ≤ i → length before ≡ 128
-    → bytes ≡ workerStatusBytes (workersIn b) (stateIn l)
+pub bytes-all : (workers : ℕ) (s : State) {before bytes : List ℕ} {i : ℕ} → BytesPut workers s before bytes i → 64 ≤ i → length before ≡ 128
+    → bytes ≡ workerStatusBytes workers s
 unfolding workerStatusBytes
-bytes-all b l {before} put h long =
-    let all : length (fields 64 (bytesShown b l)) ≡ 2 * 64 = fields-length 2 64 (bytesShown b l) (shown-length b l) in
-    fields-all put h ∙ pasted-whole (fields 64 (bytesShown b l)) before (all ∙ sym long)
+bytes-all workers s {before} put h long =
+    let all : length (fields 64 (bytesShown workers s)) ≡ 2 * 64 = fields-length 2 64 (bytesShown workers s) (shown-length workers s) in
+    fields-all put h ∙ pasted-whole (fields 64 (bytesShown workers s)) before (all ∙ sym long)

@@ -29,6 +29,12 @@ reportOf Reported = 0
 reportOf WrongLength = 6
 reportOf WrongState = 12
 
+-- "A refusal returns its number and the command's place (0 outside 7 to 10 ..)"
+abbrev pub reportPlace : Report → ℕ
+reportPlace Reported = 0
+reportPlace WrongLength = 0
+reportPlace WrongState = 0
+
 -- the report list after the call: a refusal leaves it as it was
 unfoldable pub reportLeft {ℓ} : {A : Type ℓ} → ℕ → List A → List A → List A
 reportLeft number report old = cond (eqb number 0) report old

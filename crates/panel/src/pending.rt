@@ -2,36 +2,25 @@
 ghost use mathlib.Core.Path.{_≡_};
 ghost use lib.ListN.{length};
 ghost use Rattle.node_set.specs.Members.{countBelow};
-ghost use Rattle.state_bytes.specs.Layout.{Lists, lists, stateLength, stateIn};
-ghost use Rattle.panel.specs.Reports.{reportOf, reportNumber, reportLeft, pendingCounts};
+ghost use Rattle.state_bytes.specs.Layout.{atEntry, Lists, stateLength, stateIn};
+ghost use Rattle.panel.specs.Reports.{reportOf, reportPlace, reportNumber, reportLeft, pendingCounts};
 use crate::Report;
 use crate::tested::tested;
+use node_set::Node;
 use node_set::count;
-use state_bytes::NEXT;
+use state_bytes::LAST_NODE;
+use state_bytes::next_at;
 use state_bytes::set_at;
 
 // How many entries the report has.
 const COUNTS: usize = 150;
 
-// The largest number of a node.
-const LAST_NODE: u8 = 150;
-
-// The node behind a node, 0 for none; a number that no node has is followed by none.
-fn next_of(state: &[u8], n: u8) -> u8
-    requires { ⌜ length (now state) ≡ stateLength ⌝ }
-    ensures { λ r. ⌜ ((l : Lists) → l .state ≡ now (state .entry) → r ≡ stateIn l .graph .next n) ⌝ }
-{
-    if n > LAST_NODE {
-        return 0;
-    }
-    state[NEXT + n as usize]
-}
-
 // How many nodes a node waits for; a number that no node has waits for none.
-fn count_of(state: &[u8], n: u8) -> u8
+fn count_of(state: &[u8], node: Node) -> u8
     requires { ⌜ length (now state) ≡ stateLength ⌝ }
-    ensures { λ r. ⌜ ((l : Lists) → l .state ≡ now (state .entry) → r ≡ countBelow 192 (stateIn l .graph .waits n)) ⌝ }
+    ensures { λ r. ⌜ ((l : Lists) → l .state ≡ now (state .entry) → r ≡ countBelow 192 (stateIn l .graph .waits (node .0))) ⌝ }
 {
+    let n = node.0;
     if n > LAST_NODE {
         return 0;
     }
@@ -43,14 +32,14 @@ fn write_counts(state: &[u8], counts: &mut [u8])
     requires { ⌜ (length (now state) ≡ stateLength) × (length (now counts) ≡ 150) ⌝ }
     ensures { λ _. ⌜ ((l : Lists) → l .state ≡ now (state .entry) → now (counts .exit) ≡ pendingCounts (stateIn l)) ⌝ }
 {
-    let mut n = next_of(state, 0);
+    let mut node = next_at(state, Node(0));
     let mut i = 0;
     while i < COUNTS {
-        if n == 0 {
+        if node.0 == 0 {
             counts[i] = 0;
         } else {
-            counts[i] = count_of(state, n);
-            n = next_of(state, n);
+            counts[i] = count_of(state, node);
+            node = next_at(state, node);
         }
         i += 1;
     }
@@ -65,8 +54,9 @@ pub fn pending_counts(
     commands: &[u8],
     counts: &mut [u8],
 ) -> Report
-    ensures number { λ r. ⌜ reportOf r ≡ reportNumber (lists (now (state .entry)) (now (keys .entry)) (now (chutes .entry)) (now (answers .entry))) (now (commands .entry)) (length (now (counts .entry))) 150 ⌝ }
-    ensures left { λ r. ⌜ now (counts .exit) ≡ reportLeft (reportOf r) (pendingCounts (stateIn (lists (now (state .entry)) (now (keys .entry)) (now (chutes .entry)) (now (answers .entry))))) (now (counts .entry)) ⌝ }
+    ensures number { λ r. ⌜ reportOf r ≡ reportNumber (atEntry state keys chutes answers) (now (commands .entry)) (length (now (counts .entry))) 150 ⌝ }
+    ensures place { λ r. ⌜ reportPlace r ≡ 0 ⌝ }
+    ensures left { λ r. ⌜ now (counts .exit) ≡ reportLeft (reportOf r) (pendingCounts (stateIn (atEntry state keys chutes answers))) (now (counts .entry)) ⌝ }
 {
     let report = tested(
         state,

@@ -7,17 +7,17 @@ use command::Seq;
 
 // The caller's own answers from a sequence number on; none for 0 and past the end. `own`: what is handed back is the end of the list that
 // was lent, in its place in memory, two bytes an answer.
-pub fn answers_from<'a>(answers: &'a mut [u16], from: Seq) -> &'a mut [u16]
+pub fn answers_from<'a>(answers: &'a [u16], from: Seq) -> &'a [u16]
     ensures answers { λ r. ⌜ now r ≡ answersFrom (from .0) (now (answers .entry)) ⌝ }
     ensures own { λ r. ⌜ (r .ptr .0 ≡ answers .entry .ptr .0) × (r .ptr .1 ≡ answers .entry .ptr .1 + 2 * (length (now (answers .entry)) - length (now r))) ⌝ }
 {
     let n = answers.len();
     let place = from.0;
     if place == 0 {
-        return &mut answers[n..];
+        return &answers[n..];
     }
     if place > n {
-        return &mut answers[n..];
+        return &answers[n..];
     }
-    &mut answers[place - 1..]
+    &answers[place - 1..]
 }

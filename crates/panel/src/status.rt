@@ -5,9 +5,10 @@ ghost use mathlib.Core.List.{_++_};
 ghost use Prim.Native.Nat.{ℕ, suc, _≤_, _<_};
 ghost use lib.Dec.{eqb};
 ghost use lib.ListN.{length, drop};
+ghost use Rattle.model.specs.Step.{State};
 ghost use Rattle.state_bytes.specs.Bytes.{tabulate};
-ghost use Rattle.state_bytes.specs.Layout.{Lists, lists, stateLength, stateIn};
-ghost use Rattle.panel.specs.Reports.{reportOf, reportNumber, reportLeft, statusOf, reported, stateNumber, workerStatus, workerStatusBytes, workersIn};
+ghost use Rattle.state_bytes.specs.Layout.{atEntry, Lists, stateLength, stateIn};
+ghost use Rattle.panel.specs.Reports.{reportOf, reportPlace, reportNumber, reportLeft, statusOf, reported, stateNumber, workerStatus, workerStatusBytes, workersIn};
 use crate::Report;
 use crate::WorkerState;
 use crate::WorkerStatus;
@@ -92,49 +93,6 @@ fn state_number(state: WorkerState) -> u8
     }
 }
 
-// Writes two bytes a worker: the number of its state, and its own node.
-fn write_status_bytes(state: &[u8], bytes: &mut [u8])
-    requires { ⌜ (length (now state) ≡ stateLength) × (length (now bytes) ≡ 128) ⌝ }
-    ensures { λ _. ⌜ ((l : Lists) → l .state ≡ now (state .entry) → now (bytes .exit) ≡ workerStatusBytes (workersIn (now (state .entry))) (stateIn l)) ⌝ }
-{
-    let mut i = 0;
-    while i < WORKERS_SHOWN {
-        let status = status_at(state, i + 1);
-        let standing = status.state;
-        let own = status.own;
-        bytes[2 * i] = state_number(standing);
-        bytes[2 * i + 1] = own.0;
-        i += 1;
-    }
-}
-
-// The status of every worker as bytes, for callers that have no structs. A refusal leaves the list as it was.
-pub fn worker_status_bytes(
-    state: &[u8],
-    keys: &[u64],
-    chutes: &[u16],
-    answers: &[u16],
-    commands: &[u8],
-    bytes: &mut [u8],
-) -> Report
-    ensures number { λ r. ⌜ reportOf r ≡ reportNumber (lists (now (state .entry)) (now (keys .entry)) (now (chutes .entry)) (now (answers .entry))) (now (commands .entry)) (length (now (bytes .entry))) 128 ⌝ }
-    ensures left { λ r. ⌜ now (bytes .exit) ≡ reportLeft (reportOf r) (workerStatusBytes (workersIn (now (state .entry))) (stateIn (lists (now (state .entry)) (now (keys .entry)) (now (chutes .entry)) (now (answers .entry))))) (now (bytes .entry)) ⌝ }
-{
-    let report = tested(
-        state,
-        keys,
-        chutes.len(),
-        answers.len(),
-        commands.len(),
-        bytes.len(),
-        STATUS_BYTES,
-    );
-    if let Report::Reported = report {
-        write_status_bytes(state, bytes);
-    }
-    report
-}
-
 // How many entries a report writes: all of them, or none where it refuses.
 fn shown(report: Report) -> usize
     ensures { λ r. ⌜ r ≡ cond (eqb (reportOf report) 0) 64 0 ⌝ }
@@ -167,8 +125,9 @@ pub fn worker_status(
     commands: &[u8],
     status: &mut [WorkerStatus],
 ) -> Report
-    ensures number { λ r. ⌜ reportOf r ≡ reportNumber (lists (now (state .entry)) (now (keys .entry)) (now (chutes .entry)) (now (answers .entry))) (now (commands .entry)) (length (now (status .entry))) 64 ⌝ }
-    ensures left { λ r. ⌜ now (status .exit) ≡ reportLeft (reportOf r) (workerStatus (workersIn (now (state .entry))) (stateIn (lists (now (state .entry)) (now (keys .entry)) (now (chutes .entry)) (now (answers .entry))))) (now (status .entry)) ⌝ }
+    ensures number { λ r. ⌜ reportOf r ≡ reportNumber (atEntry state keys chutes answers) (now (commands .entry)) (length (now (status .entry))) 64 ⌝ }
+    ensures place { λ r. ⌜ reportPlace r ≡ 0 ⌝ }
+    ensures left { λ r. ⌜ now (status .exit) ≡ reportLeft (reportOf r) (workerStatus (workersIn (now (state .entry))) (stateIn (atEntry state keys chutes answers))) (now (status .entry)) ⌝ }
 {
     let report = tested(
         state,
@@ -182,4 +141,75 @@ pub fn worker_status(
     let count = shown(report);
     write_status(state, status, count);
     report
+}
+
+// Entries to lend: a report sets them, so that what they say is not promised.
+fn new_status() -> [WorkerStatus; 64] {
+    [WorkerStatus {
+        state: WorkerState::Idle,
+        own: Node(0),
+    }; 64]
+}
+
+// Writes two bytes a worker: the number of its state, and its own node.
+fn write_entries(status: [WorkerStatus; 64], bytes: &mut [u8])
+    requires { ⌜ length (now bytes) ≡ 128 ⌝ }
+    ensures { λ _. ⌜ ((workers : ℕ) (s : State) → status ≡ workerStatus workers s → now (bytes .exit) ≡ workerStatusBytes workers s) ⌝ }
+{
+    let mut i = 0;
+    while i < WORKERS_SHOWN {
+        let entry = status[i];
+        let standing = entry.state;
+        let own = entry.own;
+        bytes[2 * i] = state_number(standing);
+        bytes[2 * i + 1] = own.0;
+        i += 1;
+    }
+}
+
+// Writes the entries of a report that was made, and nothing where it was refused.
+fn write_reported(report: Report, status: [WorkerStatus; 64], bytes: &mut [u8])
+    requires { ⌜ length (now bytes) ≡ 128 ⌝ }
+    ensures { λ _. ⌜ ((workers : ℕ) (s : State) → (reportOf report ≡ 0 → status ≡ workerStatus workers s) → now (bytes .exit) ≡ reportLeft (reportOf report) (workerStatusBytes workers s) (now (bytes .entry))) ⌝ }
+{
+    if let Report::Reported = report {
+        write_entries(status, bytes);
+    }
+}
+
+// The status of every worker in entries of its own, and from these in a list of 128 bytes.
+fn status_as_bytes(
+    state: &[u8],
+    keys: &[u64],
+    chutes: &[u16],
+    answers: &[u16],
+    commands: &[u8],
+    bytes: &mut [u8],
+) -> Report
+    requires { ⌜ length (now bytes) ≡ 128 ⌝ }
+    ensures { λ r. ⌜ (reportOf r ≡ reportNumber (atEntry state keys chutes answers) (now (commands .entry)) 64 64) × (now (bytes .exit) ≡ reportLeft (reportOf r) (workerStatusBytes (workersIn (now (state .entry))) (stateIn (atEntry state keys chutes answers))) (now (bytes .entry))) ⌝ }
+{
+    let mut status = new_status();
+    let report = worker_status(state, keys, chutes, answers, commands, &mut status);
+    write_reported(report, status, bytes);
+    report
+}
+
+// The status of every worker as bytes, for callers that have no structs. A refusal leaves the list as it was.
+pub fn worker_status_bytes(
+    state: &[u8],
+    keys: &[u64],
+    chutes: &[u16],
+    answers: &[u16],
+    commands: &[u8],
+    bytes: &mut [u8],
+) -> Report
+    ensures number { λ r. ⌜ reportOf r ≡ reportNumber (atEntry state keys chutes answers) (now (commands .entry)) (length (now (bytes .entry))) 128 ⌝ }
+    ensures place { λ r. ⌜ reportPlace r ≡ 0 ⌝ }
+    ensures left { λ r. ⌜ now (bytes .exit) ≡ reportLeft (reportOf r) (workerStatusBytes (workersIn (now (state .entry))) (stateIn (atEntry state keys chutes answers))) (now (bytes .entry)) ⌝ }
+{
+    if bytes.len() != STATUS_BYTES {
+        return Report::WrongLength;
+    }
+    status_as_bytes(state, keys, chutes, answers, commands, bytes)
 }

@@ -26,3 +26,6 @@ pub const LOCKED: usize = 615;
 pub const WAITS: usize = 766;
 
 pub const THREADS: usize = 4390;
+
+// The largest number of a node.
+pub const LAST_NODE: u8 = 150;

@@ -5,7 +5,9 @@ ghost use Prim.Native.Nat.{ℕ, _+_, _*_, _≤_};
 ghost use lib.ListN.{length, getD};
 ghost use lib.Dec.{eqb};
 ghost use Rattle.state_bytes.specs.Bytes.{numberAt, tabulate};
-ghost use Rattle.state_bytes.specs.Layout.{stateLength, setAt, threadOf, threadAt};
+ghost use Rattle.state_bytes.specs.Layout.{Lists, stateLength, stateIn, setAt, threadOf, threadAt};
+use crate::layout::LAST_NODE;
+use crate::layout::NEXT;
 use crate::layout::THREADS;
 use crate::layout::WAITS;
 use model::Thread;
@@ -69,6 +71,19 @@ pub fn read_flags(state: &[u8], at: usize, out: &mut [bool])
         out[i] = state[at + i] == 1;
         i += 1;
     }
+}
+
+// The node behind a node, 0 for none; a number that no node has is followed by none.
+pub fn next_at(state: &[u8], node: Node) -> Node
+    requires { ⌜ length (now state) ≡ stateLength ⌝ }
+    ensures { λ r. ⌜ ((l : Lists) → l .state ≡ now (state .entry) → r .0 ≡ stateIn l .graph .next (node .0)) ⌝ }
+{
+    let n = node.0;
+    if n > LAST_NODE {
+        return Node(0);
+    }
+    let next = state[NEXT + n as usize];
+    Node(next)
 }
 
 // The set of node n.

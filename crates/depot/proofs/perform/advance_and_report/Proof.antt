@@ -13,8 +13,8 @@ use Rattle.depot.proofs.perform.advance_and_report.Tie as tie
 advance-requires : tie.Need-advance-requires
 advance-requires c κs = search needs
 
-advancing-number-requires : tie.Need-advancing-number-requires
-advancing-number-requires c κs = search needs
+number-requires : tie.Need-number-requires
+number-requires c κs = search needs
 
 put-refusal-requires : tie.Need-put-refusal-requires
 put-refusal-requires c κs = search needs
@@ -39,14 +39,14 @@ unfolding advanced
 returns c =
     let last = c .before .before in
     let test = last .before .before in
-    let number = test .before in
-    let call = number .before .before .before .before .before .before .before .before .before in
+    let answer = test .before in
+    let call = answer .before .before .before .before .before .before .before .before .before in
     let a = call .before .before .before .before .before .before .before .before .before .before .before .before .args in
     let commands = a .commands .now in
     let schedule = a .schedule .now in
     let lent = lists (a .state .now) (a .keys .now) (a .chutes .now) (a .answers .now) in
-    let refusing = printed-refused (report commands) (advanceOn lent commands schedule) (number .advancing-number .result)
-    (number .advancing-number .ensures .0 ∙ call .advance .ensures .0) (test .if1 .taken) in
+    let refusing = printed-refused (report commands) (advanceOn lent commands schedule) (answer .number .result)
+    (answer .number .ensures .0 ∙ call .advance .ensures .0) (test .if1 .taken) in
     rw refusing (last .put-refusal .ensures)
 
 put-report-requires : tie.Need-put-report-requires
@@ -72,8 +72,8 @@ unfolding advanced
 returns-2 c =
     let last = c .before .before in
     let test = last .before .before .before .before in
-    let number = test .before in
-    let call = number .before .before .before .before .before .before .before .before .before in
+    let answer = test .before in
+    let call = answer .before .before .before .before .before .before .before .before .before in
     let a = call .before .before .before .before .before .before .before .before .before .before .before .before .args in
     let commands = a .commands .now in
     let schedule = a .schedule .now in
@@ -81,8 +81,8 @@ returns-2 c =
     let state = call .advance .last .0 in
     let answers = call .advance .last .1 .1 .1 .0 in
     let left = lists state (call .advance .last .1 .0) (call .advance .last .1 .1 .0) answers in
-    let none = sym (number .advancing-number .ensures .0 ∙ call .advance .ensures .0) ∙ test .if1 .left in
-    let accepting = printed-accepted (report commands) (advanceOn lent commands schedule) lent left (advance-numbered lent commands schedule) none (call .advance .ensures .1) in
+    let none = sym (answer .number .ensures .0 ∙ call .advance .ensures .0) ∙ test .if1 .left in
+    let accepting = printed-accepted (report commands) (advanceOn lent commands schedule) lent left (advance-numbered lent commands schedule) none (call .advance .ensures .1 .1) in
     rw (accepting, report-by-bytes commands left (lists state [] [] answers) refl refl) (last .put-report .ensures)
 
 pub advance-and-report-spec : {M : Type 1} → statement M
@@ -90,7 +90,7 @@ advance-and-report-spec =
     tie.close
     (tie.spec
     advance-requires
-    advancing-number-requires
+    number-requires
     put-refusal-requires
     same-length
     same-length-2

@@ -11,8 +11,8 @@ use Rattle.depot.proofs.perform.open_and_advance.Tie as tie
 open-requires : tie.Need-open-requires
 open-requires c κs = search needs
 
-opening-number-requires : tie.Need-opening-number-requires
-opening-number-requires c κs = search needs
+number-requires : tie.Need-number-requires
+number-requires c κs = search needs
 
 put-refusal-requires : tie.Need-put-refusal-requires
 put-refusal-requires c κs = search needs
@@ -36,14 +36,14 @@ returns : tie.Need-returns
 returns c =
     let last = c .before .before in
     let test = last .before .before in
-    let number = test .before in
-    let call = number .before .before .before .before .before .before .before .before .before in
+    let answer = test .before in
+    let call = answer .before .before .before .before .before .before .before .before .before in
     let a = call .before .before .before .before .before .before .before .before .before .before .before .before .args in
     let commands = a .commands .now in
     let schedule = a .schedule .now in
     let lent = lists (a .state .now) (a .keys .now) (a .chutes .now) (a .answers .now) in
-    let refusing = printed-refused (advanced commands schedule) (openOn (a .size) (a .workers) (a .capacity) commands lent) (number .opening-number .result)
-    (number .opening-number .ensures .0 ∙ call .«open» .ensures .0) (test .if1 .taken) in
+    let refusing = printed-refused (advanced commands schedule) (openOn (a .size) (a .workers) (a .capacity) commands lent) (answer .number .result)
+    (answer .number .ensures .0 ∙ call .«open» .ensures .0) (test .if1 .taken) in
     rw refusing (last .put-refusal .ensures)
 
 advance-and-report-requires : tie.Need-advance-and-report-requires
@@ -68,14 +68,14 @@ returns-2 : tie.Need-returns-2
 returns-2 c =
     let last = c .before .before .before .before .before .before .before .before .before .before in
     let test = last .before .before .before .before .before .before in
-    let number = test .before in
-    let call = number .before .before .before .before .before .before .before .before .before in
+    let answer = test .before in
+    let call = answer .before .before .before .before .before .before .before .before .before in
     let a = call .before .before .before .before .before .before .before .before .before .before .before .before .args in
     let commands = a .commands .now in
     let schedule = a .schedule .now in
     let lent = lists (a .state .now) (a .keys .now) (a .chutes .now) (a .answers .now) in
     let left = lists (call .«open» .last .0) (call .«open» .last .1 .0) (call .«open» .last .1 .1 .0) (call .«open» .last .1 .1 .1 .0) in
-    let none = sym (number .opening-number .ensures .0 ∙ call .«open» .ensures .0) ∙ test .if1 .left in
+    let none = sym (answer .number .ensures .0 ∙ call .«open» .ensures .0) ∙ test .if1 .left in
     let accepting = printed-accepted (advanced commands schedule) (openOn (a .size) (a .workers) (a .capacity) commands lent) lent left
     (open-numbered (a .size) (a .workers) (a .capacity) commands lent) none (call .«open» .ensures .1 .1) in
     rw accepting (last .advance-and-report .ensures)
@@ -85,7 +85,7 @@ open-and-advance-spec =
     tie.close
     (tie.spec
     open-requires
-    opening-number-requires
+    number-requires
     put-refusal-requires
     same-length
     same-length-2

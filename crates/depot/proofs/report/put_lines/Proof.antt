@@ -4,13 +4,14 @@ use native.Mathlib.Numerals.{add-one}
 use native.Mathlib.Omega.{arith}
 use mathlib.Core.Path.{_≡_, refl}
 use mathlib.Core.List.{List}
+use borrow.Author.Needs.{needs}
 use lib.ListN.{length-take, length-drop, length, take, drop, getD}
 use Rattle.state_bytes.specs.Bytes.{fields}
 use Rattle.depot.specs.Program.{commandLine, commandLines}
 use Rattle.depot.specs.Wrote.{Wrote}
 use Rattle.depot.proofs.Wrote.{wrote-then}
 use Rattle.state_bytes.proofs.Paste.{fields-more}
-use Rattle.depot.proofs.Lines.{none-wrote}
+use Rattle.depot.proofs.Lines.{none-wrote, some-from, first-from}
 use Rattle.depot.proofs.report.put_lines.Statement.{statement}
 use Rattle.depot.proofs.report.put_lines.Tie as tie
 
@@ -36,6 +37,9 @@ add-end c = omega arith
 add-put-line : tie.Need-add-put-line Inv-loop μ-loop
 add-put-line c = omega arith
 
+answers-from-requires : tie.Need-answers-from-requires Inv-loop μ-loop
+answers-from-requires c κs = search needs
+
 sub-put-line : tie.Need-sub-put-line Inv-loop μ-loop
 sub-put-line c = omega arith
 
@@ -45,11 +49,10 @@ part-put-line-start c = omega arith
 part-put-line-end : tie.Need-part-put-line-end Inv-loop μ-loop
 part-put-line-end c = omega arith
 
-mul-put-line : tie.Need-mul-put-line Inv-loop μ-loop
-mul-put-line c = omega arith
-
 shared-slice-read-put-line : tie.Need-shared-slice-read-put-line Inv-loop μ-loop
-shared-slice-read-put-line c = omega arith
+shared-slice-read-put-line c =
+    let from = c .before .before .before in
+    some-from (from .before .before .loop .i) (from .before .before .before .before .before .before .args .answers .now) (from .answers-from .result .now) (from .answers-from .ensures .0) (omega arith)
 
 put-line-requires : tie.Need-put-line-requires Inv-loop μ-loop
 put-line-requires c κs = (omega arith, omega arith, simp (length-take, length-drop) (omega arith))
@@ -63,9 +66,11 @@ loop-less c = omega arith
 loop-again : tie.Need-loop-again Inv-loop μ-loop
 loop-again c =
     let p = c .before .before in
-    let l = p .before .before .before .before .before .loop in
+    let from = p .before .before .before .before in
+    let l = from .before .before .loop in
     let cut : 16 * l .i + 16 - 16 * l .i ≡ 16 = omega arith in
-    let line = rw (add-one, cut) at (p .put-line .ensures .0) in
+    let own = first-from (l .i) (from .before .before .before .before .before .before .args .answers .now) (from .answers-from .result .now) (from .answers-from .ensures .0) in
+    let line = rw (own, add-one, cut) at (p .put-line .ensures .0) in
     (omega arith, omega arith, omega arith, rw (add-one, fields-more) (wrote-then (omega arith) (l .inv .3) line))
 
 same-length : tie.Need-same-length Inv-loop μ-loop
@@ -89,10 +94,10 @@ put-lines-spec =
     mul-start
     add-end
     add-put-line
+    answers-from-requires
     sub-put-line
     part-put-line-start
     part-put-line-end
-    mul-put-line
     shared-slice-read-put-line
     put-line-requires
     add-i

@@ -10,8 +10,8 @@ use Rattle.depot.proofs.report.put_start.Statement.{statement}
 use Rattle.depot.proofs.report.put_start.Tie as tie
 
 -- a place below 10,000 has at most four digits
-place-length : (c : tie.Start) → length (decimal (c .args .place)) ≤ 4
-place-length c = decimal-length 3 (c .args .place) (c .pre .1)
+place-length : (c : tie.Start) → length (decimal (c .args .place .0)) ≤ 4
+place-length c = decimal-length 3 (c .args .place .0) (c .pre .1)
 
 put-number-requires : tie.Need-put-number-requires
 put-number-requires c κs = omega (arith, place-length (c .before .before))

@@ -1,7 +1,7 @@
 -- `depot_c::advancing::advance_within` meets its contract: the numbers are read, the proved call is made, and what it leaves is written. Assumes nothing.
 use native.Mathlib.Omega.{arith}
 use borrow.Author.Needs.{needs}
-use mathlib.Core.Path.{_≡_, sym, _∙_}
+use mathlib.Core.Path.{_≡_, _∙_}
 use lib.ListN.{length}
 use Rattle.state_bytes.specs.Layout.{Lists, lists}
 use Rattle.controller.specs.Calls.{Outcome, advanceOn}
@@ -11,7 +11,7 @@ use Rattle.depot_c.proofs.advancing.advance_within.Statement.{statement
 use Rattle.depot_c.proofs.advancing.advance_within.Tie as tie
 
 -- the places after the calls, from the answer back to the function's entry
-abbrev called : tie.After-advancing-answer → tie.After-advance
+abbrev called : tie.After-number → tie.After-advance
 called c = c .before .before .before .before .before .before .before .before .before
 
 abbrev read : tie.After-advance → tie.After-read-lists
@@ -20,7 +20,7 @@ read c = c .before .before .before .before .before .before .before .before .befo
 abbrev start : tie.After-read-lists → tie.Start
 start c = c .before .before .before .before .before .before .before .before .before .before .before .before .before .before .before .before
 
-abbrev entry : tie.After-advancing-answer → tie.Start
+abbrev entry : tie.After-number → tie.Start
 entry c = start (read (called c))
 
 -- the proved call on the numbers of the lists that the function gets
@@ -28,12 +28,12 @@ abbrev outcome : tie.Start → Lists → Outcome
 outcome c l = advanceOn l (c .args .commands .now) (c .args .schedule .now)
 
 -- its answer is the one on the entries
-answer-is : (c : tie.After-advancing-answer)
-    → c .advancing-answer .result ≡ answerOf (outcome (entry c) (entries (lists (entry c .args .state .now) (entry c .args .keys .now) (entry c .args .chutes .now) (entry c .args .answers .now))))
+answer-is : (c : tie.After-number)
+    → c .number .result ≡ answerOf (outcome (entry c) (entries (lists (entry c .args .state .now) (entry c .args .keys .now) (entry c .args .chutes .now) (entry c .args .answers .now))))
 answer-is c =
     let args = entry c .args in
-    c .advancing-answer .ensures ∙ omega arith ∙ answer-on (args .state .now) (args .keys .now) (args .chutes .now) (args .answers .now) (outcome (entry c)) (read (called c) .read-lists .ensures)
-    (called c .advance .ensures .0) (sym (advance-place _ _ _))
+    c .number .ensures .0 ∙ omega arith ∙ answer-on (args .state .now) (args .keys .now) (args .chutes .now) (args .answers .now) (outcome (entry c)) (read (called c) .read-lists .ensures)
+    (called c .advance .ensures .0) (advance-place (called c .advance .result) ∙ called c .advance .ensures .1 .0)
 
 read-lists-requires : tie.Need-read-lists-requires
 read-lists-requires c κs = search needs
@@ -41,8 +41,8 @@ read-lists-requires c κs = search needs
 advance-requires : tie.Need-advance-requires
 advance-requires c κs = search needs
 
-advancing-answer-requires : tie.Need-advancing-answer-requires
-advancing-answer-requires c κs = search needs
+number-requires : tie.Need-number-requires
+number-requires c κs = search needs
 
 write-lists-requires : tie.Need-write-lists-requires
 write-lists-requires c κs =
@@ -90,7 +90,7 @@ returns c =
     (λ i. omega (arith, before .before .before .before .before .before .before .before .before .before .before .before .before .slice-known4 .given i)) in (
       answer-is answer,
       written-on (args .state .now) (args .keys .now) (args .chutes .now) (args .answers .now) (outcome begin) (before .read-lists .ensures) whole
-          (called answer .advance .ensures .1) (c .before .before .before .before .before .before .write-lists .ensures),
+          (called answer .advance .ensures .1 .1) (c .before .before .before .before .before .before .write-lists .ensures),
     )
 
 same-length-8 : tie.Need-same-length-8
@@ -120,7 +120,7 @@ returns-2 c =
     let args = entry answer .args in (
       answer-is answer,
       refused-on (args .state .now) (args .keys .now) (args .chutes .now) (args .answers .now) (outcome (entry answer)) (read (called answer) .read-lists .ensures)
-          (called answer .advance .ensures .1) (λ z. c .if1 .left (answer-is answer ∙ z)),
+          (called answer .advance .ensures .1 .1) (λ z. c .if1 .left (answer-is answer ∙ z)),
     )
 
 pub advance-within-spec : {M : Type 1} → statement M
@@ -129,7 +129,7 @@ advance-within-spec =
     (tie.spec
     read-lists-requires
     advance-requires
-    advancing-answer-requires
+    number-requires
     write-lists-requires
     same-length
     same-length-2

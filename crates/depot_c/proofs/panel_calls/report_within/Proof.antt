@@ -46,7 +46,7 @@ returns c =
     let args = read .before .before .before .before .before .before .before .before .before .before .before .before .before .args in
     rw (told .enum-told .given .1)
     (report-on PendingCounts (args .state .now) (args .keys .now) (args .chutes .now) (args .answers .now) (args .commands .now) (args .out .now)
-    (read .read-lists .ensures) (c .report-answer .ensures) (call .pending-counts .ensures))
+    (read .read-lists .ensures) (c .report-answer .ensures) (call .pending-counts .ensures .0, call .pending-counts .ensures .1 .1))
 
 same-length-5 : tie.Need-same-length-5
 same-length-5 c = search needs
@@ -68,7 +68,7 @@ returns-2 c =
     let args = read .before .before .before .before .before .before .before .before .before .before .before .before .before .args in
     rw (told .enum-told2 .given .1)
     (report-on WorkerStatus (args .state .now) (args .keys .now) (args .chutes .now) (args .answers .now) (args .commands .now) (args .out .now)
-    (read .read-lists .ensures) (c .report-answer2 .ensures) (call .worker-status-bytes .ensures))
+    (read .read-lists .ensures) (c .report-answer2 .ensures) (call .worker-status-bytes .ensures .0, call .worker-status-bytes .ensures .1 .1))
 
 pub report-within-spec : {M : Type 1} → statement M
 report-within-spec =

@@ -7,7 +7,10 @@ use Rattle.panel.proofs.pending.count_of.Statement.{statement}
 use Rattle.panel.proofs.pending.count_of.Tie as tie
 
 returns : tie.Need-returns
-returns c l same = count-past l (c .before .before .args .n) (c .if1 .taken)
+returns c l same = count-past l (c .before .before .args .node .0) (c .if1 .taken)
+
+cast-set-at : tie.Need-cast-set-at
+cast-set-at c = search needs
 
 set-at-requires : tie.Need-set-at-requires
 set-at-requires c κs = search needs
@@ -22,7 +25,7 @@ returns-2 : tie.Need-returns-2
 returns-2 c l same =
     let else1 = c .before .before in
     let args = else1 .before .before .args in
-    count-read l (args .n) (args .state .now) same (else1 .if1 .left) (c .before .set-at .ensures) (c .count .ensures)
+    count-read l (args .node .0) (args .state .now) same (else1 .if1 .left) (c .before .set-at .ensures) (c .count .ensures)
 
 pub count-of-spec : {M : Type 1} → statement M
-count-of-spec = tie.close (tie.spec returns set-at-requires count-requires cast-result returns-2)
+count-of-spec = tie.close (tie.spec returns cast-set-at set-at-requires count-requires cast-result returns-2)

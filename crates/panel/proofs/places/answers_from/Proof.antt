@@ -41,17 +41,17 @@ begins-at i offset xs h =
     let whole : length (drop i xs) ≤ length xs - i = simp length-drop (omega arith) in
     rw (take-all (length xs - i) (drop i xs) whole, length-drop i xs) (omega arith)
 
-mul-answers : tie.Need-mul-answers
-mul-answers c = search needs
+mul-result : tie.Need-mul-result
+mul-result c = search needs
 
 sub-result : tie.Need-sub-result
 sub-result c = search needs
 
-part-answers-start : tie.Need-part-answers-start
-part-answers-start c = search needs
+part-result-start : tie.Need-part-result-start
+part-result-start c = search needs
 
-part-answers-end : tie.Need-part-answers-end
-part-answers-end c = search needs
+part-result-end : tie.Need-part-result-end
+part-result-end c = search needs
 
 returns : tie.Need-returns
 returns c =
@@ -59,17 +59,17 @@ returns c =
     let xs = start .args .answers .now in
     (none-taken (length xs) (drop (length xs) xs) ∙ sym (from-none (start .args .from .0) xs (c .before .if1 .taken)), (refl, begins-at (length xs) (start .args .answers .ptr .1) xs (omega arith)))
 
-mul-answers-2 : tie.Need-mul-answers-2
-mul-answers-2 c = search needs
+mul-result-2 : tie.Need-mul-result-2
+mul-result-2 c = search needs
 
 sub-result-2 : tie.Need-sub-result-2
 sub-result-2 c = search needs
 
-part-answers-start-2 : tie.Need-part-answers-start-2
-part-answers-start-2 c = search needs
+part-result-start-2 : tie.Need-part-result-start-2
+part-result-start-2 c = search needs
 
-part-answers-end-2 : tie.Need-part-answers-end-2
-part-answers-end-2 c = search needs
+part-result-end-2 : tie.Need-part-result-end-2
+part-result-end-2 c = search needs
 
 returns-2 : tie.Need-returns-2
 returns-2 c =
@@ -77,20 +77,20 @@ returns-2 c =
     let xs = start .args .answers .now in
     (none-taken (length xs) (drop (length xs) xs) ∙ sym (from-past (start .args .from .0) xs (c .before .if2 .taken)), (refl, begins-at (length xs) (start .args .answers .ptr .1) xs (omega arith)))
 
-sub-answers : tie.Need-sub-answers
-sub-answers c = search needs
-
-mul-answers-3 : tie.Need-mul-answers-3
-mul-answers-3 c = search needs
-
 sub-result-3 : tie.Need-sub-result-3
 sub-result-3 c = search needs
 
-part-answers-start-3 : tie.Need-part-answers-start-3
-part-answers-start-3 c = search needs
+mul-result-3 : tie.Need-mul-result-3
+mul-result-3 c = search needs
 
-part-answers-end-3 : tie.Need-part-answers-end-3
-part-answers-end-3 c = search needs
+sub-result-4 : tie.Need-sub-result-4
+sub-result-4 c = search needs
+
+part-result-start-3 : tie.Need-part-result-start-3
+part-result-start-3 c = search needs
+
+part-result-end-3 : tie.Need-part-result-end-3
+part-result-end-3 c = search needs
 
 returns-3 : tie.Need-returns-3
 returns-3 c =
@@ -102,19 +102,19 @@ pub answers-from-spec : {M : Type 1} → statement M
 answers-from-spec =
     tie.close
     (tie.spec
-    mul-answers
+    mul-result
     sub-result
-    part-answers-start
-    part-answers-end
+    part-result-start
+    part-result-end
     returns
-    mul-answers-2
+    mul-result-2
     sub-result-2
-    part-answers-start-2
-    part-answers-end-2
+    part-result-start-2
+    part-result-end-2
     returns-2
-    sub-answers
-    mul-answers-3
     sub-result-3
-    part-answers-start-3
-    part-answers-end-3
+    mul-result-3
+    sub-result-4
+    part-result-start-3
+    part-result-end-3
     returns-3)

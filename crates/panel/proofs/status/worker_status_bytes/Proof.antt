@@ -1,46 +1,38 @@
--- `panel::status::worker_status_bytes` meets its contract: where the tests pass the report is written, and a refusal leaves the list. Assumes nothing.
+-- `panel::status::worker_status_bytes` meets its contract: a byte list of another length is refused, and the tests of the others are those of the
+-- report in structs. Assumes nothing.
 use borrow.Author.Needs.{needs}
-use mathlib.Core.Path.{_≡_, refl, sym, ap, _∙_}
+use mathlib.Core.Path.{refl, _∙_}
 use lib.ListN.{length}
 use Rattle.state_bytes.specs.Layout.{Lists, lists}
-use Rattle.panel.specs.Reports.{reportOf, reportNumber}
-use Rattle.panel.proofs.Reporting.{passed-lengths, left-report, left-old}
+use Rattle.panel.specs.Reports.{reportLeft}
+use Rattle.panel.proofs.Reporting.{refuses-report, as-wanted, no-place}
 use Rattle.panel.proofs.status.worker_status_bytes.Statement.{statement}
 use Rattle.panel.proofs.status.worker_status_bytes.Tie as tie
 
--- the function's entry, from the result of the tests, and the lists that it gets
-abbrev entry : tie.After-tested → tie.Start
-entry c = c .before .before .before .before .before .before .before
-
+-- the lists that the function gets
 abbrev given : tie.Start → Lists
 given start = lists (start .args .state .now) (start .args .keys .now) (start .args .chutes .now) (start .args .answers .now)
 
-number-is : (c : tie.After-tested) → reportOf (c .tested .result) ≡ reportNumber (given (entry c)) (entry c .args .commands .now) (length (entry c .args .bytes .now)) 128
-number-is c = c .tested .ensures (given (entry c)) (entry c .args .commands .now) refl refl refl refl refl
+returns : tie.Need-returns
+unfolding reportLeft
+returns c =
+    let start = c .before .before .before .before .before .before .before in
+    (refuses-report (given start) (start .args .commands .now) (length (start .args .bytes .now)) 128 (c .if1 .taken), (refl, refl))
 
-tested-requires : tie.Need-tested-requires
-tested-requires c κs = search needs
-
-enum-told : tie.Need-enum-told
-enum-told c = search needs
-
-write-status-bytes-requires : tie.Need-write-status-bytes-requires
-write-status-bytes-requires c κs =
-    let called = c .before .before .before in
-    let start = entry called in
-    passed-lengths (given start) (start .args .commands .now) (length (start .args .bytes .now)) 128 (sym (ap reportOf (c .before .enum-told .given .1)) ∙ number-is called)
+status-as-bytes-requires : tie.Need-status-as-bytes-requires
+status-as-bytes-requires c κs = search needs
 
 same-length : tie.Need-same-length
 same-length c = search needs
 
-returns : tie.Need-returns
-returns c =
-    let told = c .before .before .before .before in
-    let called = told .before .before in
-    (number-is called, c .before .before .write-status-bytes .ensures (given (entry called)) refl ∙ left-report (called .tested .result) _ (entry called .args .bytes .now) (told .enum-told .given .1))
-
 returns-2 : tie.Need-returns-2
-returns-2 c = (number-is (c .before), left-old (c .before .tested .result) _ (entry (c .before) .args .bytes .now) (c .match .keys2))
+returns-2 c =
+    let call = c .before .before in
+    let else1 = call .before .before in
+    let start = else1 .before .before .before .before .before .before .before in
+    let number = call .status-as-bytes .ensures .0 ∙ as-wanted (given start) (start .args .commands .now) (length (start .args .bytes .now)) 128 (else1 .if1 .left) in
+    (number, (no-place (call .status-as-bytes .result), call .status-as-bytes .ensures .1))
 
 pub worker-status-bytes-spec : {M : Type 1} → statement M
-worker-status-bytes-spec = tie.close (tie.spec tested-requires enum-told write-status-bytes-requires same-length returns returns-2)
+worker-status-bytes-spec =
+    tie.close (tie.spec returns status-as-bytes-requires same-length returns-2)
