@@ -15,7 +15,7 @@ use Rattle.s10.proofs.Laws.{accepted-is-at-most-largest}
 use Rattle.command.specs.declared.Kind.{Kind}
 use Rattle.command.specs.declared.Kind.the-variants.{Insert, Delete, Read, Update}
 use Rattle.command.specs.declared.Command.{Command}
-use Rattle.command.specs.Read.{Outcome, accepted, refused, kindOf, chuteFits, chuteOf, withKind, withChute, readCommand, parts, partsOf, readings, allAccepted, refusedAt, firstRefusal, commandFrom, commandsIn}
+use Rattle.command.specs.Read.{CommandOutcome, accepted, refused, kindOf, chuteFits, chuteOf, withKind, withChute, readCommand, parts, partsOf, readings, allAccepted, refusedAt, firstRefusal, commandFrom, commandsIn}
 use Rattle.command.specs.Dependent.{isInsertOrDelete, isUpdate, areDependent}
 use Rattle.command.specs.Laws.{DependenceIsSymmetric, KindOfItsNumber, AcceptedChuteFits, AcceptedChuteIsAtMostLast, AcceptedKeyIsAtMostLargest, AllAccepted, NoRefusalIsAllAccepted, RefusedBeginsInside}
 
@@ -62,7 +62,7 @@ accepted-passed part command e = cases (kindOf (getD part 0 0)) (readText (take 
         subst (λ (c : Command). Accepted part c) same (record { fits = and-eq-true-iff (eqb (length bytes) 2) _ .0 f .1; read = r })
     chosen kind key false r f e = let z : _≡_ {A = ℕ} 0 1 = cc in absurd (omega arith)
 
-    cases : (k : Option Kind) (o : Identifier.Outcome) → readText (take 13 (drop 1 part)) ≡ o → withKind k o bytes ≡ accepted command → Accepted part command
+    cases : (k : Option Kind) (o : Identifier.TextOutcome) → readText (take 13 (drop 1 part)) ≡ o → withKind k o bytes ≡ accepted command → Accepted part command
     cases (some kind) (Identifier.accepted key) r e = chosen kind key _ r refl e
     cases (some kind) (Identifier.refused n) r e = let z : _≡_ {A = ℕ} 0 1 = cc in absurd (omega arith)
     cases none o r e = let z : _≡_ {A = ℕ} 0 1 = cc in absurd (omega arith)
@@ -92,7 +92,7 @@ pub list-key-is-at-most-largest : (list : List ℕ) (i : ℕ) (command : Command
 unfolding commandsIn readings commandFrom
 list-key-is-at-most-largest list i command = each (partsOf list) i
   where
-    read : (part : List ℕ) (r : Outcome) → readCommand part ≡ r → commandFrom r .key ≤ largestKey
+    read : (part : List ℕ) (r : CommandOutcome) → readCommand part ≡ r → commandFrom r .key ≤ largestKey
     read part (accepted c) e = accepted-key-is-at-most-largest part c e
     read part (refused n) e = omega arith
 
@@ -106,12 +106,12 @@ pub no-refusal-is-all-accepted : NoRefusalIsAllAccepted
 unfolding firstRefusal
 no-refusal-is-all-accepted = (each, none)
   where
-    each : (place : ℕ) (rs : List Outcome) → firstRefusal place rs ≡ allAccepted → AllAccepted rs
+    each : (place : ℕ) (rs : List CommandOutcome) → firstRefusal place rs ≡ allAccepted → AllAccepted rs
     each place [] e = tt
     each place (accepted command ∷ rest) e = each (place + 1) rest e
     each place (refused n ∷ rest) e = let z : _≡_ {A = ℕ} 0 1 = cc in omega arith
 
-    none : (place : ℕ) (rs : List Outcome) → AllAccepted rs → firstRefusal place rs ≡ allAccepted
+    none : (place : ℕ) (rs : List CommandOutcome) → AllAccepted rs → firstRefusal place rs ≡ allAccepted
     none place [] a = refl
     none place (accepted command ∷ rest) a = none (place + 1) rest a
     none place (refused n ∷ rest) a = absurd a
@@ -128,7 +128,7 @@ unfolding readings partsOf
 length-readings list = rw (length-map, length-parts)
 
 -- a refusal's place is that of some reading
-refused-place : (place : ℕ) (rs : List Outcome) (n at : ℕ) → firstRefusal place rs ≡ refusedAt n at → at < place + length rs
+refused-place : (place : ℕ) (rs : List CommandOutcome) (n at : ℕ) → firstRefusal place rs ≡ refusedAt n at → at < place + length rs
 unfolding firstRefusal
 refused-place place [] n at e = let z : _≡_ {A = ℕ} 0 1 = cc in absurd (omega arith)
 refused-place place (accepted command ∷ rest) n at e = omega (arith, refused-place (place + 1) rest n at e)

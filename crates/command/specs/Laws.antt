@@ -8,7 +8,7 @@ use lib.ListN.{length}
 use Rattle.s10.specs.Text.{largestKey}
 use Rattle.command.specs.declared.Kind.{Kind}
 use Rattle.command.specs.declared.Command.{Command}
-use Rattle.command.specs.Read.{Outcome, accepted, refused, kindOf, kindNumber, chuteFits, readCommand, readings, allAccepted, refusedAt, firstRefusal}
+use Rattle.command.specs.Read.{CommandOutcome, accepted, refused, kindOf, kindNumber, chuteFits, readCommand, readings, allAccepted, refusedAt, firstRefusal}
 use Rattle.command.specs.Dependent.{areDependent}
 
 -- Of two commands each depends on the other, or neither does.
@@ -32,7 +32,7 @@ abbrev pub AcceptedKeyIsAtMostLargest : Type 0
 AcceptedKeyIsAtMostLargest = (part : List ℕ) (command : Command) → readCommand part ≡ accepted command → command .key ≤ largestKey
 
 -- every reading is accepted
-abbrev pub AllAccepted : List Outcome → Type 0
+abbrev pub AllAccepted : List CommandOutcome → Type 0
 AllAccepted [] = Unit {0}
 AllAccepted (accepted command ∷ rest) = AllAccepted rest
 AllAccepted (refused n ∷ rest) = ⊥
@@ -40,8 +40,8 @@ AllAccepted (refused n ∷ rest) = ⊥
 -- A list has no refusal exactly if every reading is accepted.
 abbrev pub NoRefusalIsAllAccepted : Type 0
 NoRefusalIsAllAccepted =
-    ((place : ℕ) (rs : List Outcome) → firstRefusal place rs ≡ allAccepted → AllAccepted rs)
-    × ((place : ℕ) (rs : List Outcome) → AllAccepted rs → firstRefusal place rs ≡ allAccepted)
+    ((place : ℕ) (rs : List CommandOutcome) → firstRefusal place rs ≡ allAccepted → AllAccepted rs)
+    × ((place : ℕ) (rs : List CommandOutcome) → AllAccepted rs → firstRefusal place rs ≡ allAccepted)
 
 -- A refused command begins inside the list.
 abbrev pub RefusedBeginsInside : Type 0

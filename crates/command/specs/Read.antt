@@ -18,17 +18,17 @@ use Rattle.command.specs.declared.ListReading.{ListReading}
 use Rattle.command.specs.declared.ListReading.the-variants.{AllRead, UnknownKindAt, MalformedAt, WrongCheckDigitAt, WrongChuteAt}
 
 -- A command is accepted, or refused with a number.
-pub data Outcome : Type 0 where
-  accepted : Command → Outcome
-  refused : ℕ → Outcome
+pub data CommandOutcome : Type 0 where
+  accepted : Command → CommandOutcome
+  refused : ℕ → CommandOutcome
 
 -- the document's number and value for each answer of `Command::read`
-abbrev pub outcome : Reading → Outcome
-outcome (Accepted command) = accepted command
-outcome UnknownKind = refused 7
-outcome Malformed = refused 8
-outcome WrongCheckDigit = refused 9
-outcome WrongChute = refused 10
+abbrev pub commandOutcome : Reading → CommandOutcome
+commandOutcome (Accepted command) = accepted command
+commandOutcome UnknownKind = refused 7
+commandOutcome Malformed = refused 8
+commandOutcome WrongCheckDigit = refused 9
+commandOutcome WrongChute = refused 10
 
 -- "kind (1 insert, 2 delete, 3 read, 4 update)"; any other number is no kind's
 unfoldable pub kindOf : ℕ → Option Kind
@@ -57,21 +57,21 @@ unfoldable pub chuteOf : List ℕ → ℕ
 chuteOf bytes = 256 * getD bytes 0 0 + getD bytes 1 0
 
 -- what follows the identifier's outcome: its refusal, or refusal 10, "chute wrong for the kind", or the command
-unfoldable pub withChute : Kind → Identifier.Outcome → List ℕ → Outcome
+unfoldable pub withChute : Kind → Identifier.TextOutcome → List ℕ → CommandOutcome
 unfolding chuteFits chuteOf
 withChute kind (Identifier.accepted key) bytes =
     cond (eqb (length bytes) 2 && chuteFits kind (chuteOf bytes)) (accepted (record { kind = kind; key = key; chute = chuteOf bytes })) (refused 10)
 withChute kind (Identifier.refused n) bytes = refused n
 
 -- what follows the kind: refusal 7, "kind not 1 to 4", or what follows the identifier's outcome
-unfoldable pub withKind : Option Kind → Identifier.Outcome → List ℕ → Outcome
+unfoldable pub withKind : Option Kind → Identifier.TextOutcome → List ℕ → CommandOutcome
 unfolding withChute
 withKind none identifier bytes = refused 7
 withKind (some kind) identifier bytes = withChute kind identifier bytes
 
 -- "A command is 16 bytes: kind, identifier, chute"; refusals 7, 8, 9 and 10 in this order. A part that ends early or late lacks what
 -- would stand there: no kind is 7, a short identifier is 8, a chute of other than two bytes is 10.
-unfoldable pub readCommand : List ℕ → Outcome
+unfoldable pub readCommand : List ℕ → CommandOutcome
 unfolding kindOf withKind
 readCommand part = withKind (kindOf (getD part 0 0)) (readText (take 13 (drop 1 part))) (drop 14 part)
 
@@ -84,7 +84,7 @@ unfoldable pub partsOf : List ℕ → List (List ℕ)
 unfolding parts
 partsOf bytes = parts ((length bytes + 15) / 16) bytes
 
-unfoldable pub readings : List ℕ → List Outcome
+unfoldable pub readings : List ℕ → List CommandOutcome
 unfolding partsOf readCommand
 readings bytes = map readCommand (partsOf bytes)
 
@@ -94,7 +94,7 @@ pub data ListOutcome : Type 0 where
   refusedAt : ℕ → ℕ → ListOutcome
 
 -- "then each command in order for 7 to 10": the first refusal, the first reading being that of a place
-unfoldable pub firstRefusal : ℕ → List Outcome → ListOutcome
+unfoldable pub firstRefusal : ℕ → List CommandOutcome → ListOutcome
 firstRefusal place [] = allAccepted
 firstRefusal place (accepted command ∷ rest) = firstRefusal (place + 1) rest
 firstRefusal place (refused n ∷ rest) = refusedAt n place
@@ -109,7 +109,7 @@ listOutcome (WrongChuteAt seq) = refusedAt 10 (seq .0)
 
 -- the commands of a list. A list that was accepted has no refused command; in any other list a refused one reads as a read of key 0, so
 -- that every list has a command at each place
-unfoldable pub commandFrom : Outcome → Command
+unfoldable pub commandFrom : CommandOutcome → Command
 commandFrom (accepted c) = c
 commandFrom (refused n) = record { kind = Read; key = 0; chute = 0 }
 

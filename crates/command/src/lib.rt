@@ -4,7 +4,7 @@ ghost use Prim.Native.Nat.{_+_, _*_, min};
 ghost use mathlib.Core.Bool.{_&&_};
 ghost use lib.Dec.{leb};
 ghost use Rattle.s10.specs.Outcome.{accepted};
-ghost use Rattle.command.specs.Read.{outcome, knownKind, kindOf, chuteFits, withChute, readCommand, listOutcome, firstRefusal, readings, kindNumber};
+ghost use Rattle.command.specs.Read.{commandOutcome, knownKind, kindOf, chuteFits, withChute, readCommand, listOutcome, firstRefusal, readings, kindNumber};
 ghost use Rattle.command.specs.Dependent.{isInsertOrDelete, isUpdate, areDependent};
 use s10::Identifier;
 
@@ -61,7 +61,7 @@ impl Command {
 
     // The command of a part of the list.
     pub fn read(part: &[u8]) -> Reading
-        ensures { λ r. ⌜ outcome r ≡ readCommand (now (part .entry)) ⌝ }
+        ensures { λ r. ⌜ commandOutcome r ≡ readCommand (now (part .entry)) ⌝ }
     {
         if part.len() == 0 {
             return Reading::UnknownKind;
@@ -172,7 +172,7 @@ fn smaller(a: usize, b: usize) -> usize
 
 // The command of a kind, a key and the bytes of a chute.
 fn with_chute(kind: Kind, key: u64, bytes: &[u8]) -> Reading
-    ensures { λ r. ⌜ outcome r ≡ withChute kind (accepted key) (now (bytes .entry)) ⌝ }
+    ensures { λ r. ⌜ commandOutcome r ≡ withChute kind (accepted key) (now (bytes .entry)) ⌝ }
 {
     if bytes.len() != Command::LENGTH - Command::CHUTE {
         return Reading::WrongChute;

@@ -10,7 +10,7 @@ use lib.Dec.{eqb, leb}
 use borrow.Author.Tests.{leb-true, eqb-true}
 use Rattle.s10.specs.Outcome as Identifier
 use Rattle.command.specs.declared.Command.{Command}
-use Rattle.command.specs.Read.{Outcome, accepted, refused, chuteFits, readCommand, partsOf, readings, ListOutcome, allAccepted, refusedAt, firstRefusal, commandFrom, commandsIn}
+use Rattle.command.specs.Read.{CommandOutcome, accepted, refused, chuteFits, readCommand, partsOf, readings, ListOutcome, allAccepted, refusedAt, firstRefusal, commandFrom, commandsIn}
 use Rattle.command.proofs.Laws.{accepted-chute-fits}
 use Rattle.model.specs.Setup.{Setup, commandAt}
 use Rattle.model.specs.Step.{opened}
@@ -33,7 +33,7 @@ unfolding firstRefusal commandFrom
 chutes-fit [] place command i e at = let z : _≡_ {A = ℕ} 0 1 = cc in absurd (omega arith)
 chutes-fit (part ∷ ps) place command i e at = go (readCommand part) refl (chutes-fit ps (place + 1) command) i e at
   where
-    go : (r : Outcome) → readCommand part ≡ r → ChutesFit ps (place + 1) command → (i : ℕ) → firstRefusal place (r ∷ map readCommand ps) ≡ allAccepted
+    go : (r : CommandOutcome) → readCommand part ≡ r → ChutesFit ps (place + 1) command → (i : ℕ) → firstRefusal place (r ∷ map readCommand ps) ≡ allAccepted
         → getElem? (commandFrom r ∷ map commandFrom (map readCommand ps)) i ≡ some command → chuteFits (command .kind) (command .chute) ≡ true
     go (accepted c) r rest zero e at = let same : c ≡ command = cc in accepted-chute-fits part command (r ∙ ap accepted same)
     go (accepted c) r rest (suc i) e at = rest i e at
@@ -49,7 +49,7 @@ commands-fit bytes e (suc i) command at = chutes-fit (partsOf bytes) 1 command i
 -- ---- the opening
 
 -- a chain of tests is accepted where each passes
-pub passed : (t : Bool) (n : ℕ) {x : Calls.Outcome} {l : Lists} → cond t x (Calls.refused n 0) ≡ Calls.accepted l → (t ≡ true) × (x ≡ Calls.accepted l)
+pub passed : (t : Bool) (n : ℕ) {x : Calls.CallOutcome} {l : Lists} → cond t x (Calls.refused n 0) ≡ Calls.accepted l → (t ≡ true) × (x ≡ Calls.accepted l)
 passed true n e = (refl, e)
 passed false n e = let z : _≡_ {A = ℕ} 0 1 = cc in absurd (omega arith)
 

@@ -6,8 +6,8 @@ use mathlib.Core.List.{List}
 use Rattle.model.specs.Step.{steps}
 use Rattle.model.specs.Statement.{allWithin}
 use Rattle.state_bytes.specs.Layout.{Lists, listsOf, setupIn, stateIn, stateFits, handedBackFit}
-use Rattle.controller.specs.Calls.{Outcome, accepted, refused, numberOf, placeOf, kept, advanceOn}
-use Rattle.controller.specs.Performed.{Passes}
+use Rattle.controller.specs.Calls.{CallOutcome, accepted, refused, refusalNumber, refusalPlace, kept, advanceOn}
+use Rattle.controller.specs.Performed.{CallPasses}
 
 module _ (l : Lists) (commands schedule : List ℕ) where
   -- the first test that fails decides
@@ -25,18 +25,18 @@ module _ (l : Lists) (commands schedule : List ℕ) where
   refuses-thread e f g = rw (e, f, g)
 
   -- where none fails, the schedule's steps are performed
-  pub accepts : Passes l commands schedule → advanceOn l commands schedule ≡ accepted (listsOf (setupIn (l .state) commands) (steps (setupIn (l .state) commands) schedule (stateIn l)))
+  pub accepts : CallPasses l commands schedule → advanceOn l commands schedule ≡ accepted (listsOf (setupIn (l .state) commands) (steps (setupIn (l .state) commands) schedule (stateIn l)))
   unfolding advanceOn
   accepts p = rw (p .lengths, p .state, p .named)
 
   -- a refusal answers its number, with no place, and leaves the lists
   pub refused-so : (n : ℕ) → advanceOn l commands schedule ≡ refused n 0
-      → (n ≡ numberOf (advanceOn l commands schedule)) × ((0 ≡ placeOf (advanceOn l commands schedule)) × (l ≡ kept (advanceOn l commands schedule) l))
-  unfolding numberOf placeOf kept
-  refused-so n e = (sym (ap numberOf e), (sym (ap placeOf e), sym (ap (λ (x : Outcome). kept x l) e)))
+      → (n ≡ refusalNumber (advanceOn l commands schedule)) × ((0 ≡ refusalPlace (advanceOn l commands schedule)) × (l ≡ kept (advanceOn l commands schedule) l))
+  unfolding refusalNumber refusalPlace kept
+  refused-so n e = (sym (ap refusalNumber e), (sym (ap refusalPlace e), sym (ap (λ (x : CallOutcome). kept x l) e)))
 
   -- an accepted call answers 0, with no place, and leaves its lists
   pub accepted-so : (m after : Lists) → m ≡ after → advanceOn l commands schedule ≡ accepted after
-      → (0 ≡ numberOf (advanceOn l commands schedule)) × ((0 ≡ placeOf (advanceOn l commands schedule)) × (m ≡ kept (advanceOn l commands schedule) l))
-  unfolding numberOf placeOf kept
-  accepted-so m after is e = (sym (ap numberOf e), (sym (ap placeOf e), rw (is, e)))
+      → (0 ≡ refusalNumber (advanceOn l commands schedule)) × ((0 ≡ refusalPlace (advanceOn l commands schedule)) × (m ≡ kept (advanceOn l commands schedule) l))
+  unfolding refusalNumber refusalPlace kept
+  accepted-so m after is e = (sym (ap refusalNumber e), (sym (ap refusalPlace e), rw (is, e)))

@@ -23,8 +23,8 @@ use Rattle.model.specs.Proof.Formed.Keep.{steps-formed}
 use Rattle.model.specs.Proof.Formed.Opening.{opened-formed, accepted-formed}
 use Rattle.command.specs.Read.{commandsIn}
 use Rattle.state_bytes.specs.Layout.{Lists, listsOf, setupIn, stateIn, ascends, stateFits, handedBackFit}
-use Rattle.controller.specs.Calls.{Outcome, accepted, refused, kept, openOn, advanceOn}
-use Rattle.controller.specs.Demand3.{Call, callOn, after, ProperCall, Proper, accepts, schedules, HoldsAfter, Demand3}
+use Rattle.controller.specs.Calls.{CallOutcome, accepted, refused, kept, openOn, advanceOn}
+use Rattle.controller.specs.Demand3.{Call, callOn, listsAfter, ProperCall, Proper, accepts, schedules, HoldsAfter, Demand3OverCalls}
 use Rattle.state_bytes.proofs.Bytes.{below-or-past, each-all-below}
 use Rattle.state_bytes.proofs.RoundTrip.{lists-state, state-read-back, setup-read-back, lists-fit, state-fits}
 use Rattle.controller.proofs.AcceptedOpening.{passed, IsOpened, accepted-opening}
@@ -110,15 +110,15 @@ module _ (o : Setup) (acc : Accepted o) (commands : List ℕ) (same : o .command
       (within-append (o .workers) ts schedule (r .0) (pass .0), (let q = pass .1 in cc))
 
   -- a refused call leaves the lists, and an accepted one leaves those that its schedule reaches
-  call-reaches : (call : Call) (l : Lists) (ts : List ℕ) (outcome : Outcome) → callOn call ≡ outcome → ProperCall commands l call outcome → Reach o l ts
+  call-reaches : (call : Call) (l : Lists) (ts : List ℕ) (outcome : CallOutcome) → callOn call ≡ outcome → ProperCall commands l call outcome → Reach o l ts
       → Reach o (kept outcome l) (ts ++ accepts outcome (call .schedule))
   unfolding callOn kept
   call-reaches call l ts (accepted m) e handed r = accepted-reaches l m ts (call .schedule) r (rw (handed .0, handed .1) at e)
   call-reaches call l ts (refused n place) e handed r = rw (append-nil ts) r
 
   -- call by call
-  calls-reach : (calls : List Call) (l : Lists) (ts : List ℕ) → Reach o l ts → Proper commands l calls → Reach o (after calls l) (ts ++ schedules calls)
-  unfolding after schedules
+  calls-reach : (calls : List Call) (l : Lists) (ts : List ℕ) → Reach o l ts → Proper commands l calls → Reach o (listsAfter calls l) (ts ++ schedules calls)
+  unfolding listsAfter schedules
   calls-reach [] l ts r proper = rw append-nil r
   calls-reach (call ∷ calls) l ts r proper =
       rw (← append-assoc ts (accepts (callOn call) (call .schedule)) (schedules calls))
@@ -152,12 +152,12 @@ module _ (o : Setup) (acc : Accepted o) (commands : List ℕ) (same : o .command
         }
 
 -- the opening's lists are those of the empty schedule, and every proper list of calls goes on from there
-pub demand-3-over-calls : Demand3
+pub demand-3-over-calls : Demand3OverCalls
 demand-3-over-calls size workers capacity commands lent l e calls proper =
     let o : Setup = record { size = size; workers = workers; capacity = capacity; commands = commandsIn commands } in
     let is : IsOpened o commands l = accepted-opening size workers capacity commands lent l e in
     let reached = calls-reach o (is .setup) commands refl (is .long) calls l [] (opening-reaches o l (is .lists)) proper in
-    holds o (is .setup) commands refl (is .long) (after calls l) (schedules calls) reached
+    holds o (is .setup) commands refl (is .long) (listsAfter calls l) (schedules calls) reached
 
 -- an accepted opening, then one call: a schedule of known threads is performed, and what is read of the lists left is the state reached
 pub opening-performs : (size workers capacity : ℕ) (commands : List ℕ) (lent l : Lists) → openOn size workers capacity commands lent ≡ accepted l

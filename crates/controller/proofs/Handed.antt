@@ -12,7 +12,7 @@ use Rattle.model.specs.declared.Thread.{Thread}
 use Rattle.model.specs.declared.Thread.the-variants.{Idle}
 use Rattle.model.specs.Statement.{allWithin}
 use Rattle.model.specs.declared.Counters.{Counters}
-use Rattle.graph.specs.Arrays.{Within, numbers}
+use Rattle.graph.specs.Arrays.{NodesWithin, numbers}
 use Rattle.command.specs.Read.{commandsIn}
 use Rattle.graph.specs.Items.{Kept}
 use Rattle.graph.specs.Memory.{Ready, memory, shown}
@@ -57,16 +57,16 @@ either P true p q = p
 either P false p q = q
 
 -- a thread made of nodes is within the graph
-thread-within : (tag at own found : ℕ) → at ≤ 150 → own ≤ 150 → Within (threadOf tag at own found)
+thread-within : (tag at own found : ℕ) → at ≤ 150 → own ≤ 150 → NodesWithin (threadOf tag at own found)
 unfolding threadOf
 thread-within tag at own found h j =
-    either Within (eqb tag 1) (h, j) (either Within (eqb tag 2) h (either Within (eqb tag 3) j (either Within (eqb tag 4) j
-    (either Within (eqb tag 5) j (either Within (eqb tag 6) (h, j) (either Within (eqb tag 7) (h, j) tt))))))
+    either NodesWithin (eqb tag 1) (h, j) (either NodesWithin (eqb tag 2) h (either NodesWithin (eqb tag 3) j (either NodesWithin (eqb tag 4) j
+    (either NodesWithin (eqb tag 5) j (either NodesWithin (eqb tag 6) (h, j) (either NodesWithin (eqb tag 7) (h, j) tt))))))
 
 -- ---- the facts behind the tests
 
 module _ (l : Lists) (commands : List ℕ) where
-  thread-passed : (size t : ℕ) → size ≤ 150 → threadFitsAt (l .state) size t ≡ true → Within (threadAt (l .state) t)
+  thread-passed : (size t : ℕ) → size ≤ 150 → threadFitsAt (l .state) size t ≡ true → NodesWithin (threadAt (l .state) t)
   unfolding threadFitsAt threadFits threadAt
   thread-passed size t small fit =
       let b = l .state in
@@ -80,7 +80,7 @@ module _ (l : Lists) (commands : List ℕ) where
       thread-within tag at own found (omega (arith, leb-true at size (each 1))) (omega (arith, leb-true own size (each 2)))
 
   -- all of them
-  pub threads-within : InRange l → (t : ℕ) → t < 65 → Within (threadAt (l .state) t)
+  pub threads-within : InRange l → (t : ℕ) → t < 65 → NodesWithin (threadAt (l .state) t)
   threads-within range t h = thread-passed (numberAt 1 0 (l .state)) t (range .size) (range .threads t h)
 
   -- there are as many commands as the state says
@@ -156,5 +156,5 @@ module _ (l : Lists) {k : Counters} {next seq : List ℕ} {executing locked : Li
       few = omega (arith, range .count, long .answers);
     }
 
-    pub read-within : (t : ℕ) → Within (threadsOf threads t)
-    read-within = subst (λ (a : List Thread). (t : ℕ) → Within (threadsOf a t)) (sym (r .threads-are)) (tabulate-all Within 65 (threadAt (l .state)) Idle (threads-within l commands range) tt)
+    pub read-within : (t : ℕ) → NodesWithin (threadsOf threads t)
+    read-within = subst (λ (a : List Thread). (t : ℕ) → NodesWithin (threadsOf a t)) (sym (r .threads-are)) (tabulate-all NodesWithin 65 (threadAt (l .state)) Idle (threads-within l commands range) tt)

@@ -16,7 +16,7 @@ use Rattle.model.specs.Statement.{Accepted}
 use Rattle.controller.specs.declared.«open_call».Opening.{Opening}
 use Rattle.controller.specs.declared.«open_call».Opening.the-variants.{Opened, WrongGraphSize, WrongWorkers, WrongCapacity, WrongListLength, TooManyCommands, WrongLength, UnknownKindAt, MalformedAt, WrongCheckDigitAt, WrongChuteAt}
 use Rattle.state_bytes.specs.Layout.{Lists, stateLength, listsOf, lengthsFit}
-use Rattle.controller.specs.Calls.{accepted, numberOf, placeOf, kept, openingNumber, openingPlace, openOn}
+use Rattle.controller.specs.Calls.{accepted, refusalNumber, refusalPlace, kept, openingNumber, openingPlace, openOn}
 use Rattle.controller.specs.Opened.{setupOf, outcomeOf}
 use Rattle.controller.proofs.AcceptedOpening.{passed, accepted-opening}
 use Rattle.controller.proofs.«open_call».Opening.{the-type}
@@ -24,8 +24,8 @@ use Rattle.controller.proofs.«open_call».Opening.{the-type}
 -- ---- answers
 
 -- an answer's number and place are its outcome's
-pub answer-told : (r : Opening) (o : Setup) → (openingNumber r ≡ numberOf (outcomeOf r o)) × (openingPlace r ≡ placeOf (outcomeOf r o))
-unfolding numberOf placeOf
+pub answer-told : (r : Opening) (o : Setup) → (openingNumber r ≡ refusalNumber (outcomeOf r o)) × (openingPlace r ≡ refusalPlace (outcomeOf r o))
+unfolding refusalNumber refusalPlace
 answer-told Opened o = (refl, refl)
 answer-told WrongGraphSize o = (refl, refl)
 answer-told WrongWorkers o = (refl, refl)

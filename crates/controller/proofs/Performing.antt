@@ -20,7 +20,7 @@ use Rattle.model.specs.Proof.Tests.{eqb-cases}
 use Rattle.model.specs.Proof.Upd.{upd-at, upd-other}
 use Rattle.model.specs.Proof.Finish.Schedule.{steps-append}
 use Rattle.model.specs.declared.Counters.{Counters}
-use Rattle.graph.specs.Arrays.{Within}
+use Rattle.graph.specs.Arrays.{NodesWithin}
 use Rattle.command.specs.Read.{commandsIn}
 use Rattle.graph.specs.Memory.{Memory, Ready, Steps, memory, shown}
 use Rattle.graph.proofs.Commands.{commands-length}
@@ -71,10 +71,10 @@ module _ (threads : List Thread) (t : ℕ) (thread : Thread) (h : t < length thr
       (eqb-cases u t))
 
   -- so every thread's nodes stay nodes
-  set-within : Within thread → ((u : ℕ) → Within (threadsOf threads u)) → (u : ℕ) → Within (threadsOf (set threads t thread) u)
+  set-within : NodesWithin thread → ((u : ℕ) → NodesWithin (threadsOf threads u)) → (u : ℕ) → NodesWithin (threadsOf (set threads t thread) u)
   set-within here others u = ⊎-elim
-      (λ w. rw (w .0) (subst Within (sym (getD-set-same threads t thread Idle h)) here))
-      (λ w. subst Within (sym (getD-set-other threads t u thread Idle (w .0))) (others u))
+      (λ w. rw (w .0) (subst NodesWithin (sym (getD-set-same threads t thread Idle h)) here))
+      (λ w. subst NodesWithin (sym (getD-set-other threads t u thread Idle (w .0))) (others u))
       (eqb-cases u t)
 
 -- ---- along the schedule
@@ -83,7 +83,7 @@ module _ (threads : List Thread) (t : ℕ) (thread : Thread) (h : t < length thr
 pub record Along (commands schedule : List ℕ) (m₀ : Memory) (threads₀ : List Thread) (kinds itemKeys itemChutes : List ℕ) (m : Memory) (threads : List Thread) (i : ℕ) : Type 0 where
   pub few : i ≤ length schedule
   pub ready : Ready commands kinds itemKeys itemChutes m Idle
-  pub within : (t : ℕ) → Within (threadsOf threads t)
+  pub within : (t : ℕ) → NodesWithin (threadsOf threads t)
   pub all : length threads ≡ 65
   pub keys-long : length (m .service .keys) ≡ length (m₀ .service .keys)
   pub chutes-long : length (m .service .chutes) ≡ length (m₀ .service .chutes)
@@ -92,13 +92,13 @@ pub record Along (commands schedule : List ℕ) (m₀ : Memory) (threads₀ : Li
       → shown m (threadsOf threads) ≡ steps o (take i schedule) (shown m₀ (threadsOf threads₀))
 
 -- ready, with another thread to step
-pub ready-for : {list kinds itemKeys itemChutes : List ℕ} {m : Memory} {thread : Thread} (other : Thread) → Within other
+pub ready-for : {list kinds itemKeys itemChutes : List ℕ} {m : Memory} {thread : Thread} (other : Thread) → NodesWithin other
     → Ready list kinds itemKeys itemChutes m thread → Ready list kinds itemKeys itemChutes m other
 ready-for other w r = record { nodes = r .nodes; free = r .free; within = w; kept = r .kept; whole = r .whole; few = r .few }
 
 -- before the first step
 pub along-none : {commands schedule kinds itemKeys itemChutes : List ℕ} {m : Memory} {threads : List Thread}
-    → Ready commands kinds itemKeys itemChutes m Idle → ((t : ℕ) → Within (threadsOf threads t)) → length threads ≡ 65
+    → Ready commands kinds itemKeys itemChutes m Idle → ((t : ℕ) → NodesWithin (threadsOf threads t)) → length threads ≡ 65
     → Along commands schedule m threads kinds itemKeys itemChutes m threads 0
 along-none {m} {threads} r w h = record {
   few = omega arith;

@@ -15,21 +15,21 @@ use Rattle.controller.specs.declared.«advance_call».Advancing.the-vari
 use Rattle.state_bytes.specs.Layout.{Lists, listsOf, setupIn, stateIn, stateFits, lengthsFit, handedBackFit}
 
 -- A call leaves lists, or is refused with a number and a place.
-pub data Outcome : Type 0 where
-  accepted : Lists → Outcome
-  refused : ℕ → ℕ → Outcome
+pub data CallOutcome : Type 0 where
+  accepted : Lists → CallOutcome
+  refused : ℕ → ℕ → CallOutcome
 
 -- "A refusal returns its number and the command's place (0 outside 7 to 10 ..)": 0 for accepted
-unfoldable pub numberOf : Outcome → ℕ
-numberOf (accepted l) = 0
-numberOf (refused n place) = n
+unfoldable pub refusalNumber : CallOutcome → ℕ
+refusalNumber (accepted l) = 0
+refusalNumber (refused n place) = n
 
-unfoldable pub placeOf : Outcome → ℕ
-placeOf (accepted l) = 0
-placeOf (refused n place) = place
+unfoldable pub refusalPlace : CallOutcome → ℕ
+refusalPlace (accepted l) = 0
+refusalPlace (refused n place) = place
 
 -- ".. and writes nothing"
-unfoldable pub kept : Outcome → Lists → Lists
+unfoldable pub kept : CallOutcome → Lists → Lists
 kept (accepted l) old = l
 kept (refused n place) old = old
 
@@ -62,12 +62,12 @@ openingPlace (MalformedAt seq) = seq .0
 openingPlace (WrongCheckDigitAt seq) = seq .0
 openingPlace (WrongChuteAt seq) = seq .0
 
-unfoldable pub openedWith : ListOutcome → Setup → Outcome
+unfoldable pub openedWith : ListOutcome → Setup → CallOutcome
 openedWith allAccepted o = accepted (listsOf o (opened o))
 openedWith (refusedAt n place) o = refused n place
 
 -- "Opening tests 1 to 6 in order, then each command in order for 7 to 10."
-unfoldable pub openOn : ℕ → ℕ → ℕ → List ℕ → Lists → Outcome
+unfoldable pub openOn : ℕ → ℕ → ℕ → List ℕ → Lists → CallOutcome
 openOn size workers capacity commands l =
     cond (leb 1 size && leb size 150) (cond (leb 1 workers && leb workers 64) (cond (leb 1 capacity && leb capacity 4096)
     (cond (eqb (length commands % 16) 0) (cond (leb (length commands / 16) 4096) (cond (lengthsFit capacity (length commands / 16) l)
@@ -90,7 +90,7 @@ advancePlace UnknownThread = 0
 advancePlace WrongState = 0
 
 -- "Any call on a handed-back run tests 6, then 12, then 11." "It is checked whole before its first turn"
-unfoldable pub advanceOn : Lists → List ℕ → List ℕ → Outcome
+unfoldable pub advanceOn : Lists → List ℕ → List ℕ → CallOutcome
 advanceOn l commands schedule =
     let o : Setup = setupIn (l .state) commands in
     cond (handedBackFit l commands) (cond (stateFits l) (cond (allWithin (o .workers) schedule)

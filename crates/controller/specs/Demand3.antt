@@ -12,7 +12,7 @@ use Rattle.model.specs.Step.{opened}
 use Rattle.model.specs.Statement.{wrote, removed, EachCommand, serialAnswer}
 use Rattle.command.specs.Read.{commandsIn}
 use Rattle.state_bytes.specs.Layout.{Lists, stateIn}
-use Rattle.controller.specs.Calls.{Outcome, accepted, refused, kept, openOn, advanceOn}
+use Rattle.controller.specs.Calls.{CallOutcome, accepted, refused, kept, openOn, advanceOn}
 
 -- what is handed over: the caller's lists, commands and a schedule
 pub record Call : Type 0 where
@@ -20,16 +20,16 @@ pub record Call : Type 0 where
   pub commands : List ℕ
   pub schedule : List ℕ
 
-unfoldable pub callOn : Call → Outcome
+unfoldable pub callOn : Call → CallOutcome
 callOn call = advanceOn (call .lists) (call .commands) (call .schedule)
 
 -- "A refused call, even one handed something else in their place, leaves run and lists as they were."
-unfoldable pub after : List Call → Lists → Lists
-after [] l = l
-after (call ∷ calls) l = after calls (kept (callOn call) l)
+unfoldable pub listsAfter : List Call → Lists → Lists
+listsAfter [] l = l
+listsAfter (call ∷ calls) l = listsAfter calls (kept (callOn call) l)
 
 -- "Each accepted call gets the run and lists as those before it left them": lists l, and the opening's commands
-abbrev pub ProperCall : List ℕ → Lists → Call → Outcome → Type 0
+abbrev pub ProperCall : List ℕ → Lists → Call → CallOutcome → Type 0
 ProperCall commands l call (accepted m) = (call .lists ≡ l) × (call .commands ≡ commands)
 ProperCall commands l call (refused n place) = Unit {0}
 
@@ -38,7 +38,7 @@ Proper commands l [] = Unit {0}
 Proper commands l (call ∷ calls) = ProperCall commands l call (callOn call) × Proper commands (kept (callOn call) l) calls
 
 -- the schedules of the accepted calls, one after the other
-abbrev pub accepts : Outcome → List ℕ → List ℕ
+abbrev pub accepts : CallOutcome → List ℕ → List ℕ
 accepts (accepted m) schedule = schedule
 accepts (refused n place) schedule = []
 
@@ -58,8 +58,8 @@ pub record HoldsAfter (o : Setup) (commands : List ℕ) (l : Lists) (ts : List �
       × ((t : ℕ) → t ≤ o .workers → stateIn m .threads t ≡ Idle)
 
 -- every accepted opening, and every proper list of calls from what it left
-abbrev pub Demand3 : Type 0
-Demand3 =
+abbrev pub Demand3OverCalls : Type 0
+Demand3OverCalls =
     (size workers capacity : ℕ) (commands : List ℕ) (lent l : Lists) → openOn size workers capacity commands lent ≡ accepted l →
     (calls : List Call) → Proper commands l calls →
-    HoldsAfter (record { size = size; workers = workers; capacity = capacity; commands = commandsIn commands }) commands (after calls l) (schedules calls)
+    HoldsAfter (record { size = size; workers = workers; capacity = capacity; commands = commandsIn commands }) commands (listsAfter calls l) (schedules calls)

@@ -11,14 +11,14 @@ use Rattle.controller.specs.declared.«open_call».Opening.{Opening}
 use Rattle.state_bytes.specs.declared.Settings.{Settings}
 use Rattle.state_bytes.specs.Layout.{stateBytes, listsOf}
 use Rattle.state_bytes.specs.Written.{Sets}
-use Rattle.controller.specs.Calls.{Outcome, accepted, refused, openingNumber, openingPlace}
+use Rattle.controller.specs.Calls.{CallOutcome, accepted, refused, openingNumber, openingPlace}
 
 -- the setup of an opening's numbers and bytes
 abbrev pub setupOf : ℕ → ℕ → ℕ → List ℕ → Setup
 setupOf size workers capacity commands = record { size = size; workers = workers; capacity = capacity; commands = commandsIn commands }
 
 -- what an answer says of an opening: `Opened`, that it leaves the lists of the opening state; any other, its number and place
-abbrev pub outcomeOf : Opening → Setup → Outcome
+abbrev pub outcomeOf : Opening → Setup → CallOutcome
 outcomeOf r o = cond (eqb (openingNumber r) 0) (accepted (listsOf o (opened o))) (refused (openingNumber r) (openingPlace r))
 
 -- bytes of the opening state, on every setup with these numbers

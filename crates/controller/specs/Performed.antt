@@ -10,7 +10,7 @@ use Rattle.model.specs.Setup.{Setup}
 use Rattle.model.specs.Step.{steps}
 use Rattle.model.specs.Statement.{allWithin}
 use Rattle.model.specs.declared.Counters.{Counters}
-use Rattle.graph.specs.Arrays.{Within}
+use Rattle.graph.specs.Arrays.{NodesWithin}
 use Rattle.command.specs.Read.{commandsIn}
 use Rattle.graph.specs.Memory.{Memory, Ready, shown}
 use Rattle.state_bytes.specs.declared.Settings.{Settings}
@@ -29,7 +29,7 @@ abbrev pub SettingsIn : List ℕ → Settings → Type 0
 SettingsIn b c = (commands : List ℕ) → length (commandsIn commands) ≡ countIn b → Sets c (setupIn b commands)
 
 -- the lists pass the three tests of a call
-pub record Passes (l : Lists) (commands schedule : List ℕ) : Type 0 where
+pub record CallPasses (l : Lists) (commands schedule : List ℕ) : Type 0 where
   pub lengths : handedBackFit l commands ≡ true
   pub state : stateFits l ≡ true
   pub named : allWithin (setupIn (l .state) commands .workers) schedule ≡ true
@@ -38,7 +38,7 @@ pub record Passes (l : Lists) (commands schedule : List ℕ) : Type 0 where
 pub record Performs (state commands schedule kinds itemKeys itemChutes : List ℕ) (m : Memory) (threads : List Thread) : Type 0 where
   pub long : length state ≡ stateLength
   pub ready : Ready commands kinds itemKeys itemChutes m Idle
-  pub within : (t : ℕ) → Within (getD threads t Idle)
+  pub within : (t : ℕ) → NodesWithin (getD threads t Idle)
   pub named : allWithin 64 schedule ≡ true
 
 -- the lists are those of the state after the schedule

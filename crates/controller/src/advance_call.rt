@@ -5,8 +5,8 @@ ghost use lib.ListN.{length};
 ghost use Rattle.model.specs.Step.{steps};
 ghost use Rattle.graph.specs.Memory.{memory};
 ghost use Rattle.state_bytes.specs.Layout.{lists, atEntry, atExit, listsOf, setupIn, stateIn, stateLength};
-ghost use Rattle.controller.specs.Calls.{numberOf, placeOf, kept, advanceNumber, advancePlace, advanceOn};
-ghost use Rattle.controller.specs.Performed.{CountersIn, SettingsIn, Passes, Performs, Performed};
+ghost use Rattle.controller.specs.Calls.{refusalNumber, refusalPlace, kept, advanceNumber, advancePlace, advanceOn};
+ghost use Rattle.controller.specs.Performed.{CountersIn, SettingsIn, CallPasses, Performs, Performed};
 use command::Seq;
 use model::Counters;
 use model::Thread;
@@ -65,8 +65,8 @@ pub fn advance(
     commands: &[u8],
     schedule: &[u8],
 ) -> Advancing
-    ensures number { λ r. ⌜ advanceNumber r ≡ numberOf (advanceOn (atEntry state keys chutes answers) (now (commands .entry)) (now (schedule .entry))) ⌝ }
-    ensures place { λ r. ⌜ advancePlace r ≡ placeOf (advanceOn (atEntry state keys chutes answers) (now (commands .entry)) (now (schedule .entry))) ⌝ }
+    ensures number { λ r. ⌜ advanceNumber r ≡ refusalNumber (advanceOn (atEntry state keys chutes answers) (now (commands .entry)) (now (schedule .entry))) ⌝ }
+    ensures place { λ r. ⌜ advancePlace r ≡ refusalPlace (advanceOn (atEntry state keys chutes answers) (now (commands .entry)) (now (schedule .entry))) ⌝ }
     ensures left { λ r. ⌜ atExit state keys chutes answers ≡ kept (advanceOn (atEntry state keys chutes answers) (now (commands .entry)) (now (schedule .entry))) (atEntry state keys chutes answers) ⌝ }
 {
     if !lengths_fit(
@@ -124,7 +124,7 @@ fn run(
     commands: &[u8],
     schedule: &[u8],
 )
-    requires { ⌜ Passes (lists (now state) (now keys) (now chutes) (now answers)) (now commands) (now schedule) ⌝ }
+    requires { ⌜ CallPasses (lists (now state) (now keys) (now chutes) (now answers)) (now commands) (now schedule) ⌝ }
     ensures { λ _. ⌜ atExit state keys chutes answers ≡ listsOf (setupIn (now (state .entry)) (now (commands .entry))) (steps (setupIn (now (state .entry)) (now (commands .entry))) (now (schedule .entry)) (stateIn (atEntry state keys chutes answers))) ⌝ }
 {
     let settings = settings_in(state);

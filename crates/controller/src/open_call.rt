@@ -8,7 +8,7 @@ ghost use Rattle.command.specs.Read.{listOutcome};
 ghost use Rattle.model.specs.Setup.{Setup};
 ghost use Rattle.model.specs.Graph.{firstNext};
 ghost use Rattle.state_bytes.specs.Layout.{atExit, atEntry, stateLength, lengthsFit};
-ghost use Rattle.controller.specs.Calls.{numberOf, placeOf, kept, openingNumber, openingPlace, openedWith, openOn};
+ghost use Rattle.controller.specs.Calls.{refusalNumber, refusalPlace, kept, openingNumber, openingPlace, openedWith, openOn};
 ghost use Rattle.controller.specs.Opened.{setupOf, outcomeOf, LaysOpened};
 use command::Command;
 use command::ListReading;
@@ -95,8 +95,8 @@ pub fn open(
     workers: u64,
     capacity: u64,
 ) -> Opening
-    ensures number { λ r. ⌜ openingNumber r ≡ numberOf (openOn size workers capacity (now (commands .entry)) (atEntry state keys chutes answers)) ⌝ }
-    ensures place { λ r. ⌜ openingPlace r ≡ placeOf (openOn size workers capacity (now (commands .entry)) (atEntry state keys chutes answers)) ⌝ }
+    ensures number { λ r. ⌜ openingNumber r ≡ refusalNumber (openOn size workers capacity (now (commands .entry)) (atEntry state keys chutes answers)) ⌝ }
+    ensures place { λ r. ⌜ openingPlace r ≡ refusalPlace (openOn size workers capacity (now (commands .entry)) (atEntry state keys chutes answers)) ⌝ }
     ensures left { λ r. ⌜ atExit state keys chutes answers ≡ kept (openOn size workers capacity (now (commands .entry)) (atEntry state keys chutes answers)) (atEntry state keys chutes answers) ⌝ }
 {
     let answer = answer_for(

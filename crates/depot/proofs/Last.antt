@@ -7,7 +7,7 @@ use native.Mathlib.Omega.{arith}
 use Rattle.model.specs.Statement.{allWithin}
 use Rattle.state_bytes.specs.Layout.{Lists, setupIn, stateFits, handedBackFit}
 use Rattle.controller.specs.Calls.{accepted, refused, openOn, advanceOn}
-use Rattle.controller.specs.Demand3.{after}
+use Rattle.controller.specs.Demand3.{listsAfter}
 use Rattle.controller.proofs.AcceptedOpening.{passed}
 use Rattle.controller.proofs.Demand3.{demand-3-over-calls}
 
@@ -19,7 +19,7 @@ only-by false l n place m e = cc
 -- some schedule is accepted from what an opening leaves, and tests 6 and 12 do not look at the schedule
 pub last-is-11 : (size workers capacity : ℕ) (commands : List ℕ) (lent l : Lists) → openOn size workers capacity commands lent ≡ accepted l
     → (schedule : List ℕ) (n place : ℕ) → advanceOn l commands schedule ≡ refused n place → n ≡ 11
-unfolding advanceOn after
+unfolding advanceOn listsAfter
 last-is-11 size workers capacity commands lent l opens schedule n place e =
     let finished = demand-3-over-calls size workers capacity commands lent l opens [] tt .finish in
     let six = passed (handedBackFit l commands) 6 (finished .2) in

@@ -6,3 +6,4 @@ pub mod Outcome
 pub mod Output
 pub mod Last
 pub mod Reached
+pub mod Cases

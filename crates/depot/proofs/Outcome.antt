@@ -18,21 +18,21 @@ use Rattle.command.specs.Read as Command
 use Rattle.model.specs.Setup.{Setup}
 use Rattle.model.specs.Statement.{allWithin}
 use Rattle.state_bytes.specs.Layout.{Lists, stateLength, setupIn, stateFits, lengthsFit, handedBackFit}
-use Rattle.controller.specs.Calls.{Outcome, accepted, refused, numberOf, kept, openedWith, openOn, advanceOn}
+use Rattle.controller.specs.Calls.{CallOutcome, accepted, refused, refusalNumber, kept, openedWith, openOn, advanceOn}
 use Rattle.state_bytes.proofs.Bytes.{below-or-past}
 use Rattle.depot.specs.Program.{refusal, printed, zeros}
 
 -- ---- a refusal's number is not 0
 
-pub data Numbered : Outcome → Type 0 where
+pub data Numbered : CallOutcome → Type 0 where
   call-accepted : (l : Lists) → Numbered (accepted l)
   call-refused : (n place : ℕ) → Numbered (refused (suc n) place)
 
-data CommandNumbered : Command.Outcome → Type 0 where
+data CommandNumbered : Command.CommandOutcome → Type 0 where
   command-accepted : (command : _) → CommandNumbered (Command.accepted command)
   command-refused : (n : ℕ) → CommandNumbered (Command.refused (suc n))
 
-data IdentifierNumbered : Identifier.Outcome → Type 0 where
+data IdentifierNumbered : Identifier.TextOutcome → Type 0 where
   identifier-accepted : (key : ℕ) → IdentifierNumbered (Identifier.accepted key)
   identifier-refused : (n : ℕ) → IdentifierNumbered (Identifier.refused (suc n))
 
@@ -48,13 +48,13 @@ identifier-numbered text =
     (tested IdentifierNumbered (eqb _ (checkDigit (serialDigits text))) _ _ (identifier-accepted _) (identifier-refused 8))
     (identifier-refused 7)
 
-chute-numbered : (kind : Kind) (o : Identifier.Outcome) (bytes : List ℕ) → IdentifierNumbered o → CommandNumbered (withChute kind o bytes)
+chute-numbered : (kind : Kind) (o : Identifier.TextOutcome) (bytes : List ℕ) → IdentifierNumbered o → CommandNumbered (withChute kind o bytes)
 unfolding withChute
 chute-numbered kind _ bytes (identifier-accepted key) =
     tested CommandNumbered (eqb (length bytes) 2 && chuteFits kind (chuteOf bytes)) _ _ (command-accepted _) (command-refused 9)
 chute-numbered kind _ bytes (identifier-refused n) = command-refused n
 
-kind-numbered : (kind : Option Kind) (o : Identifier.Outcome) (bytes : List ℕ) → IdentifierNumbered o → CommandNumbered (withKind kind o bytes)
+kind-numbered : (kind : Option Kind) (o : Identifier.TextOutcome) (bytes : List ℕ) → IdentifierNumbered o → CommandNumbered (withKind kind o bytes)
 unfolding withKind
 kind-numbered none o bytes n = command-refused 6
 kind-numbered (some kind) o bytes n = chute-numbered kind o bytes n
@@ -64,7 +64,7 @@ unfolding readCommand
 command-numbered part = kind-numbered (kindOf (getD part 0 0)) (readText (take 13 (drop 1 part))) (drop 14 part) (identifier-numbered (take 13 (drop 1 part)))
 
 -- the first refusal of a list is one of its commands'
-first-of : (place : ℕ) (o : Command.Outcome) (rest : List Command.Outcome) (setup : Setup) → CommandNumbered o
+first-of : (place : ℕ) (o : Command.CommandOutcome) (rest : List Command.CommandOutcome) (setup : Setup) → CommandNumbered o
     → ((p : ℕ) → Numbered (openedWith (firstRefusal p rest) setup)) → Numbered (openedWith (firstRefusal place (o ∷ rest)) setup)
 unfolding firstRefusal openedWith
 first-of place _ rest setup (command-accepted command) later = later (place + 1)
@@ -101,13 +101,13 @@ advance-numbered l commands schedule =
 
 -- ---- what is printed
 
-pub printed-refused : (text : Lists → List ℕ) (o : Outcome) (n : ℕ) → n ≡ numberOf o → (n ≡ 0 → ⊥) → printed text o ≡ refusal n
-unfolding printed numberOf
+pub printed-refused : (text : Lists → List ℕ) (o : CallOutcome) (n : ℕ) → n ≡ refusalNumber o → (n ≡ 0 → ⊥) → printed text o ≡ refusal n
+unfolding printed refusalNumber
 printed-refused text (accepted l) n e not-0 = absurd (not-0 e)
 printed-refused text (refused m place) n e not-0 = ap refusal (sym e)
 
-pub printed-accepted : (text : Lists → List ℕ) (o : Outcome) (l left : Lists) → Numbered o → numberOf o ≡ 0 → left ≡ kept o l → printed text o ≡ text left
-unfolding printed numberOf kept
+pub printed-accepted : (text : Lists → List ℕ) (o : CallOutcome) (l left : Lists) → Numbered o → refusalNumber o ≡ 0 → left ≡ kept o l → printed text o ≡ text left
+unfolding printed refusalNumber kept
 printed-accepted text _ l left (call-accepted m) e k = ap text (sym k)
 printed-accepted text _ l left (call-refused n place) e k = absurd (omega arith)
 

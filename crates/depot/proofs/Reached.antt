@@ -20,7 +20,6 @@ use Rattle.model.specs.Upd.{upd}
 use Rattle.model.specs.Setup.{Setup}
 use Rattle.model.specs.Graph.{chainFrom}
 use Rattle.model.specs.Step.{State, opened, steps}
-use Rattle.model.specs.Cases as Cases
 use Rattle.state_bytes.specs.Bytes.{numberAt, tabulate, fields}
 use Rattle.state_bytes.specs.Layout.{listsOf, stateIn, stateLength, lengthsFit}
 use Rattle.controller.specs.Calls.{accepted, openedWith, openOn}
@@ -30,7 +29,7 @@ use Rattle.controller.proofs.AcceptedOpening.{accepted-opening}
 use Rattle.controller.proofs.Demand3.{opening-performs}
 use Rattle.depot.specs.Text.{ascii}
 use Rattle.depot.specs.Program.{newline, decimalWithin, decimal, zeros, commandLine, commandLines, totals, report, printed, advanced, sizeOf, workersOf, capacityOf, commandsOf, scheduleOf, opening, performed}
-use Rattle.depot.specs.Reached.{setupOf, reached, Passes, PrintsReached, PrintsSerial, Example}
+use Rattle.depot.specs.Reached.{inputSetup, reached, InputPasses, PrintsReached, PrintsSerial}
 use Rattle.depot.proofs.Chain.{chain-ends}
 use Rattle.depot.proofs.Output.{output-performed}
 
@@ -45,7 +44,7 @@ pub prints-reached : PrintsReached
 unfolding performed advanced printed
 prints-reached input p =
     let left = opening-performs (sizeOf input) (workersOf input) (capacityOf input) (commandsOf input) _ (p .lists) (p .opens) (scheduleOf input) (p .named) in
-    output-performed input (p .short) (omega (arith, p .whole)) (p .whole) ∙ rw (p .opens, left .0) (report-of (commandsOf input) (setupOf input) (reached input) (left .1))
+    output-performed input (p .short) (omega (arith, p .whole)) (p .whole) ∙ rw (p .opens, left .0) (report-of (commandsOf input) (inputSetup input) (reached input) (left .1))
 
 -- ---- the serial run's lines
 
@@ -73,43 +72,10 @@ laid-used capacity es = refl
 -- where every command is removed, the model's theorem gives the answers, the table and the empty chain
 pub prints-serial : PrintsSerial
 prints-serial input p all =
-    let o = setupOf input in
+    let o = inputSetup input in
     let accepted = accepted-opening (sizeOf input) (workersOf input) (capacityOf input) (commandsOf input) _ (p .lists) (p .opens) .setup in
     let answers = tabulate-is (length (o .commands)) (λ i. reached input .service .answers (suc i)) (serialAnswers (o .capacity) (o .commands)) 0
     (serial-length (o .capacity) (o .commands)) (λ i h. all-serial o accepted (scheduleOf input) (p .named) all (suc i) (omega arith) (omega arith) ∙ serial-at o i) in
     let table = demand-3 o accepted (scheduleOf input) (p .named) .table all .1 in
     prints-reached input p ∙ ap₂ (λ (a t : List ℕ). commandLines (commandsOf input) a ++ t) answers
     (empty-chain (reached input) _ (none-linked o accepted (scheduleOf input) (p .named) all) (ap (λ (st : Store). st .used) table ∙ laid-used _ _))
-
--- ---- the document's example
-
--- the input stopped after n turns
-abbrev stopped : ℕ → List ℕ
-stopped n = take (38 + n) Cases.input
-
--- it passes the tests that are no inequalities, whatever n
-abbrev Accepts : List ℕ → Type 0
-Accepts input =
-    (opening input ≡ accepted (listsOf (setupOf input) (opened (setupOf input)))) × (allWithin (workersOf input) (scheduleOf input) ≡ true)
-
-accepts-20 : Accepts (stopped 20)
-unfolding Cases.input numberAt openOn openedWith firstRefusal readings readText isWellFormed checkDigit keyOf zeros lengthsFit stateLength allWithin
-accepts-20 = (refl, refl)
-
-accepts-9 : Accepts (stopped 9)
-unfolding Cases.input numberAt openOn openedWith firstRefusal readings readText isWellFormed checkDigit keyOf zeros lengthsFit stateLength allWithin
-accepts-9 = (refl, refl)
-
--- and the others
-whole-passes : Passes Cases.input
-unfolding Cases.input numberAt
-whole-passes = record { short = omega arith; whole = omega arith; lists = _; opens = accepts-20 .0; named = accepts-20 .1 }
-
-stopped-passes : Passes (stopped 9)
-unfolding Cases.input numberAt
-stopped-passes = record { short = omega arith; whole = omega arith; lists = _; opens = accepts-9 .0; named = accepts-9 .1 }
-
--- what the state reached prints, by computation
-pub example : Example
-unfolding Cases.input numberAt steps opened upd noneBelow lookUp insert areDependent readings readText isWellFormed checkDigit keyOf commandsIn commandFrom tabulate fields commandLines commandLine decimal decimalWithin totals chainFrom
-example = record { k = prints-reached Cases.input whole-passes; l = prints-reached (take 47 Cases.input) stopped-passes }

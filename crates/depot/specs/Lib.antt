@@ -2,3 +2,4 @@ pub mod Text
 pub mod Program
 pub mod Wrote
 pub mod Reached
+pub mod Cases

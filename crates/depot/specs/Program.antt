@@ -12,7 +12,7 @@ use Rattle.model.specs.Graph.{chainFrom}
 use Rattle.model.specs.Step.{State}
 use Rattle.state_bytes.specs.Bytes.{numberAt, fields}
 use Rattle.state_bytes.specs.Layout.{Lists, lists, stateLength, stateIn}
-use Rattle.controller.specs.Calls.{Outcome, accepted, refused, openOn, advanceOn}
+use Rattle.controller.specs.Calls.{CallOutcome, accepted, refused, openOn, advanceOn}
 use Rattle.depot.specs.Text.{ascii}
 
 -- ---- words
@@ -69,7 +69,7 @@ report commands l = commandLines commands (l .answers) ++ totals (stateIn l)
 -- ---- the calls
 
 -- a refusal, or else the text of the lists that a call leaves
-unfoldable pub printed : (Lists → List ℕ) → Outcome → List ℕ
+unfoldable pub printed : (Lists → List ℕ) → CallOutcome → List ℕ
 printed text (accepted l) = text l
 printed text (refused n place) = refusal n
 
@@ -103,7 +103,7 @@ abbrev pub scheduleOf : List ℕ → List ℕ
 scheduleOf input = drop (6 + 16 * countOf input) input
 
 -- what opening answers, in lists of its own
-abbrev pub opening : List ℕ → Outcome
+abbrev pub opening : List ℕ → CallOutcome
 opening input = openOn (sizeOf input) (workersOf input) (capacityOf input) (commandsOf input) (zeros (capacityOf input) (countOf input))
 
 unfoldable pub performed : List ℕ → List ℕ

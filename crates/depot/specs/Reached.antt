@@ -1,17 +1,16 @@
 -- What the program prints, by the model alone: an input that passes every test prints the answers, the entries and the chain of the state that
--- its schedule reaches, and the serial run's once every command is removed. And the document's example, cases (k) and (l), with their text.
+-- its schedule reaches, and the serial run's once every command is removed.
 -- Statements only: `proofs/Reached.antt` proves them. Assumes nothing.
 use Prim.Native.Nat.{ℕ, suc, _+_, _*_, _≤_}
 use mathlib.Core.Path.{_≡_}
 use mathlib.Core.Bool.{true}
 use mathlib.Core.List.{List, _++_}
-use lib.ListN.{length, take}
+use lib.ListN.{length}
 use Rattle.command.specs.Read.{commandsIn}
 use Rattle.model.specs.Setup.{Setup}
 use Rattle.model.specs.Step.{State, opened, steps}
 use Rattle.model.specs.Serial.{serialAnswers, serialEntries}
 use Rattle.model.specs.Statement.{allWithin, removed, EachCommand}
-use Rattle.model.specs.Cases as Cases
 use Rattle.state_bytes.specs.Bytes.{tabulate}
 use Rattle.state_bytes.specs.Layout.{Lists}
 use Rattle.controller.specs.Calls.{accepted}
@@ -19,15 +18,15 @@ use Rattle.depot.specs.Text.{ascii}
 use Rattle.depot.specs.Program.{decimal, commandLines, totals, sizeOf, workersOf, capacityOf, countOf, commandsOf, scheduleOf, opening, output}
 
 -- the setup of an input
-abbrev pub setupOf : List ℕ → Setup
-setupOf input = record { size = sizeOf input; workers = workersOf input; capacity = capacityOf input; commands = commandsIn (commandsOf input) }
+abbrev pub inputSetup : List ℕ → Setup
+inputSetup input = record { size = sizeOf input; workers = workersOf input; capacity = capacityOf input; commands = commandsIn (commandsOf input) }
 
 -- the state that the schedule reaches from the opening
 abbrev pub reached : List ℕ → State
-reached input = steps (setupOf input) (scheduleOf input) (opened (setupOf input))
+reached input = steps (inputSetup input) (scheduleOf input) (opened (inputSetup input))
 
 -- what an input passes: the program's own tests, the opening's, and 11
-pub record Passes (input : List ℕ) : Type 0 where
+pub record InputPasses (input : List ℕ) : Type 0 where
   pub short : length input ≤ 65536
   pub whole : 6 + 16 * countOf input ≤ length input
   pub lists : Lists
@@ -37,18 +36,13 @@ pub record Passes (input : List ℕ) : Type 0 where
 -- its lines are those of the state reached
 abbrev pub PrintsReached : Type 0
 PrintsReached =
-    (input : List ℕ) → Passes input
-    → output input ≡ commandLines (commandsOf input) (tabulate (length (setupOf input .commands)) (λ i. reached input .service .answers (suc i))) ++ totals (reached input)
+    (input : List ℕ) → InputPasses input
+    → output input ≡ commandLines (commandsOf input) (tabulate (length (inputSetup input .commands)) (λ i. reached input .service .answers (suc i))) ++ totals (reached input)
 
 -- Demand 3 in what is printed: once every command is removed, whatever turns were dealt, the answers are the serial run's, `store` gives the
 -- number of its entries, and no record is linked.
 abbrev pub PrintsSerial : Type 0
 PrintsSerial =
-    (input : List ℕ) → Passes input → EachCommand (setupOf input) (λ c. removed (setupOf input) c (scheduleOf input) (opened (setupOf input)) ≡ true)
+    (input : List ℕ) → InputPasses input → EachCommand (inputSetup input) (λ c. removed (inputSetup input) c (scheduleOf input) (opened (inputSetup input)) ≡ true)
     → output input ≡ commandLines (commandsOf input) (serialAnswers (capacityOf input) (commandsIn (commandsOf input)))
     ++ (ascii "store " ++ decimal (length (serialEntries (capacityOf input) (commandsIn (commandsOf input)))) ++ ascii " chain 0\n")
-
--- "Output, whole", and "(l) the same stopped after 9 turns: answers 1000 and 0, store 1, chain 2"
-pub record Example : Type 0 where
-  pub k : output Cases.input ≡ ascii "1 insert AA000000005AA 1000\n2 read AA000000005AA 7\nstore 1 chain 0\n"
-  pub l : output (take 47 Cases.input) ≡ ascii "1 insert AA000000005AA 1000\n2 read AA000000005AA 0\nstore 1 chain 2\n"

@@ -24,13 +24,13 @@ use Rattle.state_bytes.specs.Layout.{Lists, threadBytes, listsOf, stateIn}
 use Rattle.state_bytes.proofs.Bytes.{below-or-past, lies-taken, lies-field, tabulate-length, tabulate-at, tabulate-past}
 use Rattle.state_bytes.proofs.StateParts.{thread-length, part-lies}
 use Rattle.state_bytes.proofs.RoundTrip.{lists-state, lists-answers, lists-keys, lists-chutes}
-use Rattle.controller.specs.Calls.{Outcome, accepted, advanceOn}
+use Rattle.controller.specs.Calls.{CallOutcome, accepted, advanceOn}
 use Rattle.controller.specs.Demand3.{Call}
 use Rattle.controller.proofs.AcceptedOpening.{IsOpened, accepted-opening}
 use Rattle.controller.proofs.Demand3.{Reach, opening-reaches, formed, accepted-reaches, state-is, holds}
 use Rattle.depot_c.specs.Numbers.{bytesIn}
-use Rattle.depot_c.specs.Boundary.{areWhole, entries, decoded, encoded, left, advanceAnswer, advanceLeft}
-use Rattle.depot_c.specs.Demand3.{answerTo, afterCall, after, Proper, schedules, answerAt, TableIs, IsIdle, HoldsAfter, Demand3}
+use Rattle.depot_c.specs.Boundary.{areWhole, numberLists, decoded, encoded, left, advanceAnswer, advanceLeft}
+use Rattle.depot_c.specs.Demand3.{answerTo, afterCall, bytesAfter, ProperBytes, bytesSchedules, answerAt, TableIs, IsIdle, BytesHoldAfter, Demand3OverBytes}
 use Rattle.depot_c.proofs.Entries.{bytes-in-length, number-in-bytes, bytes-in-read-back}
 use Rattle.depot_c.proofs.Outcomes.{decoded-whole}
 use Rattle.depot_c.proofs.Accepted.{accepted-answers, opening-accepted, advance-accepted}
@@ -54,7 +54,7 @@ encoded-whole l =
 
 -- lists whose numbers fit are those that their bytes write
 pub encoded-read-back : (l : Lists) → Bounded l → decoded (encoded l) ≡ l
-unfolding entries encoded
+unfolding numberLists encoded
 encoded-read-back l fit =
     decoded-whole (encoded l) (encoded-whole l)
     ∙ rw (bytes-in-read-back 8 (l .keys) (omega arith) (fit .keys), bytes-in-read-back 2 (l .chutes) (omega arith) (fit .chutes), bytes-in-read-back 2 (l .answers) (omega arith) (fit .answers))
@@ -103,7 +103,7 @@ module _ (o : Setup) (acc : Accepted o) (commands : List ℕ) (same : o .command
       let a = advance-accepted (decoded b) commands schedule e in
       record {
         lists = a .0;
-        bytes = ap (λ (x : Outcome). left x b) (a .1);
+        bytes = ap (λ (x : CallOutcome). left x b) (a .1);
         reach = accepted-reaches o acc commands same long (r .lists) (a .0) ts schedule (r .reach) (ap (λ (l : Lists). advanceOn l commands schedule) (sym (read-reached b ts r)) ∙ a .1);
       }
 
@@ -122,12 +122,12 @@ module _ (o : Setup) (acc : Accepted o) (commands : List ℕ) (same : o .command
       by false e = rw (append-nil ts) r
 
   -- call by call
-  calls-reach : (calls : List Call) (b : Lists) (ts : List ℕ) → BytesReach b ts → Proper commands b calls → BytesReach (after calls b) (ts ++ schedules calls)
-  unfolding after schedules
+  calls-reach : (calls : List Call) (b : Lists) (ts : List ℕ) → BytesReach b ts → ProperBytes commands b calls → BytesReach (bytesAfter calls b) (ts ++ bytesSchedules calls)
+  unfolding bytesAfter bytesSchedules
   calls-reach [] b ts r proper = rw append-nil r
   calls-reach (call ∷ calls) b ts r proper =
       let performed : List ℕ = cond (eqb (answerTo call) 0) (call .schedule) [] in
-      rw (← append-assoc ts performed (schedules calls))
+      rw (← append-assoc ts performed (bytesSchedules calls))
       (calls-reach calls (afterCall call b) (ts ++ performed) (call-reaches call b ts (proper .0) r) (proper .1))
 
   -- ---- the three parts
@@ -171,7 +171,7 @@ module _ (o : Setup) (acc : Accepted o) (commands : List ℕ) (same : o .command
     call-read more m e = rw (reached-read-back l ts r, e) (accepted-answers m, refl)
 
     -- each part is the one over calls on numbers
-    bytes-hold : HoldsAfter o commands (encoded l) ts
+    bytes-hold : BytesHoldAfter o commands (encoded l) ts
     bytes-hold =
         let numbers = holds o acc commands same long l ts r in
         let f = numbers .finish in
@@ -185,7 +185,7 @@ module _ (o : Setup) (acc : Accepted o) (commands : List ℕ) (same : o .command
         }
 
 -- the opening's byte lists are those of the lists that no step has left, and every proper list of calls goes on from there
-pub demand-3-over-byte-calls : Demand3
+pub demand-3-over-byte-calls : Demand3OverBytes
 unfolding left
 demand-3-over-byte-calls size workers capacity commands lent b answer is calls proper =
     let o : Setup = record { size = size; workers = workers; capacity = capacity; commands = commandsIn commands } in
@@ -193,8 +193,8 @@ demand-3-over-byte-calls size workers capacity commands lent b answer is calls p
     let opening : IsOpened o commands (a .0) = accepted-opening size workers capacity commands (decoded lent) (a .0) (a .1) in
     let first : BytesReach o (opening .setup) commands refl (opening .long) b [] = record {
       lists = a .0;
-      bytes = sym is ∙ ap (λ (x : Outcome). left x lent) (a .1);
+      bytes = sym is ∙ ap (λ (x : CallOutcome). left x lent) (a .1);
       reach = opening-reaches o (a .0) (opening .lists);
     } in
     let last = calls-reach o (opening .setup) commands refl (opening .long) calls b [] first proper in
-    rw (last .bytes) (bytes-hold o (opening .setup) commands refl (opening .long) (last .lists) (schedules calls) (last .reach))
+    rw (last .bytes) (bytes-hold o (opening .setup) commands refl (opening .long) (last .lists) (bytesSchedules calls) (last .reach))

@@ -15,11 +15,11 @@ use Rattle.model.specs.Setup.{Setup}
 use Rattle.model.specs.Proof.Tests.{fails}
 use Rattle.state_bytes.specs.Bytes.{numberAt}
 use Rattle.state_bytes.specs.Layout.{Lists, lists, stateLength, setupIn, countIn, stateFits, lengthsFit, handedBackFit}
-use Rattle.controller.specs.Calls.{Outcome, accepted, refused, numberOf, placeOf, kept, openedWith, openOn, advanceOn, advancePlace}
+use Rattle.controller.specs.Calls.{CallOutcome, accepted, refused, refusalNumber, refusalPlace, kept, openedWith, openOn, advanceOn, advancePlace}
 use Rattle.controller.specs.declared.«advance_call».Advancing.{Advancing}
 use Rattle.controller.specs.declared.«advance_call».Advancing.the-variants.{Advanced, WrongLength, UnknownThread, WrongState}
 use Rattle.depot_c.specs.Numbers.{numbersIn, bytesIn}
-use Rattle.depot_c.specs.Boundary.{areWhole, entries, decoded, encoded, answerOf, left}
+use Rattle.depot_c.specs.Boundary.{areWhole, numberLists, decoded, encoded, answerOf, left}
 use Rattle.state_bytes.proofs.Bytes.{Bytes}
 use Rattle.state_bytes.proofs.Tested.{each-passed}
 use Rattle.state_bytes.proofs.Passed.{InRange, state-passed}
@@ -28,29 +28,29 @@ use Rattle.depot_c.proofs.Entries.{numbers-length, numbers-read-back}
 -- ---- tests
 
 -- what holds of either choice, each under its test, holds of the chosen one
-chosen : (P : Outcome → Type 0) (t : Bool) {a b : Outcome} → (t ≡ true → P a) → (t ≡ false → P b) → P (cond t a b)
+chosen : (P : CallOutcome → Type 0) (t : Bool) {a b : CallOutcome} → (t ≡ true → P a) → (t ≡ false → P b) → P (cond t a b)
 chosen P true p q = p refl
 chosen P false p q = q refl
 
 -- choices that agree where the test is true are the same
-under : (t : Bool) (n : ℕ) {a a′ : Outcome} → (t ≡ true → a ≡ a′) → cond t a (refused n 0) ≡ cond t a′ (refused n 0)
+under : (t : Bool) (n : ℕ) {a a′ : CallOutcome} → (t ≡ true → a ≡ a′) → cond t a (refused n 0) ≡ cond t a′ (refused n 0)
 under true n same = same refl
 under false n same = refl
 
 -- ---- places
 
 -- a refusal stands at one of the places from the first on
-place-below : (place : ℕ) (rs : List Command.Outcome) (o : Setup) → 0 < place → placeOf (openedWith (firstRefusal place rs) o) < place + length rs
-unfolding firstRefusal openedWith placeOf
+place-below : (place : ℕ) (rs : List Command.CommandOutcome) (o : Setup) → 0 < place → refusalPlace (openedWith (firstRefusal place rs) o) < place + length rs
+unfolding firstRefusal openedWith refusalPlace
 place-below place [] o h = omega arith
 place-below place (Command.accepted command ∷ rs) o h = omega (arith, place-below (place + 1) rs o (omega arith))
 place-below place (Command.refused n ∷ rs) o h = omega arith
 
 -- so an opening's place is at most the most commands
-pub opening-place-below : (size workers capacity : ℕ) (commands : List ℕ) (l : Lists) → placeOf (openOn size workers capacity commands l) ≤ 4096
-unfolding openOn placeOf
+pub opening-place-below : (size workers capacity : ℕ) (commands : List ℕ) (l : Lists) → refusalPlace (openOn size workers capacity commands l) ≤ 4096
+unfolding openOn refusalPlace
 opening-place-below size workers capacity commands l =
-    let P : Outcome → Type 0 = λ o. placeOf o ≤ 4096 in
+    let P : CallOutcome → Type 0 = λ o. refusalPlace o ≤ 4096 in
     let none : (n : ℕ) → P (refused n 0) = λ n. omega arith in
     chosen P (leb 1 size && leb size 150) (λ _.
     chosen P (leb 1 workers && leb workers 64) (λ _.
@@ -81,7 +81,7 @@ opening-same size workers capacity commands l m same =
 pub nothing-opened : (size workers capacity : ℕ) (commands : List ℕ) (b : Lists) → left (openOn size workers capacity commands (lists [] [] [] [])) b ≡ b
 unfolding openOn lengthsFit stateLength left
 nothing-opened size workers capacity commands b =
-    let P : Outcome → Type 0 = λ o. left o b ≡ b in
+    let P : CallOutcome → Type 0 = λ o. left o b ≡ b in
     chosen P (leb 1 size && leb size 150) (λ _.
     chosen P (leb 1 workers && leb workers 64) (λ _.
     chosen P (leb 1 capacity && leb capacity 4096) (λ _.
@@ -93,8 +93,8 @@ abbrev pub room : Lists → Bool
 room b = leb (length (b .keys) / 8) 4096 && leb (length (b .chutes) / 2) 4096 && leb (length (b .answers) / 2) 4096
 
 -- lists that are as long as asked are no longer than what is asked
-fits-room : (capacity count : ℕ) (b : Lists) → capacity ≤ 4096 → count ≤ 4096 → lengthsFit capacity count (entries b) ≡ true → room b ≡ true
-unfolding lengthsFit entries
+fits-room : (capacity count : ℕ) (b : Lists) → capacity ≤ 4096 → count ≤ 4096 → lengthsFit capacity count (numberLists b) ≡ true → room b ≡ true
+unfolding lengthsFit numberLists
 fits-room capacity count b small few fit =
     let each = each-passed (eqb (length (b .state)) stateLength) (eqb (length (numbersIn 2 (b .answers))) count
     ∷ eqb (length (numbersIn 8 (b .keys))) capacity ∷ eqb (length (numbersIn 2 (b .chutes))) capacity ∷ []) fit in
@@ -105,10 +105,10 @@ fits-room capacity count b small few fit =
 
 -- so a longer list is none that an opening asks for, and the opening is refused as one of no lists
 pub long-opened : (size workers capacity : ℕ) (commands : List ℕ) (b : Lists) → room b ≡ false
-    → openOn size workers capacity commands (entries b) ≡ openOn size workers capacity commands (lists [] [] [] [])
+    → openOn size workers capacity commands (numberLists b) ≡ openOn size workers capacity commands (lists [] [] [] [])
 unfolding lengthsFit stateLength
 long-opened size workers capacity commands b long =
-    opening-same size workers capacity commands (entries b) (lists [] [] [] [])
+    opening-same size workers capacity commands (numberLists b) (lists [] [] [] [])
     (λ small few. fails _ (λ fit. false≢true (sym long ∙ fits-room capacity (length commands / 16) b small few fit)))
 
 -- no lists are refused 6 when handed back
@@ -117,23 +117,23 @@ unfolding advanceOn handedBackFit lengthsFit stateLength
 nothing-advanced commands schedule = refl
 
 -- a list handed back with a state that fits has room
-lent-room : (b : Lists) (commands : List ℕ) → handedBackFit (entries b) commands ≡ true
-    → InRange (entries b) → room b ≡ true
+lent-room : (b : Lists) (commands : List ℕ) → handedBackFit (numberLists b) commands ≡ true
+    → InRange (numberLists b) → room b ≡ true
 unfolding handedBackFit setupIn
 lent-room b commands fit range =
-    fits-room (numberAt 2 2 (entries b .state)) (countIn (entries b .state)) b (range .capacity) (range .count)
-    (and-eq-true-iff (lengthsFit (numberAt 2 2 (entries b .state)) (countIn (entries b .state)) (entries b)) _ .0 fit .0)
+    fits-room (numberAt 2 2 (numberLists b .state)) (countIn (numberLists b .state)) b (range .capacity) (range .count)
+    (and-eq-true-iff (lengthsFit (numberAt 2 2 (numberLists b .state)) (countIn (numberLists b .state)) (numberLists b)) _ .0 fit .0)
 
 -- a list of more than 4,096 entries is handed back with no state that fits
-pub long-unfit : (b : Lists) (commands : List ℕ) → room b ≡ false → handedBackFit (entries b) commands ≡ true → stateFits (entries b) ≡ false
+pub long-unfit : (b : Lists) (commands : List ℕ) → room b ≡ false → handedBackFit (numberLists b) commands ≡ true → stateFits (numberLists b) ≡ false
 long-unfit b commands long fit =
-    fails (stateFits (entries b)) (λ whole. false≢true (sym long ∙ lent-room b commands fit (state-passed (entries b) whole)))
+    fails (stateFits (numberLists b)) (λ whole. false≢true (sym long ∙ lent-room b commands fit (state-passed (numberLists b) whole)))
 
 -- a handed-back list of more than 4,096 entries is refused: 12 where the state asks for so many, else 6
 pub long-advanced : (b : Lists) (commands schedule : List ℕ) → room b ≡ false
-    → advanceOn (entries b) commands schedule ≡ cond (handedBackFit (entries b) commands) (refused 12 0) (refused 6 0)
+    → advanceOn (numberLists b) commands schedule ≡ cond (handedBackFit (numberLists b) commands) (refused 12 0) (refused 6 0)
 unfolding advanceOn
-long-advanced b commands schedule long = under (handedBackFit (entries b) commands) 6 (λ fit. rw (long-unfit b commands long fit))
+long-advanced b commands schedule long = under (handedBackFit (numberLists b) commands) 6 (λ fit. rw (long-unfit b commands long fit))
 
 -- an advance names no command
 pub advance-place : (r : Advancing) → 0 ≡ advancePlace r
@@ -144,7 +144,7 @@ advance-place WrongState = refl
 
 -- one of two refusals without a place
 either-answer : (t : Bool) → answerOf (cond t (refused 12 0) (refused 6 0)) ≡ cond t 12 6
-unfolding answerOf numberOf placeOf
+unfolding answerOf refusalNumber refusalPlace
 either-answer true = refl
 either-answer false = refl
 
@@ -156,18 +156,18 @@ either-left false b = refl
 -- what is said of lists of that many entries is said of those that bytes write
 pub of-entries : (s k c a commands : List ℕ) {P : Lists → List ℕ → Type 0}
     → ((l : Lists) (list : List ℕ) → l .state ≡ s → length (l .answers) ≡ length a / 2 → length (l .keys) ≡ length k / 8 → length (l .chutes) ≡ length c / 2
-    → length list ≡ length commands → P l list) → P (entries (lists s k c a)) commands
-unfolding entries
-of-entries s k c a commands said = said (entries (lists s k c a)) commands refl (numbers-length 2 a) (numbers-length 8 k) (numbers-length 2 c) refl
+    → length list ≡ length commands → P l list) → P (numberLists (lists s k c a)) commands
+unfolding numberLists
+of-entries s k c a commands said = said (numberLists (lists s k c a)) commands refl (numbers-length 2 a) (numbers-length 8 k) (numbers-length 2 c) refl
 
 -- what a handed-back list of more than 4,096 entries answers and leaves
 pub long-answered : (b : Lists) (commands schedule : List ℕ) → room b ≡ false
-    → (cond (handedBackFit (entries b) commands) 12 6 ≡ answerOf (advanceOn (entries b) commands schedule))
-    × (b ≡ left (advanceOn (entries b) commands schedule) b)
+    → (cond (handedBackFit (numberLists b) commands) 12 6 ≡ answerOf (advanceOn (numberLists b) commands schedule))
+    × (b ≡ left (advanceOn (numberLists b) commands schedule) b)
 long-answered b commands schedule long =
-    let t = handedBackFit (entries b) commands in
+    let t = handedBackFit (numberLists b) commands in
     let is = long-advanced b commands schedule long in
-    (sym (either-answer t) ∙ ap answerOf (sym is), sym (either-left t b) ∙ ap (λ (o : Outcome). left o b) (sym is))
+    (sym (either-answer t) ∙ ap answerOf (sym is), sym (either-left t b) ∙ ap (λ (o : CallOutcome). left o b) (sym is))
 
 -- ---- whole lists and rooms
 
@@ -177,7 +177,7 @@ unfolding decoded
 decoded-none b e = rw e
 
 -- others are their numbers
-pub decoded-whole : (b : Lists) → areWhole (length (b .keys)) (length (b .chutes)) (length (b .answers)) ≡ true → decoded b ≡ entries b
+pub decoded-whole : (b : Lists) → areWhole (length (b .keys)) (length (b .chutes)) (length (b .answers)) ≡ true → decoded b ≡ numberLists b
 unfolding decoded
 decoded-whole b e = rw e
 
@@ -201,8 +201,8 @@ module _ (state keys chutes answers : List ℕ) where
 
   -- bytes that are whole numbers are those of the numbers
   pub entries-read-back : (k c a : ℕ) → length keys ≡ 8 * k → length chutes ≡ 2 * c → length answers ≡ 2 * a → Bytes keys → Bytes chutes → Bytes answers
-      → encoded (entries bytes) ≡ bytes
-  unfolding encoded entries
+      → encoded (numberLists bytes) ≡ bytes
+  unfolding encoded numberLists
   entries-read-back k c a long-keys long-chutes long-answers key-bytes chute-bytes answer-bytes =
       let first = numbers-read-back 8 k keys (omega arith) long-keys key-bytes in
       let second = numbers-read-back 2 c chutes (omega arith) long-chutes chute-bytes in
@@ -210,38 +210,38 @@ module _ (state keys chutes answers : List ℕ) where
       rw (first, second, third)
 
   -- the numbers that were read are the entries
-  pub read-entries : {K C A : List ℕ} → (K ≡ numbersIn 8 keys) × (C ≡ numbersIn 2 chutes) × (A ≡ numbersIn 2 answers) → lists state K C A ≡ entries bytes
-  unfolding entries
+  pub read-entries : {K C A : List ℕ} → (K ≡ numbersIn 8 keys) × (C ≡ numbersIn 2 chutes) × (A ≡ numbersIn 2 answers) → lists state K C A ≡ numberLists bytes
+  unfolding numberLists
   read-entries read = rw (read .0, read .1, read .2)
 
   -- A call f on the numbers that were read.
-  module _ (f : Lists → Outcome) {K C A : List ℕ} (read : (K ≡ numbersIn 8 keys) × (C ≡ numbersIn 2 chutes) × (A ≡ numbersIn 2 answers)) where
+  module _ (f : Lists → CallOutcome) {K C A : List ℕ} (read : (K ≡ numbersIn 8 keys) × (C ≡ numbersIn 2 chutes) × (A ≡ numbersIn 2 answers)) where
     -- its answer is that on the entries
-    pub answer-on : {n p : ℕ} → n ≡ numberOf (f (lists state K C A)) → p ≡ placeOf (f (lists state K C A)) → n + 256 * p ≡ answerOf (f (entries bytes))
+    pub answer-on : {n p : ℕ} → n ≡ refusalNumber (f (lists state K C A)) → p ≡ refusalPlace (f (lists state K C A)) → n + 256 * p ≡ answerOf (f (numberLists bytes))
     unfolding answerOf
     answer-on e g = rw (e, g, read-entries read)
 
     -- the bytes of the numbers that it leaves
-    pub written-on : {s K′ C′ A′ x y z : List ℕ} → encoded (entries bytes) ≡ bytes
+    pub written-on : {s K′ C′ A′ x y z : List ℕ} → encoded (numberLists bytes) ≡ bytes
         → lists s K′ C′ A′ ≡ kept (f (lists state K C A)) (lists state K C A) → (x ≡ bytesIn 8 K′) × (y ≡ bytesIn 2 C′) × (z ≡ bytesIn 2 A′)
-        → lists s x y z ≡ left (f (entries bytes)) bytes
+        → lists s x y z ≡ left (f (numberLists bytes)) bytes
     unfolding encoded left kept
     written-on {s} {K′} {C′} {A′} whole is wrote =
-        let e : lists s K′ C′ A′ ≡ kept (f (entries bytes)) (entries bytes) = is ∙ rw (read-entries read) in
-        rw (wrote .0, wrote .1, wrote .2) (ap encoded e ∙ by (f (entries bytes)))
+        let e : lists s K′ C′ A′ ≡ kept (f (numberLists bytes)) (numberLists bytes) = is ∙ rw (read-entries read) in
+        rw (wrote .0, wrote .1, wrote .2) (ap encoded e ∙ by (f (numberLists bytes)))
       where
-        by : (o : Outcome) → encoded (kept o (entries bytes)) ≡ left o bytes
+        by : (o : CallOutcome) → encoded (kept o (numberLists bytes)) ≡ left o bytes
         by (accepted l) = refl
         by (refused n place) = whole
 
     -- a refusal leaves the bytes
-    pub refused-on : {s K′ C′ A′ : List ℕ} → lists s K′ C′ A′ ≡ kept (f (lists state K C A)) (lists state K C A) → (answerOf (f (entries bytes)) ≡ 0 → ⊥)
-        → lists s keys chutes answers ≡ left (f (entries bytes)) bytes
-    unfolding left kept answerOf numberOf placeOf entries
+    pub refused-on : {s K′ C′ A′ : List ℕ} → lists s K′ C′ A′ ≡ kept (f (lists state K C A)) (lists state K C A) → (answerOf (f (numberLists bytes)) ≡ 0 → ⊥)
+        → lists s keys chutes answers ≡ left (f (numberLists bytes)) bytes
+    unfolding left kept answerOf refusalNumber refusalPlace numberLists
     refused-on {s} {K′} {C′} {A′} is nonzero =
-        let e : lists s K′ C′ A′ ≡ kept (f (entries bytes)) (entries bytes) = is ∙ rw (read-entries read) in
-        by (f (entries bytes)) e nonzero
+        let e : lists s K′ C′ A′ ≡ kept (f (numberLists bytes)) (numberLists bytes) = is ∙ rw (read-entries read) in
+        by (f (numberLists bytes)) e nonzero
       where
-        by : (o : Outcome) → lists s K′ C′ A′ ≡ kept o (entries bytes) → (answerOf o ≡ 0 → ⊥) → lists s keys chutes answers ≡ left o bytes
+        by : (o : CallOutcome) → lists s K′ C′ A′ ≡ kept o (numberLists bytes) → (answerOf o ≡ 0 → ⊥) → lists s keys chutes answers ≡ left o bytes
         by (accepted l) e nonzero = absurd (nonzero refl)
         by (refused n place) e nonzero = ap (λ (l : Lists). lists (l .state) keys chutes answers) e

@@ -9,7 +9,7 @@ use Rattle.s10.specs.Outcome.{readText}
 use Rattle.s10.specs.Outcome as Identifier
 use Rattle.state_bytes.specs.Bytes.{bytesOf}
 use Rattle.state_bytes.specs.Layout.{Lists, lists, stateIn}
-use Rattle.controller.specs.Calls.{Outcome, accepted, refused, numberOf, placeOf, openOn, advanceOn}
+use Rattle.controller.specs.Calls.{CallOutcome, accepted, refused, refusalNumber, refusalPlace, openOn, advanceOn}
 use Rattle.panel.specs.Reports.{pendingCounts, workerStatusBytes, workersIn}
 use Rattle.depot_c.specs.Numbers.{numbersIn, bytesIn}
 use Rattle.depot_c.specs.declared.Wanted.{Wanted}
@@ -22,12 +22,12 @@ unfoldable pub areWhole : ℕ → ℕ → ℕ → Bool
 areWhole keys chutes answers = eqb (keys % 8) 0 && eqb (chutes % 2) 0 && eqb (answers % 2) 0
 
 -- the lists of numbers that lists of bytes write
-unfoldable pub entries : Lists → Lists
-entries b = lists (b .state) (numbersIn 8 (b .keys)) (numbersIn 2 (b .chutes)) (numbersIn 2 (b .answers))
+unfoldable pub numberLists : Lists → Lists
+numberLists b = lists (b .state) (numbersIn 8 (b .keys)) (numbersIn 2 (b .chutes)) (numbersIn 2 (b .answers))
 
 -- the same, or no lists where the bytes end within a number: lists of a wrong length, which is refusal 6
 unfoldable pub decoded : Lists → Lists
-decoded b = cond (areWhole (length (b .keys)) (length (b .chutes)) (length (b .answers))) (entries b) (lists [] [] [] [])
+decoded b = cond (areWhole (length (b .keys)) (length (b .chutes)) (length (b .answers))) (numberLists b) (lists [] [] [] [])
 
 -- the lists of bytes of lists of numbers
 unfoldable pub encoded : Lists → Lists
@@ -36,11 +36,11 @@ encoded l = lists (l .state) (bytesIn 8 (l .keys)) (bytesIn 2 (l .chutes)) (byte
 -- ---- answers
 
 -- a refusal's number, and the command's place times 256
-unfoldable pub answerOf : Outcome → ℕ
-answerOf o = numberOf o + 256 * placeOf o
+unfoldable pub answerOf : CallOutcome → ℕ
+answerOf o = refusalNumber o + 256 * refusalPlace o
 
 -- the bytes of the lists that the call leaves; a refusal leaves every byte as it was
-unfoldable pub left : Outcome → Lists → Lists
+unfoldable pub left : CallOutcome → Lists → Lists
 left (accepted l) old = encoded l
 left (refused n place) old = old
 
@@ -63,15 +63,15 @@ advanceLeft b commands schedule = left (advanceOn (decoded b) commands schedule)
 -- ---- identifiers
 
 -- the refusal of a text, 0 for accepted; its key, 0 for refused; and the key's eight bytes where it was accepted
-abbrev pub numberRead : Identifier.Outcome → ℕ
+abbrev pub numberRead : Identifier.TextOutcome → ℕ
 numberRead (Identifier.accepted key) = 0
 numberRead (Identifier.refused n) = n
 
-abbrev pub keyRead : Identifier.Outcome → ℕ
+abbrev pub keyRead : Identifier.TextOutcome → ℕ
 keyRead (Identifier.accepted key) = key
 keyRead (Identifier.refused n) = 0
 
-unfoldable pub bytesRead : Identifier.Outcome → List ℕ → List ℕ
+unfoldable pub bytesRead : Identifier.TextOutcome → List ℕ → List ℕ
 bytesRead (Identifier.accepted key) old = bytesOf 8 key
 bytesRead (Identifier.refused n) old = old
 

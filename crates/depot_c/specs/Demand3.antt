@@ -31,20 +31,20 @@ answerTo call = advanceAnswer (call .lists) (call .commands) (call .schedule)
 unfoldable pub afterCall : Call → Lists → Lists
 afterCall call b = cond (eqb (answerTo call) 0) (advanceLeft (call .lists) (call .commands) (call .schedule)) b
 
-unfoldable pub after : List Call → Lists → Lists
-after [] b = b
-after (call ∷ calls) b = after calls (afterCall call b)
+unfoldable pub bytesAfter : List Call → Lists → Lists
+bytesAfter [] b = b
+bytesAfter (call ∷ calls) b = bytesAfter calls (afterCall call b)
 
 -- "Each accepted call gets the run and lists as those before it left them": the byte lists b, and the opening's commands. A refused call
 -- may be handed anything.
-abbrev pub Proper : List ℕ → Lists → List Call → Type 0
-Proper commands b [] = Unit {0}
-Proper commands b (call ∷ calls) = (answerTo call ≡ 0 → (call .lists ≡ b) × (call .commands ≡ commands)) × Proper commands (afterCall call b) calls
+abbrev pub ProperBytes : List ℕ → Lists → List Call → Type 0
+ProperBytes commands b [] = Unit {0}
+ProperBytes commands b (call ∷ calls) = (answerTo call ≡ 0 → (call .lists ≡ b) × (call .commands ≡ commands)) × ProperBytes commands (afterCall call b) calls
 
 -- the schedules of the accepted calls, one after the other
-unfoldable pub schedules : List Call → List ℕ
-schedules [] = []
-schedules (call ∷ calls) = cond (eqb (answerTo call) 0) (call .schedule) [] ++ schedules calls
+unfoldable pub bytesSchedules : List Call → List ℕ
+bytesSchedules [] = []
+bytesSchedules (call ∷ calls) = cond (eqb (answerTo call) 0) (call .schedule) [] ++ bytesSchedules calls
 
 -- ---- what is read of byte lists
 
@@ -65,7 +65,7 @@ IsIdle t b = take 5 (drop (4390 + 5 * t) (b .state)) ≡ threadBytes Idle
 -- ---- the claim
 
 -- the three parts, of the byte lists that the calls leave and the schedules that were performed
-pub record HoldsAfter (o : Setup) (commands : List ℕ) (b : Lists) (ts : List ℕ) : Type 0 where
+pub record BytesHoldAfter (o : Setup) (commands : List ℕ) (b : Lists) (ts : List ℕ) : Type 0 where
   -- "Each answer is 0 before its command's writing turn, and from that turn on the one that running the whole list of commands [..] gives."
   pub answer : EachCommand o (λ c. answerAt c b ≡ cond (wrote o c ts (opened o)) (serialAnswer o c) 0)
   -- "When all commands are removed, every answer is given and the chute table is that run's, entry for entry."
@@ -76,9 +76,9 @@ pub record HoldsAfter (o : Setup) (commands : List ℕ) (b : Lists) (ts : List �
       × ((t : ℕ) → t ≤ o .workers → IsIdle t (advanceLeft b commands more))
 
 -- every opening that `depot_open` answers 0, leaving b, and every proper list of calls from there
-abbrev pub Demand3 : Type 0
-Demand3 =
+abbrev pub Demand3OverBytes : Type 0
+Demand3OverBytes =
     (size workers capacity : ℕ) (commands : List ℕ) (lent b : Lists) →
     openAnswer size workers capacity commands lent ≡ 0 → openLeft size workers capacity commands lent ≡ b →
-    (calls : List Call) → Proper commands b calls →
-    HoldsAfter (record { size = size; workers = workers; capacity = capacity; commands = commandsIn commands }) commands (after calls b) (schedules calls)
+    (calls : List Call) → ProperBytes commands b calls →
+    BytesHoldAfter (record { size = size; workers = workers; capacity = capacity; commands = commandsIn commands }) commands (bytesAfter calls b) (bytesSchedules calls)

@@ -2,7 +2,7 @@
 ghost use mathlib.Core.Path.{_≡_};
 ghost use Rattle.state_bytes.specs.Layout.{atExit, atEntry};
 ghost use Rattle.controller.specs.Calls.{advanceOn};
-ghost use Rattle.depot_c.specs.Boundary.{entries, answerOf, left, advanceAnswer, advanceLeft, Rooms};
+ghost use Rattle.depot_c.specs.Boundary.{numberLists, answerOf, left, advanceAnswer, advanceLeft, Rooms};
 use crate::lists::MOST;
 use crate::lists::are_whole;
 use crate::lists::have_room;
@@ -24,8 +24,8 @@ fn advance_within(
     answer_room: &mut [u16],
 ) -> u64
     requires { ⌜ Rooms (now keys) (now chutes) (now answers) (now «key_room») (now «chute_room») (now «answer_room») ⌝ }
-    ensures number { λ r. ⌜ r ≡ answerOf (advanceOn (entries (atEntry state keys chutes answers)) (now (commands .entry)) (now (schedule .entry))) ⌝ }
-    ensures left { λ r. ⌜ atExit state keys chutes answers ≡ left (advanceOn (entries (atEntry state keys chutes answers)) (now (commands .entry)) (now (schedule .entry))) (atEntry state keys chutes answers) ⌝ }
+    ensures number { λ r. ⌜ r ≡ answerOf (advanceOn (numberLists (atEntry state keys chutes answers)) (now (commands .entry)) (now (schedule .entry))) ⌝ }
+    ensures left { λ r. ⌜ atExit state keys chutes answers ≡ left (advanceOn (numberLists (atEntry state keys chutes answers)) (now (commands .entry)) (now (schedule .entry))) (atEntry state keys chutes answers) ⌝ }
 {
     read_lists(keys, chutes, answers, key_room, chute_room, answer_room);
     let advancing = advance(state, key_room, chute_room, answer_room, commands, schedule);

@@ -1,6 +1,6 @@
 // The two calls on identifiers.
 ghost use mathlib.Core.Path.{_≡_};
-ghost use Rattle.s10.specs.Outcome.{outcome, number, writeNumber, writeText};
+ghost use Rattle.s10.specs.Outcome.{textOutcome, number, writeNumber, writeText};
 ghost use Rattle.depot_c.specs.Boundary.{numberRead, keyRead, readAnswer, readLeft};
 use crate::numbers::KEY;
 use s10::Identifier;
@@ -10,7 +10,7 @@ use state_bytes::put_number;
 
 // The number of a reading's answer.
 fn reading_number(reading: Reading) -> u64
-    ensures { λ r. ⌜ r ≡ numberRead (outcome reading) ⌝ }
+    ensures { λ r. ⌜ r ≡ numberRead (textOutcome reading) ⌝ }
 {
     match reading {
         Reading::Key(_) => 0,
@@ -21,7 +21,7 @@ fn reading_number(reading: Reading) -> u64
 
 // The key that was read, 0 for none.
 fn reading_key(reading: Reading) -> u64
-    ensures { λ r. ⌜ r ≡ keyRead (outcome reading) ⌝ }
+    ensures { λ r. ⌜ r ≡ keyRead (textOutcome reading) ⌝ }
 {
     match reading {
         Reading::Key(key) => key,

@@ -4,7 +4,7 @@ ghost use mathlib.Core.List.{[]};
 ghost use Prim.Native.Nat.{_+_, _*_, _≤_};
 ghost use Rattle.state_bytes.specs.Layout.{lists, atExit, atEntry};
 ghost use Rattle.controller.specs.Calls.{openOn, openingNumber, openingPlace};
-ghost use Rattle.depot_c.specs.Boundary.{entries, answerOf, left, openAnswer, openLeft, Rooms};
+ghost use Rattle.depot_c.specs.Boundary.{numberLists, answerOf, left, openAnswer, openLeft, Rooms};
 use crate::lists::MOST;
 use crate::lists::are_whole;
 use crate::lists::have_room;
@@ -57,8 +57,8 @@ fn open_within(
     answer_room: &mut [u16],
 ) -> u64
     requires { ⌜ Rooms (now keys) (now chutes) (now answers) (now «key_room») (now «chute_room») (now «answer_room») ⌝ }
-    ensures number { λ r. ⌜ r ≡ answerOf (openOn size workers capacity (now (commands .entry)) (entries (atEntry state keys chutes answers))) ⌝ }
-    ensures left { λ r. ⌜ atExit state keys chutes answers ≡ left (openOn size workers capacity (now (commands .entry)) (entries (atEntry state keys chutes answers))) (atEntry state keys chutes answers) ⌝ }
+    ensures number { λ r. ⌜ r ≡ answerOf (openOn size workers capacity (now (commands .entry)) (numberLists (atEntry state keys chutes answers))) ⌝ }
+    ensures left { λ r. ⌜ atExit state keys chutes answers ≡ left (openOn size workers capacity (now (commands .entry)) (numberLists (atEntry state keys chutes answers))) (atEntry state keys chutes answers) ⌝ }
 {
     read_lists(keys, chutes, answers, key_room, chute_room, answer_room);
     let opening = open(

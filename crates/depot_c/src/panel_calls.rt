@@ -5,7 +5,7 @@ ghost use lib.Dec.{eqb};
 ghost use lib.ListN.{length};
 ghost use Rattle.state_bytes.specs.Layout.{atEntry, stateIn};
 ghost use Rattle.panel.specs.Reports.{reportOf, reportNumber, reportLeft, pendingCounts, workerStatusBytes, workersIn};
-ghost use Rattle.depot_c.specs.Boundary.{areWhole, decoded, entries, reportLength, reportIn, Rooms};
+ghost use Rattle.depot_c.specs.Boundary.{areWhole, decoded, numberLists, reportLength, reportIn, Rooms};
 use crate::Wanted;
 use crate::lists::MOST;
 use crate::lists::are_whole;
@@ -61,8 +61,8 @@ fn report_within(
     answer_room: &mut [u16],
 ) -> u64
     requires { ⌜ Rooms (now keys) (now chutes) (now answers) (now «key_room») (now «chute_room») (now «answer_room») ⌝ }
-    ensures number { λ r. ⌜ r ≡ reportNumber (entries (atEntry state keys chutes answers)) (now (commands .entry)) (length (now (out .entry))) (reportLength wanted) ⌝ }
-    ensures left { λ r. ⌜ now (out .exit) ≡ reportLeft r (reportIn wanted (now (state .entry)) (entries (atEntry state keys chutes answers))) (now (out .entry)) ⌝ }
+    ensures number { λ r. ⌜ r ≡ reportNumber (numberLists (atEntry state keys chutes answers)) (now (commands .entry)) (length (now (out .entry))) (reportLength wanted) ⌝ }
+    ensures left { λ r. ⌜ now (out .exit) ≡ reportLeft r (reportIn wanted (now (state .entry)) (numberLists (atEntry state keys chutes answers))) (now (out .entry)) ⌝ }
 {
     read_lists(keys, chutes, answers, key_room, chute_room, answer_room);
     match wanted {

@@ -27,15 +27,15 @@ abbrev pub Nodes : List ℕ → Type 0
 Nodes l = (n : ℕ) → getD l n 0 ≤ 150
 
 -- the nodes of a thread are numbers 0 to 150
-abbrev pub Within : Thread → Type 0
-Within Idle = Unit {0}
-Within (Loading at own) = (at .0 ≤ 150) × (own .0 ≤ 150)
-Within (Searching at) = at .0 ≤ 150
-Within (Holding own) = own .0 ≤ 150
-Within (LookedUp own found) = own .0 ≤ 150
-Within (Written own) = own .0 ≤ 150
-Within (Walking at own) = (at .0 ≤ 150) × (own .0 ≤ 150)
-Within (Clearing at own) = (at .0 ≤ 150) × (own .0 ≤ 150)
+abbrev pub NodesWithin : Thread → Type 0
+NodesWithin Idle = Unit {0}
+NodesWithin (Loading at own) = (at .0 ≤ 150) × (own .0 ≤ 150)
+NodesWithin (Searching at) = at .0 ≤ 150
+NodesWithin (Holding own) = own .0 ≤ 150
+NodesWithin (LookedUp own found) = own .0 ≤ 150
+NodesWithin (Written own) = own .0 ≤ 150
+NodesWithin (Walking at own) = (at .0 ≤ 150) × (own .0 ≤ 150)
+NodesWithin (Clearing at own) = (at .0 ≤ 150) × (own .0 ≤ 150)
 
 -- the arrays show a graph
 pub record Shows (g : Graph) (next seq : List ℕ) (executing locked : List Bool) (waits : List (List ℕ)) : Type 0 where

@@ -16,7 +16,7 @@ use Rattle.model.specs.Service.{Service, writeFor}
 use Rattle.model.specs.Step.{State, step, loaderWalk}
 use Rattle.store.specs.Lists.{storeOf}
 use Rattle.model.specs.declared.Counters.{Counters}
-use Rattle.graph.specs.Arrays.{numbers, flags, sets, Nodes, Within, movedTo}
+use Rattle.graph.specs.Arrays.{numbers, flags, sets, Nodes, NodesWithin, movedTo}
 use Rattle.command.specs.Read.{commandsIn}
 use Rattle.graph.specs.Items.{Kept}
 
@@ -75,7 +75,7 @@ Writes item place found keys chutes answers used keys′ chutes′ answers′ us
 pub record Ready (list : List ℕ) (kinds itemKeys itemChutes : List ℕ) (m : Memory) (thread : Thread) : Type 0 where
   pub nodes : Nodes (m .graph .next)
   pub free : m .graph .free ≤ 150
-  pub within : Within thread
+  pub within : NodesWithin thread
   pub kept : Kept (commandsIn list) (numbers (m .graph .seq)) kinds itemKeys itemChutes
   pub whole : length list ≡ 16 * length (m .service .answers)
   pub few : length (m .service .answers) ≤ 4096

@@ -6,7 +6,7 @@ use mathlib.Core.Option.{some}
 use lib.ListN.{length}
 use Rattle.command.specs.declared.Command.{Command}
 use Rattle.model.specs.declared.Thread.{Thread}
-use Rattle.graph.specs.Arrays.{numbers, Nodes, Within}
+use Rattle.graph.specs.Arrays.{numbers, Nodes, NodesWithin}
 use Rattle.graph.specs.Items.{keptAt}
 
 -- the sequence number of each node that has a command is that of an answer
@@ -17,5 +17,5 @@ Placed seq kinds itemKeys itemChutes answers =
 pub record WorkerReady (next seq kinds itemKeys itemChutes answers : List ℕ) (first : ℕ) (thread : Thread) : Type 0 where
   pub nodes : Nodes next
   pub free : first ≤ 150
-  pub within : Within thread
+  pub within : NodesWithin thread
   pub placed : Placed seq kinds itemKeys itemChutes answers

@@ -4,7 +4,7 @@ ghost use mathlib.Core.Path.{_≡_};
 ghost use mathlib.Core.Bool.{Bool, true, false};
 ghost use Prim.Native.Nat.{ℕ, _≤_};
 ghost use Rattle.model.specs.Upd.{upd};
-ghost use Rattle.graph.specs.Arrays.{flags, Nodes, Within, Loaded, PutBack, Entered, Searches, Walks, ClearsOn};
+ghost use Rattle.graph.specs.Arrays.{flags, Nodes, NodesWithin, Loaded, PutBack, Entered, Searches, Walks, ClearsOn};
 use crate::arrays::set_flag;
 use crate::arrays::set_next;
 use crate::arrays::set_seq;
@@ -61,7 +61,7 @@ pub fn search(
     at: Node,
 ) -> Thread
     requires { ⌜ Nodes (now next) × (at .0 ≤ 150) ⌝ }
-    ensures within { λ r. ⌜ Within r ⌝ }
+    ensures within { λ r. ⌜ NodesWithin r ⌝ }
     ensures steps { λ r. ⌜ Searches at (now (next .entry)) (now (executing .entry)) (now (locked .entry)) (now (waits .entry)) r (now (executing .exit)) (now (locked .exit)) ⌝ }
 {
     let a = at.0 as usize;
@@ -87,7 +87,7 @@ pub fn search(
 // A walking worker's step: it bypasses its own node, or steps on.
 pub fn walk(next: &mut [u8; 151], locked: &mut [bool; 151], at: Node, own: Node) -> Thread
     requires { ⌜ Nodes (now next) × (at .0 ≤ 150) × (own .0 ≤ 150) ⌝ }
-    ensures within { λ r. ⌜ Within r × Nodes (now (next .exit)) ⌝ }
+    ensures within { λ r. ⌜ NodesWithin r × Nodes (now (next .exit)) ⌝ }
     ensures steps { λ r. ⌜ Walks at own (now (next .entry)) (now (locked .entry)) r (now (next .exit)) (now (locked .exit)) ⌝ }
 {
     let a = at.0 as usize;
@@ -123,7 +123,7 @@ pub fn clear(
     free: Node,
 ) -> Cleared
     requires { ⌜ Nodes (now next) × (at .0 ≤ 150) × (own .0 ≤ 150) × (free .0 ≤ 150) ⌝ }
-    ensures within { λ r. ⌜ Within (r .thread) × (r .free .0 ≤ 150) × Nodes (now (next .exit)) ⌝ }
+    ensures within { λ r. ⌜ NodesWithin (r .thread) × (r .free .0 ≤ 150) × Nodes (now (next .exit)) ⌝ }
     ensures steps { λ r. ⌜ ClearsOn at own (free .0) (now (next .entry)) (now (seq .entry)) (now (executing .entry)) (now (locked .entry)) (now (waits .entry)) (r .thread) (r .free .0) (now (next .exit)) (now (seq .exit)) (now (executing .exit)) (now (locked .exit)) (now (waits .exit)) ⌝ }
 {
     let a = at.0 as usize;

@@ -4,7 +4,7 @@ ghost use mathlib.Core.Bool.{true, cond};
 ghost use Prim.Native.Nat.{_≤_};
 ghost use Rattle.model.specs.Upd.{upd};
 ghost use Rattle.model.specs.Setup.{bothDependent};
-ghost use Rattle.graph.specs.Arrays.{sets, Nodes, Within, Linked};
+ghost use Rattle.graph.specs.Arrays.{sets, Nodes, NodesWithin, Linked};
 ghost use Rattle.graph.specs.Items.{keptAt};
 ghost use Rattle.graph.specs.Memory.{LoaderWalks};
 use crate::arrays::set_flag;
@@ -67,7 +67,7 @@ pub fn loader_walk(
     own: Node,
 ) -> Thread
     requires { ⌜ Nodes (now next) × (at .0 ≤ 150) × (own .0 ≤ 150) ⌝ }
-    ensures within { λ r. ⌜ Within r × Nodes (now (next .exit)) ⌝ }
+    ensures within { λ r. ⌜ NodesWithin r × Nodes (now (next .exit)) ⌝ }
     ensures steps { λ r. ⌜ LoaderWalks at own (now (next .entry)) (now (executing .entry)) (now (locked .entry)) (now (waits .entry)) (now (kinds .entry)) (now (keys .entry)) (now (chutes .entry)) r (now (next .exit)) (now (executing .exit)) (now (locked .exit)) (now (waits .exit)) ⌝ }
 {
     let a = at.0 as usize;

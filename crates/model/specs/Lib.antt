@@ -6,5 +6,4 @@ pub mod Graph
 pub mod Service
 pub mod Step
 pub mod Statement
-pub mod Cases
 pub mod Proof

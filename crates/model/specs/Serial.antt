@@ -70,15 +70,15 @@ entriesAfter capacity [] es = es
 entriesAfter capacity (c ∷ cs) es = entriesAfter capacity cs (serve capacity c es .entries)
 
 -- "There is one answer a command."
-unfoldable pub answersFrom : ℕ → List Command → List Entry → List ℕ
+unfoldable pub answersAfter : ℕ → List Command → List Entry → List ℕ
 unfolding serve
-answersFrom capacity [] es = []
-answersFrom capacity (c ∷ cs) es = serve capacity c es .answer ∷ answersFrom capacity cs (serve capacity c es .entries)
+answersAfter capacity [] es = []
+answersAfter capacity (c ∷ cs) es = serve capacity c es .answer ∷ answersAfter capacity cs (serve capacity c es .entries)
 
 -- the serial run's answers, and its entries "after the last command"
 unfoldable pub serialAnswers : ℕ → List Command → List ℕ
-unfolding answersFrom
-serialAnswers capacity cs = answersFrom capacity cs []
+unfolding answersAfter
+serialAnswers capacity cs = answersAfter capacity cs []
 
 unfoldable pub serialEntries : ℕ → List Command → List Entry
 unfolding entriesAfter

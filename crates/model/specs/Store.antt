@@ -40,18 +40,18 @@ halve (suc n) keys key low high =
     halve n keys key (cond right (middle + 1) low) (cond right high middle)
 
 -- where a key stands, or belongs where it is absent
-unfoldable pub placeOf : ℕ → Store → ℕ
+unfoldable pub keyPlace : ℕ → Store → ℕ
 unfolding halve inUse
-placeOf key st = halve (inUse st) (st .keys) key 0 (inUse st)
+keyPlace key st = halve (inUse st) (st .keys) key 0 (inUse st)
 
 unfoldable pub holds : ℕ → Store → Bool
-unfolding placeOf
-holds key st = ltb (placeOf key st) (inUse st) && eqb (getD (st .keys) (placeOf key st) 0) key
+unfolding keyPlace
+holds key st = ltb (keyPlace key st) (inUse st) && eqb (getD (st .keys) (keyPlace key st) 0) key
 
 -- the chute of a key, 0 where the store does not hold it
 unfoldable pub lookUp : ℕ → Store → ℕ
 unfolding holds
-lookUp key st = cond (holds key st) (getD (st .chutes) (placeOf key st) 0) 0
+lookUp key st = cond (holds key st) (getD (st .chutes) (keyPlace key st) 0) 0
 
 -- "Insert shifts later entries up": v at place p of the first n of a list, which must have a place more
 unfoldable pub shiftUp : ℕ → ℕ → ℕ → List ℕ → List ℕ
@@ -65,8 +65,8 @@ shiftDown p n l = take p l ++ take (n - (p + 1)) (drop (p + 1) l) ++ (0 ∷ drop
 unfoldable pub insert : ℕ → ℕ → Store → Store
 unfolding holds shiftUp
 insert key chute st = cond (holds key st || leb (room st) (inUse st)) st (record {
-  keys = shiftUp (placeOf key st) (inUse st) key (st .keys);
-  chutes = shiftUp (placeOf key st) (inUse st) chute (st .chutes);
+  keys = shiftUp (keyPlace key st) (inUse st) key (st .keys);
+  chutes = shiftUp (keyPlace key st) (inUse st) chute (st .chutes);
   used = inUse st + 1;
 })
 
@@ -74,8 +74,8 @@ insert key chute st = cond (holds key st || leb (room st) (inUse st)) st (record
 unfoldable pub remove : ℕ → Store → Store
 unfolding holds shiftDown
 remove key st = cond (holds key st) (record {
-  keys = shiftDown (placeOf key st) (inUse st) (st .keys);
-  chutes = shiftDown (placeOf key st) (inUse st) (st .chutes);
+  keys = shiftDown (keyPlace key st) (inUse st) (st .keys);
+  chutes = shiftDown (keyPlace key st) (inUse st) (st .chutes);
   used = inUse st - 1;
 }) st
 
@@ -84,6 +84,6 @@ unfoldable pub replace : ℕ → ℕ → Store → Store
 unfolding holds
 replace key chute st = cond (holds key st) (record {
   keys = st .keys;
-  chutes = set (st .chutes) (placeOf key st) chute;
+  chutes = set (st .chutes) (keyPlace key st) chute;
   used = st .used;
 }) st

@@ -8,7 +8,7 @@ use native.Mathlib.Omega.{arith}
 use lib.Arith.{mod-mul}
 use lib.ListN.{length, getD, drop}
 use lib.Seq.{drop-cons}
-use Rattle.s10.specs.Text.{decimal, digits}
+use Rattle.s10.specs.Text.{decimalNumber, digits}
 
 -- each number of the list is below b
 abbrev pub AllBelow : ℕ → List ℕ → Type 0
@@ -32,23 +32,23 @@ ten-pow-pos : (k : ℕ) → 0 < 10 ^ k
 ten-pow-pos k = one-le-pow k 10 (omega arith)
 
 -- the digits written last go by a division: one digit a step
-pub decimal-div : (n : ℕ) (ds : List ℕ) → AllBelow 10 ds → decimal n ds / 10 ^ length ds ≡ n
-unfolding decimal
+pub decimal-div : (n : ℕ) (ds : List ℕ) → AllBelow 10 ds → decimalNumber n ds / 10 ^ length ds ≡ n
+unfolding decimalNumber
 decimal-div n [] all = div-one n
 decimal-div n (d ∷ ds) all =
     let low : d < 10 = all 0 (omega arith) in
     rw (pow-suc, ← div-div-eq-div-mul, decimal-div (n * 10 + d) ds (tail-below ds all)) (omega arith)
 
 -- k digits write less than 10 ^ k: the division leaves nothing
-pub decimal-lt : (ds : List ℕ) → AllBelow 10 ds → decimal 0 ds < 10 ^ length ds
+pub decimal-lt : (ds : List ℕ) → AllBelow 10 ds → decimalNumber 0 ds < 10 ^ length ds
 decimal-lt ds all =
     let gone = decimal-div 0 ds all in
-    let under = div-lt-iff-lt-mul {x = decimal 0 ds} {y = 1} (ten-pow-pos (length ds)) .0 (omega arith) in
+    let under = div-lt-iff-lt-mul {x = decimalNumber 0 ds} {y = 1} (ten-pow-pos (length ds)) .0 (omega arith) in
     omega arith
 
 -- what stood before is moved by as many places as digits follow
-pub decimal-from : (n : ℕ) (ds : List ℕ) → decimal n ds ≡ n * 10 ^ length ds + decimal 0 ds
-unfolding decimal
+pub decimal-from : (n : ℕ) (ds : List ℕ) → decimalNumber n ds ≡ n * 10 ^ length ds + decimalNumber 0 ds
+unfolding decimalNumber
 decimal-from n [] = omega arith
 decimal-from n (d ∷ ds) =
     let from-n = decimal-from (n * 10 + d) ds in
@@ -56,28 +56,28 @@ decimal-from n (d ∷ ds) =
     rw pow-suc (omega arith)
 
 -- the digits from place k on are the k-th digit and those after it
-pub decimal-step : (n : ℕ) (ds : List ℕ) (k : ℕ) → k < length ds → decimal n (drop k ds) ≡ decimal (n * 10 + getD ds k 0) (drop (k + 1) ds)
-unfolding decimal
+pub decimal-step : (n : ℕ) (ds : List ℕ) (k : ℕ) → k < length ds → decimalNumber n (drop k ds) ≡ decimalNumber (n * 10 + getD ds k 0) (drop (k + 1) ds)
+unfolding decimalNumber
 decimal-step n ds k h = rw (add-one, drop-cons ds k 0 h)
 
 -- a number grows by the digits that follow
-pub decimal-ge : (n : ℕ) (ds : List ℕ) → n ≤ decimal n ds
-unfolding decimal
+pub decimal-ge : (n : ℕ) (ds : List ℕ) → n ≤ decimalNumber n ds
+unfolding decimalNumber
 decimal-ge n [] = omega arith
 decimal-ge n (d ∷ ds) = let later = decimal-ge (n * 10 + d) ds in omega arith
 
 -- the last digits of what digits write are these digits
-pub digits-decimal : (n : ℕ) (ds : List ℕ) → AllBelow 10 ds → digits (length ds) (decimal n ds) ≡ ds
-unfolding decimal digits
+pub digits-decimal : (n : ℕ) (ds : List ℕ) → AllBelow 10 ds → digits (length ds) (decimalNumber n ds) ≡ ds
+unfolding decimalNumber digits
 digits-decimal n [] all = refl
 digits-decimal n (d ∷ ds) all =
     let low : d < 10 = all 0 (omega arith) in
-    let first : decimal (n * 10 + d) ds / 10 ^ length ds % 10 ≡ d = rw (decimal-div (n * 10 + d) ds (tail-below ds all)) (omega arith) in
+    let first : decimalNumber (n * 10 + d) ds / 10 ^ length ds % 10 ≡ d = rw (decimal-div (n * 10 + d) ds (tail-below ds all)) (omega arith) in
     rw (first, digits-decimal (n * 10 + d) ds (tail-below ds all))
 
 -- the last k digits of m write what m leaves by 10 ^ k
-pub decimal-digits : (n k m : ℕ) → decimal n (digits k m) ≡ n * 10 ^ k + m % 10 ^ k
-unfolding decimal digits
+pub decimal-digits : (n k m : ℕ) → decimalNumber n (digits k m) ≡ n * 10 ^ k + m % 10 ^ k
+unfolding decimalNumber digits
 decimal-digits n zero m = omega arith
 decimal-digits n (suc k) m =
     let rest = decimal-digits (n * 10 + m / 10 ^ k % 10) k m in

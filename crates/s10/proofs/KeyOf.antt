@@ -6,8 +6,8 @@ use native.Mathlib.Nat.{div-div-eq-div-mul}
 use native.Mathlib.Omega.{arith}
 use lib.ListN.{length, getD, take, drop, take-append-drop, drop-of-length-le}
 use lib.Seq.{drop-cons, drop-drop}
-use Rattle.s10.specs.Text.{serialDigits, checkDigit, pair, decimal, keyOf, letters, digits, textOf, largestKey}
-use Rattle.s10.specs.Parts.{Within, WellFormed, characters, serialText}
+use Rattle.s10.specs.Text.{serialDigits, checkDigit, pair, decimalNumber, keyOf, letters, digits, textOf, largestKey}
+use Rattle.s10.specs.Parts.{Between, WellFormed, characters, serialText}
 use Rattle.s10.proofs.Decimal.{AllBelow, decimal-div, decimal-from, digits-decimal}
 use Rattle.s10.proofs.Values.{length-values, values-below, serial-number-below, characters-values}
 use Rattle.s10.proofs.TextOf.{text-of-parts}
@@ -22,7 +22,7 @@ text-split text long =
     rw (← tail, take-append-drop, ← drop-cons text 1 0 (omega arith), ← drop-cons text 0 0 (omega arith))
 
 -- the letters of a pair's number are the pair
-letters-pair : (a b : ℕ) → Within 65 90 a → Within 65 90 b → letters (pair a b) ≡ a ∷ b ∷ []
+letters-pair : (a b : ℕ) → Between 65 90 a → Between 65 90 b → letters (pair a b) ≡ a ∷ b ∷ []
 unfolding letters pair
 letters-pair a b wa wb =
     let first : 65 + (26 * (a - 65) + (b - 65)) / 26 ≡ a = omega arith in
@@ -30,7 +30,7 @@ letters-pair a b wa wb =
     rw (first, second)
 
 -- the last pair is ZZ
-pair-below : (a b : ℕ) → Within 65 90 a → Within 65 90 b → pair a b < 676
+pair-below : (a b : ℕ) → Between 65 90 a → Between 65 90 b → pair a b < 676
 unfolding pair
 pair-below a b wa wb = omega arith
 
@@ -42,7 +42,7 @@ abbrev last-pair : List ℕ → ℕ
 last-pair text = pair (getD text 11 0) (getD text 12 0)
 
 abbrev serial-number : List ℕ → ℕ
-serial-number text = decimal 0 (serialDigits text)
+serial-number text = decimalNumber 0 (serialDigits text)
 
 key-of-parts : (text : List ℕ) → keyOf text ≡ (first-pair text * 100_000_000 + serial-number text) * 676 + last-pair text
 unfolding keyOf
@@ -78,7 +78,7 @@ module _ (text : List ℕ) (w : WellFormed text) where
       rw key-of-parts (omega arith)
 
   -- without its last pair the key is the first pair with the serial digits written after it
-  without-last : keyOf text / 676 ≡ decimal (first-pair text) (serialDigits text)
+  without-last : keyOf text / 676 ≡ decimalNumber (first-pair text) (serialDigits text)
   without-last =
       let l = last-below in
       let from = rw eight at (decimal-from (first-pair text) (serialDigits text)) in

@@ -9,7 +9,7 @@ use borrow.Author.Tests.{eq-eqb}
 use lib.Dec.{leb}
 use lib.ListN.{length, getD, take, length-append}
 use lib.Seq.{take-at, getD-at, getD-append-add}
-use Rattle.s10.specs.Text.{isAllowed, allAllowed, isWellFormed, serialDigits, checkDigit, decimal, keyOf, letters, digits, textOf, largestKey}
+use Rattle.s10.specs.Text.{isAllowed, allAllowed, isWellFormed, serialDigits, checkDigit, decimalNumber, keyOf, letters, digits, textOf, largestKey}
 use Rattle.s10.specs.Parts.{characters, serialText}
 use Rattle.s10.proofs.Decimal.{AllBelow, tail-below, nil-below, cons-below, length-digits, digits-below, decimal-digits}
 use Rattle.s10.proofs.Values.{values-characters, characters-serial}
@@ -88,7 +88,7 @@ module _ (key : ℕ) where
   check-written = rw (text-of-parts, append-assoc) (getD-at (characters (digits 8 (key / 676))) _ _ 0 8 (characters-serial (key / 676) .long))
 
   -- the last eight digits write what is left by 10 ^ 8
-  serial-number-written : decimal 0 (serialDigits (textOf key)) ≡ key / 676 % 100_000_000
+  serial-number-written : decimalNumber 0 (serialDigits (textOf key)) ≡ key / 676 % 100_000_000
   serial-number-written = let number = decimal-digits 0 8 (key / 676) in rw serial-digits-written (omega arith)
 
   -- the letters of the two pairs

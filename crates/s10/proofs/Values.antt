@@ -5,8 +5,8 @@ use mathlib.Core.List.{List, [], _∷_}
 use native.Mathlib.Nat.{not-suc-le-zero}
 use native.Mathlib.Omega.{arith}
 use lib.ListN.{length, getD, length-map, List·getD-map}
-use Rattle.s10.specs.Text.{decimal, digits}
-use Rattle.s10.specs.Parts.{Within, Serial, values, characters}
+use Rattle.s10.specs.Text.{decimalNumber, digits}
+use Rattle.s10.specs.Parts.{Between, Serial, values, characters}
 use Rattle.s10.proofs.Decimal.{AllBelow, tail-below, decimal-lt, length-digits, digits-below}
 
 -- one number for each character, and one character for each number
@@ -27,14 +27,14 @@ values-below text s k h =
     rw (getD-values text k) (omega arith)
 
 -- eight digits write less than a hundred million
-pub serial-number-below : (text : List ℕ) → Serial text → decimal 0 (values text) < 100_000_000
+pub serial-number-below : (text : List ℕ) → Serial text → decimalNumber 0 (values text) < 100_000_000
 serial-number-below text s = rw (length-values, s .long) at (decimal-lt (values text) (values-below text s))
 
 -- a digit is the character of its number
-pub characters-values : (text : List ℕ) → ((k : ℕ) → k < length text → Within 48 57 (getD text k 0)) → characters (values text) ≡ text
+pub characters-values : (text : List ℕ) → ((k : ℕ) → k < length text → Between 48 57 (getD text k 0)) → characters (values text) ≡ text
 characters-values [] all = refl
 characters-values (c ∷ text) all =
-    let digit : Within 48 57 c = all 0 (omega arith) in
+    let digit : Between 48 57 c = all 0 (omega arith) in
     let head : 48 + (c - 48) ≡ c = omega arith in
     rw (head, characters-values text (λ k h. all (suc k) (suc-le-suc h)))
 
@@ -46,7 +46,7 @@ values-characters (d ∷ ds) =
     rw (head, values-characters ds)
 
 -- a number below ten gets a digit
-pub characters-within : (ds : List ℕ) → AllBelow 10 ds → (k : ℕ) → k < length (characters ds) → Within 48 57 (getD (characters ds) k 0)
+pub characters-within : (ds : List ℕ) → AllBelow 10 ds → (k : ℕ) → k < length (characters ds) → Between 48 57 (getD (characters ds) k 0)
 characters-within [] all k h = absurd (not-suc-le-zero h)
 characters-within (d ∷ ds) all zero h = let low : d < 10 = all 0 (omega arith) in omega arith
 characters-within (d ∷ ds) all (suc k) h = characters-within ds (tail-below ds all) k (omega arith)

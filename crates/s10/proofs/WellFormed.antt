@@ -9,21 +9,21 @@ use lib.Dec.{eqb, leb}
 use lib.ListN.{length, getD, take, drop, length-take, length-drop}
 use lib.Seq.{getD-take, getD-drop}
 use Rattle.s10.specs.Text.{isAllowed, allAllowed, isWellFormed}
-use Rattle.s10.specs.Parts.{Within, Serial, WellFormed}
+use Rattle.s10.specs.Parts.{Between, Serial, WellFormed}
 use Rattle.s10.proofs.Fault.{allowed-at}
 
 -- a character that passes the two tests lies between
-pub within : (low high c : ℕ) → (leb low c && leb c high) ≡ true → Within low high c
+pub within : (low high c : ℕ) → (leb low c && leb c high) ≡ true → Between low high c
 within low high c e =
     let tests = and-eq-true-iff (leb low c) (leb c high) .0 e in
     (leb-true low c (tests .0), leb-true c high (tests .1))
 
 -- each test is passed
-pub is-within : (low high c : ℕ) → Within low high c → (leb low c && leb c high) ≡ true
+pub is-within : (low high c : ℕ) → Between low high c → (leb low c && leb c high) ≡ true
 is-within low high c w = rw (le-leb low c (w .0), le-leb c high (w .1))
 
 -- at positions 2 to 10 a digit is asked
-pub digit-asked : (i c : ℕ) → Within 2 10 i → isAllowed i c ≡ (leb 48 c && leb c 57)
+pub digit-asked : (i c : ℕ) → Between 2 10 i → isAllowed i c ≡ (leb 48 c && leb c 57)
 unfolding isAllowed
 digit-asked i c w = rw (is-within 2 10 i w)
 
@@ -37,11 +37,11 @@ module _ (text : List ℕ) (ok : isWellFormed text ≡ true) where
   long = eqb-true (length text) 13 (tests .0)
 
   -- outside the digits, a position that is known asks a letter
-  letter-at : (i : ℕ) → i < 13 → (isAllowed (0 + i) (getD text i 0) ≡ (leb 65 (getD text i 0) && leb (getD text i 0) 90)) → Within 65 90 (getD text i 0)
+  letter-at : (i : ℕ) → i < 13 → (isAllowed (0 + i) (getD text i 0) ≡ (leb 65 (getD text i 0) && leb (getD text i 0) 90)) → Between 65 90 (getD text i 0)
   letter-at i h asked = let l = long in within 65 90 _ (sym asked ∙ allowed-at 0 text (tests .1) i (omega arith))
 
   -- at positions 2 to 10 stands a digit
-  digit-at : (i : ℕ) → Within 2 10 i → Within 48 57 (getD text i 0)
+  digit-at : (i : ℕ) → Between 2 10 i → Between 48 57 (getD text i 0)
   digit-at i w =
       let l = long in
       within 48 57 _ (sym (digit-asked (0 + i) (getD text i 0) (omega arith)) ∙ allowed-at 0 text (tests .1) i (omega arith))

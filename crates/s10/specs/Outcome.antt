@@ -11,18 +11,18 @@ use Rattle.s10.specs.declared.Writing.the-variants.{Written, WrongLength
 use Rattle.s10.specs.Text.{isWellFormed, serialDigits, checkDigit, keyOf, largestKey, textOf}
 
 -- A call is accepted with a key, or refused with a number.
-pub data Outcome : Type 0 where
-  accepted : ℕ → Outcome
-  refused : ℕ → Outcome
+pub data TextOutcome : Type 0 where
+  accepted : ℕ → TextOutcome
+  refused : ℕ → TextOutcome
 
 -- the document's number and value for each answer of `Identifier::read`
-abbrev pub outcome : Reading → Outcome
-outcome (Key key) = accepted key
-outcome Malformed = refused 8
-outcome WrongCheckDigit = refused 9
+abbrev pub textOutcome : Reading → TextOutcome
+textOutcome (Key key) = accepted key
+textOutcome Malformed = refused 8
+textOutcome WrongCheckDigit = refused 9
 
 -- "8: length, letter or digit wrong"; "9: check digit wrong"
-unfoldable pub readText : List ℕ → Outcome
+unfoldable pub readText : List ℕ → TextOutcome
 readText text =
     cond (isWellFormed text) (cond (eqb (getD text 10 0 - 48) (checkDigit (serialDigits text))) (accepted (keyOf text)) (refused 9)) (refused 8)
 

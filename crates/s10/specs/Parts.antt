@@ -13,21 +13,21 @@ firstFault i [] = i
 firstFault i (c ∷ text) = cond (isAllowed i c) (firstFault (i + 1) text) i
 
 -- c lies from low to high
-abbrev pub Within : ℕ → ℕ → ℕ → Type 0
-Within low high c = (low ≤ c) × (c ≤ high)
+abbrev pub Between : ℕ → ℕ → ℕ → Type 0
+Between low high c = (low ≤ c) × (c ≤ high)
 
 -- the eight serial digits, as characters
 pub record Serial (text : List ℕ) : Type 0 where
   pub long : length text ≡ 8
-  pub digit : (k : ℕ) → k < length text → Within 48 57 (getD text k 0)
+  pub digit : (k : ℕ) → k < length text → Between 48 57 (getD text k 0)
 
 -- what `isWellFormed` says, part by part
 pub record WellFormed (text : List ℕ) : Type 0 where
   pub long : length text ≡ 13
-  pub first : Within 65 90 (getD text 0 0) × Within 65 90 (getD text 1 0)
+  pub first : Between 65 90 (getD text 0 0) × Between 65 90 (getD text 1 0)
   pub serial : Serial (take 8 (drop 2 text))
-  pub check : Within 48 57 (getD text 10 0)
-  pub last : Within 65 90 (getD text 11 0) × Within 65 90 (getD text 12 0)
+  pub check : Between 48 57 (getD text 10 0)
+  pub last : Between 65 90 (getD text 11 0) × Between 65 90 (getD text 12 0)
 
 -- the numbers that digits stand for, and the digits that stand for numbers
 abbrev pub values : List ℕ → List ℕ

@@ -56,15 +56,15 @@ unfoldable pub pair : ℕ → ℕ → ℕ
 pair first second = 26 * (first - 65) + (second - 65)
 
 -- the number that decimal digits write, after those that wrote n
-unfoldable pub decimal : ℕ → List ℕ → ℕ
-decimal n [] = n
-decimal n (d ∷ ds) = decimal (n * 10 + d) ds
+unfoldable pub decimalNumber : ℕ → List ℕ → ℕ
+decimalNumber n [] = n
+decimalNumber n (d ∷ ds) = decimalNumber (n * 10 + d) ds
 
 -- "The key is (first pair × 100,000,000 + serial) × 676 + last pair"
 unfoldable pub keyOf : List ℕ → ℕ
-unfolding pair decimal serialDigits
+unfolding pair decimalNumber serialDigits
 keyOf text =
-    (pair (getD text 0 0) (getD text 1 0) * 100_000_000 + decimal 0 (serialDigits text)) * 676 + pair (getD text 11 0) (getD text 12 0)
+    (pair (getD text 0 0) (getD text 1 0) * 100_000_000 + decimalNumber 0 (serialDigits text)) * 676 + pair (getD text 11 0) (getD text 12 0)
 
 -- "at most 45,697,599,999,999"
 unfoldable pub largestKey : ℕ

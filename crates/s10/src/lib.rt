@@ -4,9 +4,9 @@ ghost use Prim.Native.Nat.{_+_, _-_, _*_, _%_, _≤_, _<_};
 ghost use mathlib.Core.Bool.{_&&_};
 ghost use lib.Dec.{leb};
 ghost use lib.ListN.{length};
-ghost use Rattle.s10.specs.Text.{isAllowed, weighted, weights, excepted, checkDigit, pair, decimal, keyOf, letters, digits, largestKey, textOf};
-ghost use Rattle.s10.specs.Parts.{firstFault, Within, Serial, WellFormed, values, characters, serialText};
-ghost use Rattle.s10.specs.Outcome.{outcome, readText, number, writeNumber, writeText};
+ghost use Rattle.s10.specs.Text.{isAllowed, weighted, weights, excepted, checkDigit, pair, decimalNumber, keyOf, letters, digits, largestKey, textOf};
+ghost use Rattle.s10.specs.Parts.{firstFault, Between, Serial, WellFormed, values, characters, serialText};
+ghost use Rattle.s10.specs.Outcome.{textOutcome, readText, number, writeNumber, writeText};
 
 // An identifier, by its key.
 pub struct Identifier(pub u64);
@@ -49,7 +49,7 @@ impl Identifier {
 
     // The key of a text.
     pub fn read(text: &[u8]) -> Reading
-        ensures { λ r. ⌜ outcome r ≡ readText (now (text .entry)) ⌝ }
+        ensures { λ r. ⌜ textOutcome r ≡ readText (now (text .entry)) ⌝ }
     {
         if text.len() != Identifier::LENGTH {
             return Reading::Malformed;
@@ -148,7 +148,7 @@ fn check_digit(digits: &[u8]) -> u8
 
 // The number of a pair of letters.
 fn pair_number(first: u8, second: u8) -> u64
-    requires { ⌜ Within 65 90 first × Within 65 90 second ⌝ }
+    requires { ⌜ Between 65 90 first × Between 65 90 second ⌝ }
     ensures { λ r. ⌜ (r ≡ pair first second) × (r < 676) ⌝ }
 {
     Identifier::LETTERS * (first - b'A') as u64 + (second - b'A') as u64
@@ -157,7 +157,7 @@ fn pair_number(first: u8, second: u8) -> u64
 // The number that decimal digits write.
 fn decimal_number(digits: &[u8]) -> u64
     requires { ⌜ Serial (now digits) ⌝ }
-    ensures { λ r. ⌜ (r ≡ decimal 0 (values (now (digits .entry)))) × (r < 100_000_000) ⌝ }
+    ensures { λ r. ⌜ (r ≡ decimalNumber 0 (values (now (digits .entry)))) × (r < 100_000_000) ⌝ }
 {
     let mut n = 0;
     let mut k = 0;

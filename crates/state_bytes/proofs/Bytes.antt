@@ -11,7 +11,7 @@ use lib.Arith.{mod-mul, digits-lt, digits-div}
 use lib.Dec.{ltb}
 use borrow.Author.Tests.{ltb-true, ltb-false}
 use borrow.Author.Count.{below-more}
-use Rattle.state_bytes.specs.Bytes.{bytesOf, numberOf, numberAt, tabulate, fields, allBelow}
+use Rattle.state_bytes.specs.Bytes.{bytesOf, numberAfter, numberAt, tabulate, fields, allBelow}
 
 -- a number is below another, or is not
 pub below-or-past {ℓ} : {P : Type ℓ} (n k : ℕ) → (n < k → P) → (k ≤ n → P) → P
@@ -40,22 +40,22 @@ pow-positive zero = le-refl 1
 pow-positive (suc k) = omega (arith, pow-suc 256 k, pow-positive k)
 
 -- the bytes read back are the last k bytes of the number: each adds its digit
-number-of-bytes : (k a n : ℕ) → numberOf a (bytesOf k n) ≡ a * 256 ^ k + n % 256 ^ k
-unfolding bytesOf numberOf
+number-of-bytes : (k a n : ℕ) → numberAfter a (bytesOf k n) ≡ a * 256 ^ k + n % 256 ^ k
+unfolding bytesOf numberAfter
 number-of-bytes zero a n = omega (arith, mod-one n)
 number-of-bytes (suc k) a n =
     let low = mod-mul n {m = 256} {c = 256 ^ k} (omega arith) (pow-positive k) in
     number-of-bytes k (a * 256 + n / 256 ^ k % 256) n ∙ rw (pow-succ' 256 k, low) (omega arith)
 
 -- so a number that fits k bytes is read back
-pub bytes-read-back : (k n : ℕ) → n < 256 ^ k → numberOf 0 (bytesOf k n) ≡ n
+pub bytes-read-back : (k n : ℕ) → n < 256 ^ k → numberAfter 0 (bytesOf k n) ≡ n
 bytes-read-back k n h = number-of-bytes k 0 n ∙ omega (arith, mod-eq-of-lt h)
 
 -- ---- the number of bytes
 
 -- the bytes before count for the powers above
-number-after : (a : ℕ) (bs : List ℕ) → numberOf a bs ≡ a * 256 ^ length bs + numberOf 0 bs
-unfolding numberOf
+number-after : (a : ℕ) (bs : List ℕ) → numberAfter a bs ≡ a * 256 ^ length bs + numberAfter 0 bs
+unfolding numberAfter
 number-after a [] = omega arith
 number-after a (b ∷ bs) = number-after (a * 256 + b) bs ∙ rw (pow-succ' 256 (length bs), number-after (0 + b) bs) (omega arith)
 
@@ -64,8 +64,8 @@ abbrev pub Bytes : List ℕ → Type 0
 Bytes bs = (i : ℕ) → getD bs i 0 < 256
 
 -- bytes write a number below the power of their count
-pub number-below : (bs : List ℕ) → Bytes bs → numberOf 0 bs < 256 ^ length bs
-unfolding numberOf
+pub number-below : (bs : List ℕ) → Bytes bs → numberAfter 0 bs < 256 ^ length bs
+unfolding numberAfter
 number-below [] h = omega arith
 number-below (b ∷ bs) h =
     rw (number-after (0 + b) bs, zero-add b, pow-succ' 256 (length bs)) (digits-lt (h 0) (number-below bs (λ i. h (suc i))))
@@ -81,15 +81,15 @@ bytes-of-sum (suc k) a n =
     rw e (ap₂ {C = List ℕ} _∷_ first (bytes-of-sum k (a * 256) n))
 
 -- the bytes of the number that bytes write are these bytes
-pub number-read-back : (bs : List ℕ) → Bytes bs → bytesOf (length bs) (numberOf 0 bs) ≡ bs
-unfolding bytesOf numberOf
+pub number-read-back : (bs : List ℕ) → Bytes bs → bytesOf (length bs) (numberAfter 0 bs) ≡ bs
+unfolding bytesOf numberAfter
 number-read-back [] h = refl
 number-read-back (b ∷ bs) h =
     let below = number-below bs (λ i. h (suc i)) in
-    let e : numberOf (0 + b) bs ≡ b * 256 ^ length bs + numberOf 0 bs = rw (zero-add b) (number-after b bs) in
-    let first : (b * 256 ^ length bs + numberOf 0 bs) / 256 ^ length bs % 256 ≡ b =
+    let e : numberAfter (0 + b) bs ≡ b * 256 ^ length bs + numberAfter 0 bs = rw (zero-add b) (number-after b bs) in
+    let first : (b * 256 ^ length bs + numberAfter 0 bs) / 256 ^ length bs % 256 ≡ b =
     ap (λ (x : ℕ). x % 256) (digits-div b below) ∙ mod-eq-of-lt (h 0) in
-    rw e (ap₂ {C = List ℕ} _∷_ first (bytes-of-sum (length bs) b (numberOf 0 bs) ∙ number-read-back bs (λ i. h (suc i))))
+    rw e (ap₂ {C = List ℕ} _∷_ first (bytes-of-sum (length bs) b (numberAfter 0 bs) ∙ number-read-back bs (λ i. h (suc i))))
 
 -- every part of bytes is bytes
 pub taken-bytes : (k at : ℕ) (bytes : List ℕ) → Bytes bytes → Bytes (take k (drop at bytes))
@@ -106,7 +106,7 @@ taken-length k at bytes fits = length-take-le k (drop at bytes) (rw (length-drop
 pub number-stands : (k at : ℕ) (bytes : List ℕ) → Bytes bytes → at + k ≤ length bytes → bytesOf k (numberAt k at bytes) ≡ take k (drop at bytes)
 unfolding numberAt
 number-stands k at bytes h fits =
-    ap (λ (n : ℕ). bytesOf n (numberOf 0 (take k (drop at bytes)))) (sym (taken-length k at bytes fits))
+    ap (λ (n : ℕ). bytesOf n (numberAfter 0 (take k (drop at bytes)))) (sym (taken-length k at bytes fits))
     ∙ number-read-back (take k (drop at bytes)) (taken-bytes k at bytes h)
 
 -- and the number fits them
@@ -163,7 +163,7 @@ lies-element {part} {at} {bytes} l i h =
 -- a number is read where its bytes lie
 pub lies-number : (k n : ℕ) {at : ℕ} {bytes : List ℕ} → n < 256 ^ k → Lies (bytesOf k n) at bytes → numberAt k at bytes ≡ n
 unfolding numberAt
-lies-number k n h l = ap (numberOf 0) (lies-taken k (bytes-length k n) l) ∙ bytes-read-back k n h
+lies-number k n h l = ap (numberAfter 0) (lies-taken k (bytes-length k n) l) ∙ bytes-read-back k n h
 
 -- ---- parts one after the other
 

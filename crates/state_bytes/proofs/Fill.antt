@@ -7,7 +7,7 @@ use mathlib.Core.Path.{_≡_, refl, sym, ap, _∙_}
 use mathlib.Core.List.{List, [], _∷_, _++_}
 use lib.ListN.{length, getD, take, drop, set, length-drop, length-set}
 use lib.Seq.{take-all, take-suc, take-suc-set, getD-drop}
-use Rattle.state_bytes.specs.Bytes.{numberOf, numberAt, tabulate}
+use Rattle.state_bytes.specs.Bytes.{numberAfter, numberAt, tabulate}
 
 -- ---- filling a list
 
@@ -48,14 +48,14 @@ module _ {ℓ} {A : Type ℓ} {f : ℕ → A} {n : ℕ} {l : List A} where
 -- ---- the number of bytes
 
 -- one more byte at the end is the lowest
-pub number-of-more : (n : ℕ) (bs : List ℕ) (b : ℕ) → numberOf n (bs ++ (b ∷ [])) ≡ numberOf n bs * 256 + b
-unfolding numberOf
+pub number-of-more : (n : ℕ) (bs : List ℕ) (b : ℕ) → numberAfter n (bs ++ (b ∷ [])) ≡ numberAfter n bs * 256 + b
+unfolding numberAfter
 number-of-more n [] b = refl
 number-of-more n (a ∷ bs) b = number-of-more (n * 256 + a) bs b
 
 -- of no byte the number is 0
 pub number-none : (at : ℕ) (bytes : List ℕ) → numberAt 0 at bytes ≡ 0
-unfolding numberAt numberOf
+unfolding numberAt numberAfter
 number-none at bytes = refl
 
 -- one byte more is the lowest

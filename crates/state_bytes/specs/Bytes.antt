@@ -10,14 +10,14 @@ bytesOf zero n = []
 bytesOf (suc k) n = n / 256 ^ k % 256 ∷ bytesOf k n
 
 -- the number that bytes write, after those that wrote n
-unfoldable pub numberOf : ℕ → List ℕ → ℕ
-numberOf n [] = n
-numberOf n (b ∷ bs) = numberOf (n * 256 + b) bs
+unfoldable pub numberAfter : ℕ → List ℕ → ℕ
+numberAfter n [] = n
+numberAfter n (b ∷ bs) = numberAfter (n * 256 + b) bs
 
 -- the number of k bytes at an offset
 unfoldable pub numberAt : ℕ → ℕ → List ℕ → ℕ
-unfolding numberOf
-numberAt k at bytes = numberOf 0 (take k (drop at bytes))
+unfolding numberAfter
+numberAt k at bytes = numberAfter 0 (take k (drop at bytes))
 
 -- f 0, f 1 and so on, n of them; and these one after the other
 unfoldable pub tabulate {ℓ} : {A : Type ℓ} → ℕ → (ℕ → A) → List A

@@ -7,7 +7,7 @@ use mathlib.Core.List.{List}
 use borrow.Author.Tests.{leb-false}
 use lib.ListN.{length, getD, set}
 use lib.Dec.{ltb, leb, eqb}
-use Rattle.model.specs.Store.{Store, inUse, halve, placeOf, holds, lookUp, insert, remove, replace, shiftUp, shiftDown}
+use Rattle.model.specs.Store.{Store, inUse, halve, keyPlace, holds, lookUp, insert, remove, replace, shiftUp, shiftDown}
 use Rattle.store.specs.declared.Found.{Found}
 use Rattle.store.specs.Lists.{storeOf}
 use Rattle.store.specs.Find.{Finds}
@@ -18,10 +18,10 @@ pub finds : (key : ℕ) (st : Store) (both : ℕ) (found : Found) → both ≡ m
     → found .in_use ≡ min (st .used) both → found .at ≡ halve (found .in_use) (st .keys) key 0 (found .in_use)
     → found .at ≤ found .in_use → found .held ≡ (ltb (found .at) (found .in_use) && eqb (getD (st .keys) (found .at) 0) key)
     → Finds key st found
-unfolding inUse placeOf holds
+unfolding inUse keyPlace holds
 finds key st both found b u p within h =
     let in-use : found .in_use ≡ inUse st = cc in
-    let place : found .at ≡ placeOf key st = rw in-use at p in
+    let place : found .at ≡ keyPlace key st = rw in-use at p in
     record { in-use = in-use; place = place; held = rw (in-use, place) at h; within = within }
 
 -- A test picks what its value picks.

@@ -20,7 +20,7 @@ use Rattle.model.specs.Setup.{Setup, commandAt}
 use Rattle.model.specs.Graph.{setLocked, setLoaded, setSeq, setNext, setFree}
 use Rattle.model.specs.Step.{State, node, step, loaderStep, loaderIdle, load, moveTo}
 use Rattle.model.specs.Proof.Upd.{upd-id}
-use Rattle.graph.specs.Arrays.{numbers, flags, Nodes, Within, Loaded}
+use Rattle.graph.specs.Arrays.{numbers, flags, Nodes, NodesWithin, Loaded}
 use Rattle.graph.specs.Items.{keptAt}
 use Rattle.graph.specs.Memory.{Memory, shown, Ready, Steps, LoaderWalks}
 use Rattle.graph.proofs.Bridge.{nodes-stored}
@@ -82,7 +82,7 @@ module _ (list kinds itemKeys itemChutes : List ℕ) (m : Memory) where
   -- the walk is the model's: the commands kept are those of the sequence numbers
   pub walk-steps : (at own : Node) (r : Thread) (next′ : List ℕ) (executing′ locked′ : List Bool) (waits′ : List (List ℕ))
       → LoaderWalks at own (m .graph .next) (m .graph .executing) (m .graph .locked) (m .graph .waits) kinds itemKeys itemChutes r next′ executing′ locked′ waits′
-      → Within r → Nodes next′ → Ready list kinds itemKeys itemChutes m (Loading at own)
+      → NodesWithin r → Nodes next′ → Ready list kinds itemKeys itemChutes m (Loading at own)
       → Steps list 0 (Loading at own) m kinds itemKeys itemChutes r (withArrays next′ (m .graph .seq) executing′ locked′ waits′ (m .graph .free) m)
   unfolding loaderStep moveTo
   walk-steps at own r next′ executing′ locked′ waits′ steps within nodes ready =

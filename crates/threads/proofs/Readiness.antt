@@ -5,7 +5,7 @@ use mathlib.Core.Bool.{Bool}
 use mathlib.Core.List.{List}
 use lib.ListN.{length}
 use Rattle.model.specs.declared.Thread.{Thread}
-use Rattle.graph.specs.Arrays.{Nodes, Within}
+use Rattle.graph.specs.Arrays.{Nodes, NodesWithin}
 use Rattle.graph.specs.Memory.{Memory, Ready, Steps}
 
 -- a memory with another graph
@@ -32,13 +32,13 @@ of-loader is steps = rw is steps
 
 module _ (list kinds itemKeys itemChutes : List ℕ) (m : Memory) (thread : Thread) (ready : Ready list kinds itemKeys itemChutes m thread) where
   -- a graph of nodes with the sequence numbers as they were is ready: each node's command is still the one of its sequence number
-  pub graph-ready : (thread′ : Thread) (next′ : List ℕ) (executing′ locked′ : List Bool) (waits′ : List (List ℕ)) → Nodes next′ → Within thread′
+  pub graph-ready : (thread′ : Thread) (next′ : List ℕ) (executing′ locked′ : List Bool) (waits′ : List (List ℕ)) → Nodes next′ → NodesWithin thread′
       → Ready list kinds itemKeys itemChutes (withArrays next′ (m .graph .seq) executing′ locked′ waits′ (m .graph .free) m) thread′
   graph-ready thread′ next′ executing′ locked′ waits′ nodes within =
       record { nodes = nodes; free = ready .free; within = within; kept = ready .kept; whole = ready .whole; few = ready .few }
 
   -- a store of any contents, with as many answers, is ready: readiness does not speak of it
-  pub store-ready : (thread′ : Thread) (keys′ chutes′ answers′ : List ℕ) (used′ : ℕ) → length answers′ ≡ length (m .service .answers) → Within thread′
+  pub store-ready : (thread′ : Thread) (keys′ chutes′ answers′ : List ℕ) (used′ : ℕ) → length answers′ ≡ length (m .service .answers) → NodesWithin thread′
       → Ready list kinds itemKeys itemChutes (withStore keys′ chutes′ answers′ used′ m) thread′
   store-ready thread′ keys′ chutes′ answers′ used′ count within =
       record { nodes = ready .nodes; free = ready .free; within = within; kept = ready .kept; whole = rw count (ready .whole); few = rw count (ready .few) }

@@ -23,7 +23,7 @@ use Rattle.model.specs.Service.{foundFor}
 use Rattle.model.specs.Step.{State, node, step, workerStep, moveTo, serveTo, enter, commandOf, holding, lookedUp, return, clearing, stepOn}
 use Rattle.model.specs.Proof.Upd.{upd-id, upd-same}
 use Rattle.store.specs.Lists.{storeOf}
-use Rattle.graph.specs.Arrays.{numbers, flags, Nodes, Within, Shows, Entered, Searches, Walks, ClearsOn}
+use Rattle.graph.specs.Arrays.{numbers, flags, Nodes, NodesWithin, Shows, Entered, Searches, Walks, ClearsOn}
 use Rattle.command.specs.Read.{commandsIn}
 use Rattle.graph.specs.Items.{keptAt, Kept}
 use Rattle.graph.specs.Memory.{Memory, memory, shown, Ready, Steps, Writes}
@@ -115,7 +115,7 @@ module _ (list kinds itemKeys itemChutes : List ℕ) (t : ℕ) (other : t ≡ 0 
 
   -- a worker that enters, in either of the states from which it does
   enters : (thread entered r : Thread) (locked′ : List Bool) → ((o : Setup) (s : State) → workerStep o t thread s ≡ enter t entered s)
-      → Entered thread entered (m .graph .locked) r locked′ → Within entered → Ready list kinds itemKeys itemChutes m thread
+      → Entered thread entered (m .graph .locked) r locked′ → NodesWithin entered → Ready list kinds itemKeys itemChutes m thread
       → Steps list t thread m kinds itemKeys itemChutes r (withArrays (m .graph .next) (m .graph .seq) (m .graph .executing) locked′ (m .graph .waits) (m .graph .free) m)
   unfolding moveTo
   enters thread entered r locked′ does steps within ready =
@@ -169,7 +169,7 @@ module _ (list kinds itemKeys itemChutes : List ℕ) (t : ℕ) (other : t ≡ 0 
   module _ (at : Node) where
     -- searching, walking and clearing are the model's: the functions along the chain ensure it of every state that the arrays show
     pub searching-steps : (r : Thread) (executing′ locked′ : List Bool) → Searches at (m .graph .next) (m .graph .executing) (m .graph .locked) (m .graph .waits) r executing′ locked′
-        → Within r → Ready list kinds itemKeys itemChutes m (Searching at)
+        → NodesWithin r → Ready list kinds itemKeys itemChutes m (Searching at)
         → Steps list t (Searching at) m kinds itemKeys itemChutes r (withArrays (m .graph .next) (m .graph .seq) executing′ locked′ (m .graph .waits) (m .graph .free) m)
     unfolding workerStep moveTo
     searching-steps r executing′ locked′ steps within ready =
@@ -179,7 +179,7 @@ module _ (list kinds itemKeys itemChutes : List ℕ) (t : ℕ) (other : t ≡ 0 
 
     module _ (own : Node) where
       pub walking-steps : (r : Thread) (next′ : List ℕ) (locked′ : List Bool) → Walks at own (m .graph .next) (m .graph .locked) r next′ locked′
-          → Within r → Nodes next′ → Ready list kinds itemKeys itemChutes m (Walking at own)
+          → NodesWithin r → Nodes next′ → Ready list kinds itemKeys itemChutes m (Walking at own)
           → Steps list t (Walking at own) m kinds itemKeys itemChutes r (withArrays next′ (m .graph .seq) (m .graph .executing) locked′ (m .graph .waits) (m .graph .free) m)
       unfolding workerStep moveTo
       walking-steps r next′ locked′ steps within nodes ready =
@@ -189,7 +189,7 @@ module _ (list kinds itemKeys itemChutes : List ℕ) (t : ℕ) (other : t ≡ 0 
 
       pub clearing-steps : (r : Thread) (free′ : ℕ) (next′ seq′ : List ℕ) (executing′ locked′ : List Bool) (waits′ : List (List ℕ)) (kinds′ : List ℕ)
           → ClearsOn at own (m .graph .free) (m .graph .next) (m .graph .seq) (m .graph .executing) (m .graph .locked) (m .graph .waits) r free′ next′ seq′ executing′ locked′ waits′
-          → Within r → free′ ≤ 150 → Nodes next′ → Kept (commandsIn list) (numbers seq′) kinds′ itemKeys itemChutes
+          → NodesWithin r → free′ ≤ 150 → Nodes next′ → Kept (commandsIn list) (numbers seq′) kinds′ itemKeys itemChutes
           → Ready list kinds itemKeys itemChutes m (Clearing at own)
           → Steps list t (Clearing at own) m kinds′ itemKeys itemChutes r (withArrays next′ seq′ executing′ locked′ waits′ free′ m)
       unfolding workerStep moveTo

@@ -3,7 +3,7 @@ ghost use mathlib.Core.Path.{_≡_};
 ghost use mathlib.Core.List.{List};
 ghost use Prim.Native.Nat.{ℕ, _≤_};
 ghost use Rattle.command.specs.declared.Command.{Command};
-ghost use Rattle.graph.specs.Arrays.{numbers, Nodes, Within, ClearsOn};
+ghost use Rattle.graph.specs.Arrays.{numbers, Nodes, NodesWithin, ClearsOn};
 ghost use Rattle.graph.specs.Items.{Kept};
 ghost use Rattle.graph.specs.Memory.{Ready, Steps, memory};
 ghost use Rattle.graph.specs.Worker.{WorkerReady};
@@ -42,7 +42,7 @@ fn clear_own(
     free: Node,
 ) -> Cleared
     requires { ⌜ Nodes (now next) × (at .0 ≤ 150) × (own .0 ≤ 150) × (free .0 ≤ 150) ⌝ }
-    ensures within { λ r. ⌜ Within (r .thread) × (r .free .0 ≤ 150) × Nodes (now (next .exit)) ⌝ }
+    ensures within { λ r. ⌜ NodesWithin (r .thread) × (r .free .0 ≤ 150) × Nodes (now (next .exit)) ⌝ }
     ensures steps { λ r. ⌜ ClearsOn at own (free .0) (now (next .entry)) (now (seq .entry)) (now (executing .entry)) (now (locked .entry)) (now (waits .entry)) (r .thread) (r .free .0) (now (next .exit)) (now (seq .exit)) (now (executing .exit)) (now (locked .exit)) (now (waits .exit)) ⌝ }
     ensures kept { λ _. ⌜ ((cs : List Command) (keys chutes : List ℕ) → Kept cs (numbers (now (seq .entry))) (now (kinds .entry)) keys chutes → Kept cs (numbers (now (seq .exit))) (now (kinds .exit)) keys chutes) ⌝ }
 {

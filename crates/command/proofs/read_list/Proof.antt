@@ -6,7 +6,7 @@ use mathlib.Core.List.{_∷_}
 use native.Mathlib.Omega.{arith}
 use borrow.Author.Needs.{needs}
 use lib.ListN.{length, drop, drop-of-length-le}
-use Rattle.command.specs.Read.{outcome, parts, partsOf, readings, firstRefusal}
+use Rattle.command.specs.Read.{commandOutcome, parts, partsOf, readings, firstRefusal}
 use Rattle.command.proofs.Parts.{readings-from}
 use Rattle.command.proofs.read_list.Statement.{statement}
 use Rattle.command.proofs.read_list.Tie as tie
@@ -22,7 +22,7 @@ next : (c : tie.After-read Inv-loop μ-loop) →
     let e = c .before .before in
     let l = e .before .before in
     let list = l .before .before .args .list .now in
-    firstRefusal (l .loop .seq) (outcome (c .read .result) ∷ readings (drop (e .smaller .result) list)) ≡ firstRefusal 1 (readings list)
+    firstRefusal (l .loop .seq) (commandOutcome (c .read .result) ∷ readings (drop (e .smaller .result) list)) ≡ firstRefusal 1 (readings list)
 next c =
     let e = c .before .before in
     let l = e .before .before in

@@ -11,7 +11,7 @@ use Rattle.command.specs.declared.Kind.{Kind}
 use Rattle.command.specs.declared.Kind.the-variants.{Insert, Delete, Read, Update}
 use Rattle.command.specs.declared.Command.{Command}
 use Rattle.command.proofs.Laws.{chute-that-fits}
-use Rattle.model.specs.Serial.{Entry, Served, present, chuteAt, serveKind, serve, answersFrom, serialAnswers}
+use Rattle.model.specs.Serial.{Entry, Served, present, chuteAt, serveKind, serve, answersAfter, serialAnswers}
 use Rattle.model.specs.Store.{layOut}
 use Rattle.model.specs.Setup.{Setup, commandAt}
 use Rattle.model.specs.Step.{opened, steps}
@@ -69,8 +69,8 @@ answer-fits Read capacity key chute es h = cond-cases (λ (s : Served). s .answe
 answer-fits Update capacity key chute es h = cond-cases (λ (s : Served). s .answer ≤ 1003) (present key es) (λ _. omega arith) (λ _. omega arith)
 
 answers-fit : (capacity : ℕ) (cs : List Command) (es : List Entry) (n : ℕ) → ChutesFit es
-    → ((j : ℕ) (c : Command) → getElem? cs j ≡ some c → c .chute ≤ 1003) → getD (answersFrom capacity cs es) n 0 ≤ 1003
-unfolding answersFrom serve
+    → ((j : ℕ) (c : Command) → getElem? cs j ≡ some c → c .chute ≤ 1003) → getD (answersAfter capacity cs es) n 0 ≤ 1003
+unfolding answersAfter serve
 answers-fit capacity [] es n h fit = omega arith
 answers-fit capacity (c ∷ cs) es zero h fit = answer-fits (c .kind) capacity (c .key) (c .chute) es h
 answers-fit capacity (c ∷ cs) es (suc n) h fit =

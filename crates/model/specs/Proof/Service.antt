@@ -14,7 +14,7 @@ use Rattle.command.specs.declared.Kind.the-variants.{Insert, Delete, Read, Upda
 use Rattle.command.specs.declared.Command.{Command}
 use Rattle.command.specs.Dependent.{areDependent}
 use Rattle.model.specs.Serial.{Entry, Served, present, serveKind, serve}
-use Rattle.model.specs.Serial.{entriesAfter, answersFrom, serialAnswers, serialEntries}
+use Rattle.model.specs.Serial.{entriesAfter, answersAfter, serialAnswers, serialEntries}
 use Rattle.model.specs.Upd.{upd}
 use Rattle.model.specs.Setup.{Setup, commandAt}
 use Rattle.model.specs.Statement.{Accepted, EachCommand, serialAnswer}
@@ -53,8 +53,8 @@ command-placed cs k c p = let q : k ≡ suc (p .offset) = omega arith in rw q (p
 -- ---- the serial run is the full run
 
 -- "There is one answer a command."
-answers-length : (capacity : ℕ) (cs : List Command) (es : List Entry) → length (answersFrom capacity cs es) ≡ length cs
-unfolding answersFrom
+answers-length : (capacity : ℕ) (cs : List Command) (es : List Entry) → length (answersAfter capacity cs es) ≡ length cs
+unfolding answersAfter
 answers-length capacity [] es = refl
 answers-length capacity (c ∷ cs) es = ap suc (answers-length capacity cs (serve capacity c es .entries))
 
@@ -64,8 +64,8 @@ serial-length capacity cs = answers-length capacity cs []
 
 -- the answer to a command is its reply in the full run
 answer-at : (capacity : ℕ) (cs : List Command) (n : ℕ) (c : Command) (es : List Entry) → getElem? cs n ≡ some c
-    → getD (answersFrom capacity cs es) n 0 ≡ replyOf capacity c (run (effectOf capacity) (take n cs) es)
-unfolding answersFrom run
+    → getD (answersAfter capacity cs es) n 0 ≡ replyOf capacity c (run (effectOf capacity) (take n cs) es)
+unfolding answersAfter run
 answer-at capacity [] n c es e = absurd (none-some none refl e)
 answer-at capacity (b ∷ cs) zero c es e = let q : b ≡ c = cc in ap (λ (x : Command). replyOf capacity x es) q
 answer-at capacity (b ∷ cs) (suc n) c es e = answer-at capacity cs n c (effectOf capacity b es) e
@@ -149,8 +149,8 @@ answer-positive Read capacity key chute es h = cond-cases (λ (s : Served). 1 �
 answer-positive Update capacity key chute es h = cond-cases (λ (s : Served). 1 ≤ s .answer) (present key es) (λ _. omega arith) (λ _. omega arith)
 
 answers-positive : (capacity : ℕ) (cs : List Command) (es : List Entry) (n : ℕ) → AllPositive es
-    → ((j : ℕ) (c : Command) → getElem? cs j ≡ some c → BringsPositive (c .kind) (c .chute)) → n < length cs → 1 ≤ getD (answersFrom capacity cs es) n 0
-unfolding answersFrom serve
+    → ((j : ℕ) (c : Command) → getElem? cs j ≡ some c → BringsPositive (c .kind) (c .chute)) → n < length cs → 1 ≤ getD (answersAfter capacity cs es) n 0
+unfolding answersAfter serve
 answers-positive capacity [] es n h fit l = absurd (omega arith)
 answers-positive capacity (c ∷ cs) es zero h fit l = answer-positive (c .kind) capacity (c .key) (c .chute) es h
 answers-positive capacity (c ∷ cs) es (suc n) h fit l =

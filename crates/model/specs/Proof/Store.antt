@@ -11,7 +11,7 @@ use lib.Seq.{getD-append-add, take-append-seam, drop-append-seam, drop-append-ad
 use lib.Dec.{eqb, ltb}
 use borrow.Author.Tests.{ltb-true, ltb-false, lt-ltb, le-ltb, lt-leb, eq-eqb, ne-eqb}
 use Rattle.model.specs.Serial.{Entry, present, chuteAt, putIn, takeOut, setChute}
-use Rattle.model.specs.Store.{Store, layOut, room, inUse, halve, placeOf, holds, lookUp, shiftUp, shiftDown, insert, remove, replace}
+use Rattle.model.specs.Store.{Store, layOut, room, inUse, halve, keyPlace, holds, lookUp, shiftUp, shiftDown, insert, remove, replace}
 use Rattle.model.specs.Proof.Serial.{All, Ascending, all-map, chuteAt-absent}
 
 -- The test on two numbers, as a case distinction.
@@ -250,8 +250,8 @@ module _ (capacity : ℕ) (es : List Entry) (fits : length es ≤ capacity) wher
 
 -- The search finds the place after the smaller keys.
 pub placeOf-layOut : (capacity key : ℕ) (front back : List Entry) → length (front ++ back) ≤ capacity
-    → AllSmaller key front → All (λ (e : Entry). key ≤ e .key) back → placeOf key (layOut capacity (front ++ back)) ≡ length front
-unfolding placeOf layOut
+    → AllSmaller key front → All (λ (e : Entry). key ≤ e .key) back → keyPlace key (layOut capacity (front ++ back)) ≡ length front
+unfolding keyPlace layOut
 placeOf-layOut capacity key front back fits s g =
     let n = length (front ++ back) in
     let long = length-append front back in
@@ -269,7 +269,7 @@ placeOf-layOut capacity key front back fits s g =
 -- What the store's operations do where the key is held.
 module _ (capacity key : ℕ) (front back : List Entry) (chute : ℕ) (s : AllSmaller key front) (g : AllLarger key back)
     (fits : length (front ++ entry key chute ∷ back) ≤ capacity) where
-  pub placeOf-held : placeOf key (layOut capacity (front ++ entry key chute ∷ back)) ≡ length front
+  pub placeOf-held : keyPlace key (layOut capacity (front ++ entry key chute ∷ back)) ≡ length front
   placeOf-held = placeOf-layOut capacity key front (entry key chute ∷ back) fits s (omega arith, all-map (λ e l. omega arith) back g)
 
   pub holds-held : holds key (layOut capacity (front ++ entry key chute ∷ back)) ≡ true
@@ -300,7 +300,7 @@ module _ (capacity key : ℕ) (front back : List Entry) (chute : ℕ) (s : AllSm
 -- What they do where the key is missing: the place where it belongs has a larger key, or is past the last in use.
 module _ (capacity key : ℕ) where
   pub placeOf-missing : (front back : List Entry) → AllSmaller key front → AllLarger key back → length (front ++ back) ≤ capacity
-      → placeOf key (layOut capacity (front ++ back)) ≡ length front
+      → keyPlace key (layOut capacity (front ++ back)) ≡ length front
   placeOf-missing front back s g fits = placeOf-layOut capacity key front back fits s (all-map (λ e l. omega arith) back g)
 
   pub holds-missing : (front back : List Entry) → AllSmaller key front → AllLarger key back → length (front ++ back) ≤ capacity

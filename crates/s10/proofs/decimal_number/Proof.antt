@@ -5,15 +5,15 @@ use mathlib.Core.Path.{_≡_, refl}
 use mathlib.Core.List.{List}
 use native.Mathlib.Omega.{arith}
 use lib.ListN.{length, drop, getD, drop-of-length-le}
-use Rattle.s10.specs.Text.{decimal}
-use Rattle.s10.specs.Parts.{Serial, Within, values}
+use Rattle.s10.specs.Text.{decimalNumber}
+use Rattle.s10.specs.Parts.{Serial, Between, values}
 use Rattle.s10.proofs.Decimal.{decimal-step, decimal-ge}
 use Rattle.s10.proofs.Values.{length-values, getD-values, serial-number-below}
 use Rattle.s10.proofs.decimal_number.Statement.{statement}
 use Rattle.s10.proofs.decimal_number.Tie as tie
 
 abbrev Inv-loop : tie.InvT-loop
-Inv-loop digits n₀ k₀ n k = (k ≤ length digits) × (decimal n (drop k (values digits)) ≡ decimal 0 (values digits))
+Inv-loop digits n₀ k₀ n k = (k ≤ length digits) × (decimalNumber n (drop k (values digits)) ≡ decimalNumber 0 (values digits))
 
 abbrev μ-loop : tie.MeasureT-loop
 μ-loop digits n₀ k₀ n k = length digits - k
@@ -21,11 +21,11 @@ abbrev μ-loop : tie.MeasureT-loop
 -- one more digit in the number
 abbrev Step : List ℕ → ℕ → ℕ → Type 0
 Step text n k =
-    (decimal (n * 10 + (getD text k 0 - 48)) (drop (k + 1) (values text)) ≡ decimal 0 (values text))
+    (decimalNumber (n * 10 + (getD text k 0 - 48)) (drop (k + 1) (values text)) ≡ decimalNumber 0 (values text))
     × (n * 10 + (getD text k 0 - 48) < 100_000_000)
 
 -- the k-th digit goes over to the number, which stays under its bound
-number-step : (text : List ℕ) (n k : ℕ) → Serial text → k < length text → decimal n (drop k (values text)) ≡ decimal 0 (values text) →
+number-step : (text : List ℕ) (n k : ℕ) → Serial text → k < length text → decimalNumber n (drop k (values text)) ≡ decimalNumber 0 (values text) →
     Step text n k
 number-step text n k s h inv =
     let long = length-values text in
@@ -36,7 +36,7 @@ number-step text n k s h inv =
 
 -- the character at k is a digit
 digit : (c : tie.In-loop Inv-loop μ-loop) →
-    Within 48 57 (getD (c .before .before .args .digits .now) (c .before .loop .k) 0)
+    Between 48 57 (getD (c .before .before .args .digits .now) (c .before .loop .k) 0)
 digit c = c .before .before .pre .digit (c .before .loop .k) (c .loop-test .taken)
 
 next : (c : tie.In-loop Inv-loop μ-loop) → Step (c .before .before .args .digits .now) (c .before .loop .n) (c .before .loop .k)
@@ -72,7 +72,7 @@ loop-again : tie.Need-loop-again Inv-loop μ-loop
 loop-again c = (omega arith, next (c .before) .0)
 
 returns : tie.Need-returns Inv-loop μ-loop
-unfolding decimal
+unfolding decimalNumber
 returns c =
     let s = c .before .before in
     let long = length-values (s .args .digits .now) in

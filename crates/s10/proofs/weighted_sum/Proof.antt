@@ -5,7 +5,7 @@ use mathlib.Core.List.{List}
 use native.Mathlib.Omega.{arith}
 use lib.ListN.{drop, getD}
 use Rattle.s10.specs.Text.{weights, weighted}
-use Rattle.s10.specs.Parts.{Serial, Within, values}
+use Rattle.s10.specs.Parts.{Serial, Between, values}
 use Rattle.s10.proofs.Values.{length-values, getD-values}
 use Rattle.s10.proofs.Weighted.{weighted-step, weighted-bound}
 use Rattle.s10.proofs.weighted_sum.Statement.{statement}
@@ -51,7 +51,7 @@ shared-slice-read-sum c = omega arith
 
 -- the character at k is a digit
 digit : (c : tie.In-loop Inv-loop μ-loop) →
-    Within 48 57 (getD (c .before .before .args .digits .now) (c .before .loop .k) 0)
+    Between 48 57 (getD (c .before .before .args .digits .now) (c .before .loop .k) 0)
 digit c = c .before .before .pre .digit (c .before .loop .k) (omega arith)
 
 next : (c : tie.In-loop Inv-loop μ-loop) → Step (c .before .before .args .digits .now) (c .before .loop .sum) (c .before .loop .k)

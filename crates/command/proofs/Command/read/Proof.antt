@@ -82,7 +82,7 @@ identified : (c : tie.After-read) →
     let e = c .before .before in
     let k = e .before .before in
     let part = k .before .before .before .before .before .before .args .part .now in
-    readCommand part ≡ withChute (k .kind .given .0 .0) (Identifier.outcome (c .read .result)) (drop (e .smaller .result) part)
+    readCommand part ≡ withChute (k .kind .given .0 .0) (Identifier.textOutcome (c .read .result)) (drop (e .smaller .result) part)
 unfolding withKind
 identified c =
     let e = c .before .before in

@@ -9,7 +9,7 @@ use lib.ListN.{length}
 use borrow.Author.Tests.{not-true, not-false}
 use Rattle.model.specs.Statement.{allWithin}
 use Rattle.state_bytes.specs.Layout.{Lists, lists, stateLength, setupIn, stateFits, handedBackFit}
-use Rattle.controller.specs.Performed.{Passes}
+use Rattle.controller.specs.Performed.{CallPasses}
 use Rattle.state_bytes.proofs.Passed as Passed
 use Rattle.controller.proofs.Handed.{workers-in}
 use Rattle.controller.proofs.Advancing.{refuses-lengths, refuses-state, refuses-thread, accepts, refused-so, accepted-so}
@@ -101,7 +101,7 @@ returns-3 c =
     refused-so (given start) (commandsOf start) (scheduleOf start) 11 (refuses-thread _ _ _ (lengths-passed (c .before .before .before .before .before .before .before)) (state-passed (c .before .before .before)) (named-is (c .before) ∙ not-true _ (c .if3 .taken)))
 
 -- all three tests pass
-passes : (c : tie.Else3) → Passes (given (entry3 (c .before))) (commandsOf (entry3 (c .before))) (scheduleOf (entry3 (c .before)))
+passes : (c : tie.Else3) → CallPasses (given (entry3 (c .before))) (commandsOf (entry3 (c .before))) (scheduleOf (entry3 (c .before)))
 passes c = record { lengths = lengths-passed (c .before .before .before .before .before .before .before); state = state-passed (c .before .before .before); named = named-is (c .before) ∙ not-false _ (c .if3 .left) }
 
 run-requires : tie.Need-run-requires

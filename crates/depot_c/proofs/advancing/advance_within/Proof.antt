@@ -4,8 +4,8 @@ use borrow.Author.Needs.{needs}
 use mathlib.Core.Path.{_≡_, _∙_}
 use lib.ListN.{length}
 use Rattle.state_bytes.specs.Layout.{Lists, lists}
-use Rattle.controller.specs.Calls.{Outcome, advanceOn}
-use Rattle.depot_c.specs.Boundary.{entries, answerOf}
+use Rattle.controller.specs.Calls.{CallOutcome, advanceOn}
+use Rattle.depot_c.specs.Boundary.{numberLists, answerOf}
 use Rattle.depot_c.proofs.Outcomes.{advance-place, entries-read-back, answer-on, written-on, refused-on}
 use Rattle.depot_c.proofs.advancing.advance_within.Statement.{statement}
 use Rattle.depot_c.proofs.advancing.advance_within.Tie as tie
@@ -24,12 +24,12 @@ abbrev entry : tie.After-number → tie.Start
 entry c = start (read (called c))
 
 -- the proved call on the numbers of the lists that the function gets
-abbrev outcome : tie.Start → Lists → Outcome
+abbrev outcome : tie.Start → Lists → CallOutcome
 outcome c l = advanceOn l (c .args .commands .now) (c .args .schedule .now)
 
 -- its answer is the one on the entries
 answer-is : (c : tie.After-number)
-    → c .number .result ≡ answerOf (outcome (entry c) (entries (lists (entry c .args .state .now) (entry c .args .keys .now) (entry c .args .chutes .now) (entry c .args .answers .now))))
+    → c .number .result ≡ answerOf (outcome (entry c) (numberLists (lists (entry c .args .state .now) (entry c .args .keys .now) (entry c .args .chutes .now) (entry c .args .answers .now))))
 answer-is c =
     let args = entry c .args in
     c .number .ensures .0 ∙ omega arith ∙ answer-on (args .state .now) (args .keys .now) (args .chutes .now) (args .answers .now) (outcome (entry c)) (read (called c) .read-lists .ensures)

@@ -7,7 +7,7 @@ use mathlib.Core.List.{List}
 use Prim.Native.Nat.{ℕ}
 use Rattle.s10.specs.declared.Reading.{Reading}
 use Rattle.s10.specs.declared.Reading.the-variants.{Key, Malformed, WrongCheckDigit}
-use Rattle.s10.specs.Outcome.{outcome}
+use Rattle.s10.specs.Outcome.{textOutcome}
 use Rattle.state_bytes.specs.Bytes.{bytesOf}
 use Rattle.state_bytes.proofs.Bytes.{bytes-length}
 use Rattle.depot_c.specs.Boundary.{numberRead, keyRead, bytesRead, readAnswer, readLeft}
@@ -16,14 +16,14 @@ use Rattle.depot_c.proofs.identifiers.depot_read_identifier.Statement.{
 use Rattle.depot_c.proofs.identifiers.depot_read_identifier.Tie as tie
 
 -- an accepted text leaves its key
-accepted-left : (r : Reading) (old : List ℕ) → numberRead (outcome r) ≡ 0 → bytesRead (outcome r) old ≡ bytesOf 8 (keyRead (outcome r))
+accepted-left : (r : Reading) (old : List ℕ) → numberRead (textOutcome r) ≡ 0 → bytesRead (textOutcome r) old ≡ bytesOf 8 (keyRead (textOutcome r))
 unfolding bytesRead
 accepted-left (Key key) old e = refl
 accepted-left Malformed old e = absurd (omega arith)
 accepted-left WrongCheckDigit old e = absurd (omega arith)
 
 -- a refused one leaves what was there
-refused-left : (r : Reading) (old : List ℕ) → (numberRead (outcome r) ≡ 0 → ⊥) → bytesRead (outcome r) old ≡ old
+refused-left : (r : Reading) (old : List ℕ) → (numberRead (textOutcome r) ≡ 0 → ⊥) → bytesRead (textOutcome r) old ≡ old
 unfolding bytesRead
 refused-left (Key key) old e = absurd (e refl)
 refused-left Malformed old e = refl

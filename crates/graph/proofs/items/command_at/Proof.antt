@@ -12,7 +12,7 @@ use types.Run.{OneOf}
 use Rattle.command.specs.declared.Kind.the-variants.{Read}
 use Rattle.command.specs.declared.Reading.{Reading}
 use Rattle.command.specs.declared.Reading.the-variants.{Read as Accepted, UnknownKind, Malformed, WrongCheckDigit, WrongChute}
-use Rattle.command.specs.Read.{outcome, commandFrom, commandsIn}
+use Rattle.command.specs.Read.{commandOutcome, commandFrom, commandsIn}
 use Rattle.command.proofs.Reading.{the-type}
 use Rattle.model.specs.Setup.{commandAt}
 use Rattle.graph.proofs.Commands.{command-is}
@@ -45,7 +45,7 @@ not-first : OneOf (1 ∷ 2 ∷ 3 ∷ 4 ∷ []) 0 → ⊥
 not-first = ⊎-elim (λ e. omega arith) (⊎-elim (λ e. omega arith) (⊎-elim (λ e. omega arith) (λ e. omega arith)))
 
 -- a reading at one of the other places is no command
-refused-reads : (r : Reading) → OneOf (1 ∷ 2 ∷ 3 ∷ 4 ∷ []) (tagOf the-type r) → record { kind = Read; key = 0; chute = 0 } ≡ commandFrom (outcome r)
+refused-reads : (r : Reading) → OneOf (1 ∷ 2 ∷ 3 ∷ 4 ∷ []) (tagOf the-type r) → record { kind = Read; key = 0; chute = 0 } ≡ commandFrom (commandOutcome r)
 unfolding commandFrom
 refused-reads (Accepted c) e = absurd (not-first e)
 refused-reads UnknownKind e = refl
@@ -56,7 +56,7 @@ refused-reads WrongChute e = refl
 -- the reading is that of the sixteen bytes that end with the command's place
 part-read : (c : tie.After-read) →
     let a = c .before .before .before .before .args in
-    commandAt (commandsIn (a .list .now)) (a .place .0) ≡ some (commandFrom (outcome (c .read .result)))
+    commandAt (commandsIn (a .list .now)) (a .place .0) ≡ some (commandFrom (commandOutcome (c .read .result)))
 part-read c =
     let start = c .before .before .before .before in
     let a = start .args in

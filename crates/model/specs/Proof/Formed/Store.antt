@@ -11,7 +11,7 @@ use lib.Dec.{eqb, leb, ltb}
 use borrow.Author.Tests.{ltb-true, leb-false}
 use Rattle.command.specs.declared.Kind.{Kind}
 use Rattle.command.specs.declared.Kind.the-variants.{Insert, Delete, Read, Update}
-use Rattle.model.specs.Store.{Store, layOut, room, inUse, halve, placeOf, holds, lookUp, shiftUp, shiftDown, insert, remove, replace}
+use Rattle.model.specs.Store.{Store, layOut, room, inUse, halve, keyPlace, holds, lookUp, shiftUp, shiftDown, insert, remove, replace}
 use Rattle.model.specs.Service.{Write, writeKind}
 use Rattle.model.specs.Proof.Tests.{neither}
 use Rattle.model.specs.Proof.Store.{keyOf, chuteOf, length-laid}
@@ -74,14 +74,14 @@ halve-within keys key (suc n) low high h = by (ltb low high) _ refl (halve-withi
     by true false e go = omega (arith, go low middle (omega arith))
     by false b e go = omega (arith, go low middle (omega arith))
 
-pub placeOf-within : (key : ℕ) (st : Store) → placeOf key st ≤ inUse st
-unfolding placeOf
+pub placeOf-within : (key : ℕ) (st : Store) → keyPlace key st ≤ inUse st
+unfolding keyPlace
 placeOf-within key st = halve-within (st .keys) key (inUse st) 0 (inUse st) (omega arith)
 
 -- a key that is held has a place in use
-pub held-in-use : (key : ℕ) (st : Store) → holds key st ≡ true → placeOf key st < inUse st
+pub held-in-use : (key : ℕ) (st : Store) → holds key st ≡ true → keyPlace key st < inUse st
 unfolding holds
-held-in-use key st h = ltb-true _ _ (and-eq-true-iff (ltb (placeOf key st) (inUse st)) _ .0 h .0)
+held-in-use key st h = ltb-true _ _ (and-eq-true-iff (ltb (keyPlace key st) (inUse st)) _ .0 h .0)
 
 -- shifting up moves the first n elements within a list that has a place more, shifting down within a list that has n
 pub shiftUp-length : (p n v : ℕ) (l : List ℕ) → p ≤ n → n < length l → length (shiftUp p n v l) ≡ length l
@@ -139,7 +139,7 @@ module _ {capacity : ℕ} (st : Store) (k : StoreFormed capacity st) where
   -- a lookup finds an element, or 0
   pub lookUp-fits : (key : ℕ) → lookUp key st < 65536
   unfolding lookUp
-  lookUp-fits key = either (λ (n : ℕ). n < 65536) (holds key st) (λ _. k .chutes-fit (placeOf key st)) (λ _. omega arith)
+  lookUp-fits key = either (λ (n : ℕ). n < 65536) (holds key st) (λ _. k .chutes-fit (keyPlace key st)) (λ _. omega arith)
 
   -- inserting adds a place in use only where one is left
   pub insert-formed : (key chute : ℕ) → chute < 65536 → StoreFormed capacity (insert key chute st)
@@ -151,10 +151,10 @@ module _ {capacity : ℕ} (st : Store) (k : StoreFormed capacity st) where
       let place = placeOf-within key st in
       let fits : inUse st < capacity = omega (arith, room-capacity) in
       record {
-        keys-length = shiftUp-length (placeOf key st) (inUse st) key (st .keys) place (omega (arith, k .keys-length)) ∙ k .keys-length;
-        chutes-length = shiftUp-length (placeOf key st) (inUse st) chute (st .chutes) place (omega (arith, k .chutes-length)) ∙ k .chutes-length;
+        keys-length = shiftUp-length (keyPlace key st) (inUse st) key (st .keys) place (omega (arith, k .keys-length)) ∙ k .keys-length;
+        chutes-length = shiftUp-length (keyPlace key st) (inUse st) chute (st .chutes) place (omega (arith, k .chutes-length)) ∙ k .chutes-length;
         used-fits = omega arith;
-        chutes-fit = shiftUp-fit (placeOf key st) (inUse st) chute (st .chutes) f (k .chutes-fit);
+        chutes-fit = shiftUp-fit (keyPlace key st) (inUse st) chute (st .chutes) f (k .chutes-fit);
       })
 
   -- removing shifts within the places in use, of which a held key's is one
@@ -166,10 +166,10 @@ module _ {capacity : ℕ} (st : Store) (k : StoreFormed capacity st) where
       let place = held-in-use key st e in
       let fits : inUse st ≤ capacity = omega (arith, inUse-used, k .used-fits) in
       record {
-        keys-length = shiftDown-length (placeOf key st) (inUse st) (st .keys) place (omega (arith, k .keys-length)) ∙ k .keys-length;
-        chutes-length = shiftDown-length (placeOf key st) (inUse st) (st .chutes) place (omega (arith, k .chutes-length)) ∙ k .chutes-length;
+        keys-length = shiftDown-length (keyPlace key st) (inUse st) (st .keys) place (omega (arith, k .keys-length)) ∙ k .keys-length;
+        chutes-length = shiftDown-length (keyPlace key st) (inUse st) (st .chutes) place (omega (arith, k .chutes-length)) ∙ k .chutes-length;
         used-fits = omega arith;
-        chutes-fit = shiftDown-fit (placeOf key st) (inUse st) (st .chutes) (k .chutes-fit);
+        chutes-fit = shiftDown-fit (keyPlace key st) (inUse st) (st .chutes) (k .chutes-fit);
       })
       (λ _. k)
 
@@ -180,9 +180,9 @@ module _ {capacity : ℕ} (st : Store) (k : StoreFormed capacity st) where
       either (StoreFormed capacity) (holds key st)
       (λ _. record {
         keys-length = k .keys-length;
-        chutes-length = length-set (st .chutes) (placeOf key st) chute ∙ k .chutes-length;
+        chutes-length = length-set (st .chutes) (keyPlace key st) chute ∙ k .chutes-length;
         used-fits = k .used-fits;
-        chutes-fit = set-fit (st .chutes) (placeOf key st) chute f (k .chutes-fit);
+        chutes-fit = set-fit (st .chutes) (keyPlace key st) chute f (k .chutes-fit);
       })
       (λ _. k)
 
