@@ -14,7 +14,7 @@ pub fn answers_from<'a>(answers: &'a [u16], from: Seq) -> &'a [u16]
     let n = answers.len();
     let place = from.0;
     if place == 0 {
-        return &answers[n..];
+        return &answers[n..]; // no command has place 0
     }
     if place > n {
         return &answers[n..];
