@@ -1,6 +1,6 @@
 -- The marked cases, proved: (a) to (j) by computation; (k) and (l) by what the model's steps reach from the input, by computation too.
 -- Assumes nothing.
-use Prim.Native.Nat.{ℕ, _+_}
+use Prim.Native.Nat.{ℕ}
 use native.Mathlib.Omega.{arith}
 use mathlib.Core.Path.{_≡_, refl}
 use mathlib.Core.Bool.{true}

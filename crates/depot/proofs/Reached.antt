@@ -3,33 +3,25 @@
 use Prim.Native.Nat.{ℕ, suc, _+_}
 use native.Mathlib.Omega.{arith}
 use mathlib.Core.Path.{_≡_, refl, ap, ap₂, _∙_}
-use mathlib.Core.Bool.{true}
 use mathlib.Core.List.{List, _++_, append-assoc}
-use lib.ListN.{length, getD, take}
-use Rattle.s10.specs.Text.{isWellFormed, checkDigit, keyOf}
-use Rattle.s10.specs.Outcome.{readText}
-use Rattle.command.specs.Read.{firstRefusal, readings, commandFrom, commandsIn}
-use Rattle.command.specs.Dependent.{areDependent}
-use Rattle.node_set.specs.Members.{noneBelow}
-use Rattle.model.specs.Store.{Store, layOut, lookUp, insert}
+use lib.ListN.{length, getD}
+use Rattle.model.specs.Store.{Store, layOut}
 use Rattle.model.specs.Serial.{Entry, serialAnswers}
 use Rattle.model.specs.Proof.Service.{serial-length}
 use Rattle.model.specs.Proof.Theorem.{all-serial, none-linked, demand-3}
-use Rattle.model.specs.Statement.{allWithin, serialAnswer}
-use Rattle.model.specs.Upd.{upd}
+use Rattle.model.specs.Statement.{serialAnswer}
 use Rattle.model.specs.Setup.{Setup}
-use Rattle.model.specs.Graph.{chainFrom}
-use Rattle.model.specs.Step.{State, opened, steps}
-use Rattle.state_bytes.specs.Bytes.{numberAt, tabulate, fields}
-use Rattle.state_bytes.specs.Layout.{listsOf, stateIn, stateLength, lengthsFit}
-use Rattle.controller.specs.Calls.{accepted, openedWith, openOn}
+use Rattle.model.specs.Step.{State}
+use Rattle.state_bytes.specs.Bytes.{tabulate}
+use Rattle.state_bytes.specs.Layout.{listsOf, stateIn}
+use Rattle.controller.specs.Calls.{accepted}
 use Rattle.state_bytes.proofs.RoundTrip.{lists-answers}
 use Rattle.state_bytes.proofs.Bytes.{tabulate-is}
 use Rattle.controller.proofs.AcceptedOpening.{accepted-opening}
 use Rattle.controller.proofs.Demand3.{opening-performs}
 use Rattle.depot.specs.Text.{ascii}
-use Rattle.depot.specs.Program.{newline, decimalWithin, decimal, zeros, commandLine, commandLines, totals, report, printed, advanced, sizeOf, workersOf, capacityOf, commandsOf, scheduleOf, opening, performed}
-use Rattle.depot.specs.Reached.{inputSetup, reached, InputPasses, PrintsReached, PrintsSerial}
+use Rattle.depot.specs.Program.{newline, decimalWithin, decimal, commandLines, totals, report, printed, advanced, sizeOf, workersOf, capacityOf, commandsOf, scheduleOf, performed}
+use Rattle.depot.specs.Reached.{inputSetup, reached, PrintsReached, PrintsSerial}
 use Rattle.depot.proofs.Chain.{chain-ends}
 use Rattle.depot.proofs.Output.{output-performed}
 

@@ -13,7 +13,7 @@ use Rattle.command.specs.declared.Kind.the-variants.{Insert, Read, Update}
 use Rattle.command.specs.declared.Command.{Command}
 use Rattle.command.specs.Dependent.{areDependent}
 use Rattle.model.specs.Serial.{Entry, serve}
-use Rattle.model.specs.Store.{Store, layOut, lookUp}
+use Rattle.model.specs.Store.{layOut, lookUp}
 use Rattle.model.specs.Service.{Write, write, writeKind}
 use Rattle.depot.specs.Text.{ascii}
 use Rattle.depot.specs.Program.{output}

@@ -12,7 +12,7 @@ use Rattle.command.specs.Dependent.{areDependent}
 use Rattle.model.specs.Upd.{upd}
 use Rattle.model.specs.Setup.{Setup, commandAt}
 use Rattle.model.specs.Serial.{Entry, serve, chuteAt}
-use Rattle.model.specs.Store.{Store, layOut, lookUp}
+use Rattle.model.specs.Store.{layOut, lookUp}
 use Rattle.model.specs.Service.{Service, openedService, foundFor, write, writeKind, writeFor}
 use Rattle.model.specs.Statement.{Accepted, EachCommand, serialAnswer}
 use Rattle.model.specs.Proof.Tests.{true-false, none-some}

@@ -3,18 +3,15 @@
 -- threads. The clauses stand in groups; a group names just the parts of the state that it speaks of. Assumes nothing.
 use Prim.Native.Nat.{ℕ, suc, _≤_, _<_}
 use mathlib.Core.Path.{_≡_}
-use mathlib.Core.Bool.{Bool, true, false, cond}
+use mathlib.Core.Bool.{Bool, true, false}
 use mathlib.Core.List.{List, [], _∷_}
 use mathlib.Core.Option.{Option, none, some}
 use mathlib.Core.Logic.{_⊎_}
 use lib.ListN.{length}
 use Rattle.model.specs.declared.Thread.{Thread}
 use Rattle.model.specs.declared.Thread.the-variants.{Idle, Loading, Searching, Holding, LookedUp, Written, Walking, Clearing}
-use Rattle.model.specs.Store.{Store, layOut}
 use Rattle.model.specs.Setup.{Setup, commandAt, bothDependent}
-use Rattle.model.specs.Service.{foundFor}
 use Rattle.model.specs.Step.{State}
-use Rattle.model.specs.Statement.{EachCommand, serialAnswer}
 use Rattle.model.specs.Proof.Consistent.{Consistent}
 
 -- ---- what a thread's state says

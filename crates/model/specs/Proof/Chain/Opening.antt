@@ -8,7 +8,6 @@ use mathlib.Core.List.{List, [], _∷_}
 use mathlib.Core.Option.{none, some}
 use mathlib.Core.Logic.{_⊎_, inl, inr, ⊎-elim}
 use borrow.Author.Tests.{le-leb, lt-ltb, le-ltb}
-use Rattle.model.specs.Store.{layOut}
 use Rattle.model.specs.Setup.{Setup}
 use Rattle.model.specs.Graph.{firstNext, noNode, openedGraph}
 use Rattle.model.specs.Step.{opened}

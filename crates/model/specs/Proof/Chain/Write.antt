@@ -4,7 +4,6 @@ use Prim.Native.Nat.{ℕ, _≤_, _<_}
 use native.Mathlib.Omega.{arith}
 use mathlib.Core.Path.{_≡_, refl, sym, ap, _∙_}
 use mathlib.Core.Bool.{Bool, true, false}
-use mathlib.Core.List.{List}
 use mathlib.Core.Option.{Option, none, some}
 use mathlib.Core.Logic.{_⊎_, inl, inr, ⊎-elim}
 use Rattle.command.specs.declared.Command.{Command}
@@ -13,19 +12,15 @@ use Rattle.command.proofs.Laws.{dependence-is-symmetric}
 use Rattle.node_set.specs.declared.Node.{Node}
 use Rattle.model.specs.declared.Thread.{Thread}
 use Rattle.model.specs.declared.Thread.the-variants.{LookedUp, Written}
-use Rattle.model.specs.Serial.{Entry, serve, chuteAt}
-use Rattle.model.specs.Store.{layOut, lookUp}
 use Rattle.model.specs.Upd.{upd}
 use Rattle.model.specs.Setup.{Setup, commandAt, bothDependent}
-use Rattle.model.specs.Service.{foundFor, write, writeKind, writeFor}
+use Rattle.model.specs.Service.{foundFor, writeFor}
 use Rattle.model.specs.Step.{State, node, commandOf, lookedUp, serveTo}
-use Rattle.model.specs.Statement.{Accepted, serialAnswer}
+use Rattle.model.specs.Statement.{Accepted}
 use Rattle.model.specs.Proof.Tests.{fails, true-false, none-some}
 use Rattle.model.specs.Proof.Upd.{upd-same, upd-other, upd-at, upd-cases, upd-map}
-use Rattle.model.specs.Proof.Commute.{look-keeps}
-use Rattle.model.specs.Proof.Store.{trichotomy, lookUp-is-chuteAt}
-use Rattle.model.specs.Proof.Write.{written-as-served}
-use Rattle.model.specs.Proof.Service.{EarlierIn, entriesOf, served-next, closed-next, entries-ascending, entries-fit, entries-positive}
+use Rattle.model.specs.Proof.Store.{trichotomy}
+use Rattle.model.specs.Proof.Service.{EarlierIn}
 use Rattle.model.specs.Proof.Consistent.{written-service, written-consistent}
 use Rattle.model.specs.Proof.Chain.Invariant.{Ghost, Inv, Progress, at, loads, executes, clears, done, looked, found}
 use Rattle.model.specs.Proof.Chain.Ghost.{writing}
@@ -73,9 +68,6 @@ module _ (o : Setup) (acc : Accepted o) (s : State) (g : Ghost) (i : Inv o s g) 
 
   abbrev v : Thread
   v = Written (node n)
-
-  abbrev es : List Entry
-  es = entriesOf o (g .written)
 
   abbrev written′ : ℕ → Bool
   written′ = upd (g .written) c true

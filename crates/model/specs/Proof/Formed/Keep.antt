@@ -13,8 +13,8 @@ use Rattle.model.specs.declared.Thread.{Thread}
 use Rattle.model.specs.declared.Thread.the-variants.{Idle, Loading, Searching, Holding, LookedUp, Written, Walking, Clearing}
 use Rattle.model.specs.Upd.{upd}
 use Rattle.model.specs.Setup.{Setup, commandAt, bothDependent}
-use Rattle.model.specs.Graph.{Graph, noNode, setLocked}
-use Rattle.model.specs.Service.{Service, foundFor, writeKind, writeFor}
+use Rattle.model.specs.Graph.{Graph, noNode}
+use Rattle.model.specs.Service.{Service, foundFor, writeFor}
 use Rattle.model.specs.Step.{State, node, moveTo, serveTo, commandOf, stepOn, load, loaderIdle, link, addDependence, loaderWalk, loaderStep}
 use Rattle.model.specs.Step.{enter, ready, examine, leave, searching, holding, lookedUp, bypass, walking, return, clearing, workerStep, step, steps}
 use Rattle.model.specs.Statement.{allWithin}
