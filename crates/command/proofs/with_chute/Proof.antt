@@ -9,6 +9,10 @@ use Rattle.command.specs.Read.{accepted, refused, chuteOf, withChute}
 use Rattle.command.proofs.with_chute.Statement.{statement}
 use Rattle.command.proofs.with_chute.Tie as tie
 
+-- the function's entry, from the call that reads the chute
+abbrev entry : tie.After-number-of → tie.Start
+entry c = c .before .before .before .before .before
+
 sub-if1 : tie.Need-sub-if1
 sub-if1 c = search needs
 
@@ -32,7 +36,7 @@ takes-requires c κs = search needs
 -- two bytes: what follows is the second test's answer
 tested : (c : tie.After-takes) →
     let n = c .before in
-    let a = n .before .before .before .before .before .args in
+    let a = entry n .args in
     withChute (a .kind) (Identifier.accepted (a .key)) (a .bytes .now)
     ≡ cond (c .takes .result) (accepted (record { kind = a .kind; key = a .key; chute = n .number-of .result })) (refused 10)
 unfolding withChute chuteOf

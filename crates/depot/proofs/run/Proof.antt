@@ -11,6 +11,10 @@ use Rattle.depot.proofs.Output.{output-too-long, output-too-short, outp
 use Rattle.depot.proofs.run.Statement.{statement}
 use Rattle.depot.proofs.run.Tie as tie
 
+-- the function's entry, from the first test
+abbrev entry : tie.After-slice-known → tie.Start
+entry c = c .before .before
+
 put-refusal-requires : tie.Need-put-refusal-requires
 put-refusal-requires c κs = search needs
 
@@ -20,7 +24,7 @@ same-length c = search needs
 returns : tie.Need-returns
 returns c =
     let last = c .before .before in
-    let a = last .before .before .before .before .before .args in
+    let a = entry (last .before .before .before) .args in
     let wrote = last .put-refusal .ensures in
     (wrote-taken wrote ∙ sym (output-too-long (a .input .now) (last .before .before .if1 .taken)), wrote-counts wrote)
 
@@ -34,7 +38,7 @@ returns-2 : tie.Need-returns-2
 returns-2 c =
     let last = c .before .before in
     let test = last .before .before in
-    let a = test .before .before .before .before .args in
+    let a = entry (test .before .before) .args in
     let wrote = last .put-refusal2 .ensures in
     (wrote-taken wrote ∙ sym (output-too-short (a .input .now) (test .before .if1 .left) (test .if2 .taken)), wrote-counts wrote)
 
@@ -61,7 +65,7 @@ returns-3 c =
     let last = c .before .before in
     let test = last .before .before in
     let count = test .before in
-    let a = count .before .before .before .before .before .args in
+    let a = entry (count .before .before .before) .args in
     let wrote = last .put-refusal3 .ensures in
     let cut = rw (count .number-at .ensures) at (test .if3 .taken) in
     (wrote-taken wrote ∙ sym (output-cut (a .input .now) (count .before .before .if1 .left) (count .before .if2 .left) cut), wrote-counts wrote)
@@ -115,7 +119,7 @@ returns-4 c =
     let capacity = last .before .before .before .before .before .before in
     let test = capacity .before in
     let count = test .before in
-    let a = count .before .before .before .before .before .args in
+    let a = entry (count .before .before .before) .args in
     let wrote = last .perform .ensures in
     let whole = rw (count .number-at .ensures) at (test .if3 .left) in
     let cut : 6 + 16 * count .number-at .result - 6 ≡ 16 * count .number-at .result = omega arith in

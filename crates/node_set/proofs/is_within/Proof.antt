@@ -10,6 +10,10 @@ use Rattle.node_set.proofs.Within.{tested-word, word-above, third-word-
 use Rattle.node_set.proofs.is_within.Statement.{statement}
 use Rattle.node_set.proofs.is_within.Tie as tie
 
+-- the function's entry, from where the second word has a member above the limit
+abbrev entry : tie.Then2 → tie.Start
+entry c = c .before .before .before .before .before
+
 -- what is passed is three words
 words : (c : tie.Start) → NodeSet (c .args .t1)
 words c = array-is-a-set (c .args .t1) (search needs) (λ i. search needs)
@@ -42,7 +46,7 @@ has-places-requires-2 c κs = search needs
 
 returns-2 : tie.Need-returns-2
 returns-2 c =
-    let start = c .before .before .before .before .before in
+    let start = entry c in
     let set = start .args .t1 in
     let limit = start .args .limit in
     word-above set (words start) limit 1 (omega arith)

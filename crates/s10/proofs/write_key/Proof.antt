@@ -13,6 +13,13 @@ use Rattle.s10.proofs.TextOf.{text-of-parts, length-serial}
 use Rattle.s10.proofs.write_key.Statement.{statement}
 use Rattle.s10.proofs.write_key.Tie as tie
 
+-- the calls that write, each from the next
+abbrev serial-written : tie.After-write-pair2 → tie.After-write-serial
+serial-written c = c .before .before .before .before
+
+abbrev first-written : tie.After-write-serial → tie.After-write-pair
+first-written c = c .before .before .before .before
+
 -- each part goes in after those before it, and the last fills the list
 text-written : (key : ℕ) (text first serial last : List ℕ) → length text ≡ 13 →
     first ≡ letters (key / 67_600_000_000) → serial ≡ serialText (key / 676) → last ≡ letters (key % 676) →
@@ -73,8 +80,8 @@ same-length c = search needs
 returns : tie.Need-returns
 returns c =
     let third = c .before .before in
-    let second = third .before .before .before .before in
-    let first = second .before .before .before .before in
+    let second = serial-written third in
+    let first = first-written second in
     let s = first .before .before .before in
     text-written (s .args .key) (s .args .text .now) _ _ _ (s .pre .1) (first .write-pair .ensures) (second .write-serial .ensures) (third .write-pair2 .ensures)
 

@@ -12,6 +12,10 @@ use Rattle.s10.proofs.Values.{values-characters, characters-serial}
 use Rattle.s10.proofs.write_serial.Statement.{statement}
 use Rattle.s10.proofs.write_serial.Tie as tie
 
+-- the call that writes the digits, from where the check digit is asked
+abbrev called : tie.After-check-digit-arg → tie.After-write-digits
+called c = c .before .before .before .before
+
 module _ (number : ℕ) (text new : List ℕ) (nine : length text ≡ 9) (written : new ≡ characters (digits (length (take 8 text)) number)) where
   digits-written : new ≡ characters (digits 8 number)
   digits-written = rw (length-take-le 8 text (omega arith)) at written
@@ -58,7 +62,7 @@ part-check-digit-end c = search needs
 
 check-digit-requires : tie.Need-check-digit-requires
 check-digit-requires c κs =
-    let w = c .before .before .before .before in
+    let w = called c in
     let s = w .before .before .before in
     serial (s .args .number) (s .args .text .now) _ (s .pre) (w .write-digits .ensures)
 
@@ -73,7 +77,7 @@ same-length c = search needs
 
 returns : tie.Need-returns
 returns c =
-    let w = c .before .before .before .before .before in
+    let w = called (c .before) in
     let s = w .before .before .before in
     serial-written (s .args .number) (s .args .text .now) _ (s .pre) (w .write-digits .ensures) _ (c .check-digit .ensures .0)
 

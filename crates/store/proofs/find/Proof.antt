@@ -5,6 +5,10 @@ use borrow.Author.Needs.{needs}
 use Rattle.store.proofs.find.Statement.{statement}
 use Rattle.store.proofs.find.Tie as tie
 
+-- the function's entry, from the call that says whether the key is held
+abbrev entry : tie.After-is-at → tie.Start
+entry c = c .before .before .before .before .before .before
+
 smaller-requires : tie.Need-smaller-requires
 smaller-requires c κs = search needs
 
@@ -19,7 +23,7 @@ is-at-requires c κs = search needs
 
 returns : tie.Need-returns
 returns c =
-    let start = c .before .before .before .before .before .before in
+    let start = entry c in
     let both = c .before .before .before .smaller in
     let n = c .before .before .smaller2 in
     let place = c .before .place in

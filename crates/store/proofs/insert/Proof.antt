@@ -7,6 +7,22 @@ use Rattle.store.proofs.Operations.{room-within, inserted, not-inserted
 use Rattle.store.proofs.insert.Statement.{statement}
 use Rattle.store.proofs.insert.Tie as tie
 
+-- the call that takes the smaller length, from the call that finds the place
+abbrev compared : tie.After-find → tie.After-smaller
+compared c = c .before .before .before
+
+-- the function's entry, from there
+abbrev entry : tie.After-smaller → tie.Start
+entry c = c .before .before .before
+
+-- the call that shifts the keys, from where the chutes are lent
+abbrev keys-shifted : tie.After-shift-up-chutes-arg → tie.After-shift-up-keys
+keys-shifted c = c .before .before .before
+
+-- where there is room, from there
+abbrev room : tie.After-shift-up-chutes-arg → tie.Else2
+room c = keys-shifted c .before .before
+
 smaller-requires : tie.Need-smaller-requires
 smaller-requires c κs = search needs
 
@@ -21,24 +37,24 @@ same-length-2 c = search needs
 
 returns : tie.Need-returns
 returns c =
-    not-inserted (c .before .find .ensures) (c .before .before .before .before .smaller .ensures) (c .before .before .before .before .before .before .before .args .chute)
+    not-inserted (c .before .find .ensures) (compared (c .before) .smaller .ensures) (entry (compared (c .before)) .args .chute)
     (⊎-elim (λ w. rw (w .taken)) (λ w. rw (w .0 .left) (w .1 .taken)) (c .if1 .came))
 
 shift-up-keys-requires : tie.Need-shift-up-keys-requires
 shift-up-keys-requires c κs =
     let free = c .before in
-    omega (arith, room-within (free .before .before .find .ensures) (free .before .before .before .before .before .smaller .ensures) (free .if2 .left))
+    omega (arith, room-within (free .before .before .find .ensures) (compared (free .before .before) .smaller .ensures) (free .if2 .left))
 
 shift-up-chutes-requires : tie.Need-shift-up-chutes-requires
 shift-up-chutes-requires c κs =
-    let free = c .before .before .before .before .before in
-    omega (arith, room-within (free .before .before .find .ensures) (free .before .before .before .before .before .smaller .ensures) (free .if2 .left))
+    let free = room c in
+    omega (arith, room-within (free .before .before .find .ensures) (compared (free .before .before) .smaller .ensures) (free .if2 .left))
 
 add-result : tie.Need-add-result
 add-result c =
-    let free = c .before .before .before .before .before .before .before .before in
-    let start = free .before .before .before .before .before .before .before .before in
-    omega (arith, room-within (free .before .before .find .ensures) (free .before .before .before .before .before .smaller .ensures) (free .if2 .left), start .good)
+    let free = room (c .before .before .before) in
+    let start = entry (compared (free .before .before)) in
+    omega (arith, room-within (free .before .before .find .ensures) (compared (free .before .before) .smaller .ensures) (free .if2 .left), start .good)
 
 same-length-3 : tie.Need-same-length-3
 same-length-3 c = search needs
@@ -48,10 +64,10 @@ same-length-4 c = search needs
 
 returns-2 : tie.Need-returns-2
 returns-2 c =
-    let free = c .before .before .before .before .before .before .before .before in
-    let start = free .before .before .before .before .before .before .before .before in
-    inserted (free .before .before .find .ensures) (free .before .before .before .before .before .smaller .ensures) (start .args .chute)
-    (rw (free .before .if1 .left) (free .if2 .left)) (c .before .before .before .before .before .before .shift-up-keys .ensures) (c .before .before .shift-up-chutes .ensures)
+    let free = room (c .before .before .before) in
+    let start = entry (compared (free .before .before)) in
+    inserted (free .before .before .find .ensures) (compared (free .before .before) .smaller .ensures) (start .args .chute)
+    (rw (free .before .if1 .left) (free .if2 .left)) (keys-shifted (c .before .before .before) .shift-up-keys .ensures) (c .before .before .shift-up-chutes .ensures)
 
 pub insert-spec : {M : Type 1} → statement M
 insert-spec =

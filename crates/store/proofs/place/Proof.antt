@@ -14,6 +14,10 @@ Inv-loop keys n key low₀ high₀ low high = (low ≤ high) × (high ≤ n) × 
 abbrev μ-loop : tie.MeasureT-loop
 μ-loop keys n key low₀ high₀ low high = high - low
 
+-- the function's entry, from a turn's test
+abbrev entry : tie.After-shared-slice-known Inv-loop μ-loop → tie.Start Inv-loop μ-loop
+entry c = c .before .before .before
+
 loop-holds : tie.Need-loop-holds Inv-loop μ-loop
 loop-holds c = (omega arith, omega arith, refl)
 
@@ -34,7 +38,7 @@ loop-less c = omega arith
 
 loop-again : tie.Need-loop-again Inv-loop μ-loop
 loop-again c =
-    let start = c .before .before .before .before in
+    let start = entry (c .before) in
     let loop = c .before .before .before .loop in
     let apart = c .before .before .loop-test .taken in
     let next = halve-right (start .args .keys .now) (start .args .key) (start .args .n) (loop .low) (loop .high) (omega arith) apart (c .if1 .taken) in
@@ -45,7 +49,7 @@ loop-less-2 c = omega arith
 
 loop-again-2 : tie.Need-loop-again-2 Inv-loop μ-loop
 loop-again-2 c =
-    let start = c .before .before .before .before in
+    let start = entry (c .before) in
     let loop = c .before .before .before .loop in
     let apart = c .before .before .loop-test .taken in
     let next = halve-left (start .args .keys .now) (start .args .key) (start .args .n) (loop .low) (loop .high) (omega arith) apart (c .if1 .left) in

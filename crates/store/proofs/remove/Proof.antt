@@ -5,6 +5,14 @@ use Rattle.store.proofs.Operations.{held-within, removed, not-removed}
 use Rattle.store.proofs.remove.Statement.{statement}
 use Rattle.store.proofs.remove.Tie as tie
 
+-- the call that shifts the keys, from where the chutes are lent
+abbrev keys-shifted : tie.After-shift-down-chutes-arg → tie.After-shift-down-keys
+keys-shifted c = c .before .before .before
+
+-- where the key is held, from there
+abbrev found : tie.After-shift-down-chutes-arg → tie.Then1
+found c = keys-shifted c .before .before
+
 find-requires : tie.Need-find-requires
 find-requires c κs = search needs
 
@@ -12,10 +20,10 @@ shift-down-keys-requires : tie.Need-shift-down-keys-requires
 shift-down-keys-requires c κs = omega (arith, held-within (c .before .before .find .ensures) (c .before .if1 .taken))
 
 shift-down-chutes-requires : tie.Need-shift-down-chutes-requires
-shift-down-chutes-requires c κs = omega (arith, held-within (c .before .before .before .before .before .before .find .ensures) (c .before .before .before .before .before .if1 .taken))
+shift-down-chutes-requires c κs = omega (arith, held-within (found c .before .find .ensures) (found c .if1 .taken))
 
 sub-result : tie.Need-sub-result
-sub-result c = omega (arith, held-within (c .before .before .before .before .before .before .before .before .before .find .ensures) (c .before .before .before .before .before .before .before .before .if1 .taken))
+sub-result c = omega (arith, held-within (found (c .before .before .before) .before .find .ensures) (found (c .before .before .before) .if1 .taken))
 
 same-length : tie.Need-same-length
 same-length c = search needs
@@ -25,8 +33,8 @@ same-length-2 c = search needs
 
 returns : tie.Need-returns
 returns c =
-    let held = c .before .before .before .before .before .before .before .before in
-    removed (held .before .find .ensures) (held .if1 .taken) (c .before .before .before .before .before .before .shift-down-keys .ensures) (c .before .before .shift-down-chutes .ensures)
+    let held = found (c .before .before .before) in
+    removed (held .before .find .ensures) (held .if1 .taken) (keys-shifted (c .before .before .before) .shift-down-keys .ensures) (c .before .before .shift-down-chutes .ensures)
 
 same-length-3 : tie.Need-same-length-3
 same-length-3 c = search needs

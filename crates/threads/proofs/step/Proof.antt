@@ -8,9 +8,25 @@ use Rattle.threads.proofs.Readiness.{of-loader, ready-beside}
 use Rattle.threads.proofs.step.Statement.{statement}
 use Rattle.threads.proofs.step.Tie as tie
 
+-- the function's entry, from the test whose turn it is
+abbrev entry : tie.After-shared-slice-known → tie.Start
+entry c = c .before .before .before .before
+
+-- where the turn is the loader's, from its step
+abbrev loads : tie.After-loader-step-arg9 → tie.Then1
+loads c = c .before .before .before .before .before .before .before .before .before
+
+-- where the turn is a worker's, from its step
+abbrev works : tie.After-worker-step-arg11 → tie.Else1
+works c = c .before .before .before .before .before .before .before .before .before .before .before
+
+-- the worker's step, from the return
+abbrev worker-called : tie.After-slice-known6 → tie.After-worker-step
+worker-called c = c .before .before .before .before .before .before
+
 loader-step-requires : tie.Need-loader-step-requires
 loader-step-requires c κs =
-    let start = c .before .before .before .before .before .before .before .before .before .before .before .before .before .before in
+    let start = entry (loads c .before) in
     ready-beside _ _ _ _ _ _ (start .pre) _ _ [] []
 
 same-length : tie.Need-same-length
@@ -18,12 +34,12 @@ same-length c = search needs
 
 returns : tie.Need-returns
 returns c =
-    let start = c .before .before .before .before .before .before .before .before .before .before .before .before .before .before .before in
-    of-loader (c .before .before .before .before .before .before .before .before .before .before .if1 .taken) (c .loader-step .ensures (start .args .keys .now) (start .args .chutes .now))
+    let start = entry (loads (c .before) .before) in
+    of-loader (loads (c .before) .if1 .taken) (c .loader-step .ensures (start .args .keys .now) (start .args .chutes .now))
 
 worker-step-requires : tie.Need-worker-step-requires
 worker-step-requires c κs =
-    let start = c .before .before .before .before .before .before .before .before .before .before .before .before .before .before .before .before in
+    let start = entry (works c .before) in
     let a = start .args in
     record {
       nodes = start .pre .nodes;
@@ -44,8 +60,8 @@ same-length-4 c = search needs
 
 returns-2 : tie.Need-returns-2
 returns-2 c =
-    let start = c .before .before .before .before .before .before .before .before .before .before .before .before .before .before .before .before .before .before .before .before .before .before .before in
-    c .before .before .before .before .before .before .worker-step .ensures (start .args .list .now) (start .args .t) (c .before .before .before .before .before .before .before .before .before .before .before .before .before .before .before .before .before .before .if1 .left) (start .pre)
+    let start = entry (works (worker-called c .before) .before) in
+    worker-called c .worker-step .ensures (start .args .list .now) (start .args .t) (works (worker-called c .before) .if1 .left) (start .pre)
 
 pub step-spec : {M : Type 1} → statement M
 step-spec =

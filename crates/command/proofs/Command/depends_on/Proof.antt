@@ -8,6 +8,10 @@ use Rattle.command.specs.Dependent.{isUpdate, areDependent}
 use Rattle.command.proofs.Command.depends_on.Statement.{statement}
 use Rattle.command.proofs.Command.depends_on.Tie as tie
 
+-- the function's entry, from where the keys are equal and the kinds decide
+abbrev entry : tie.Else3 → tie.Start
+entry c = c .before .before .before .before .before .before .before
+
 is-insert-or-delete-requires : tie.Need-is-insert-or-delete-requires
 is-insert-or-delete-requires c κs = search needs
 
@@ -39,7 +43,7 @@ is-update-requires-2 c κs = search needs
 
 -- past both tests the answer is whether there is an update
 of-one-key : (c : tie.Else3) →
-    let a = c .before .before .before .before .before .before .before .args in
+    let a = entry c .args in
     areDependent (a .self) (a .other) ≡ isUpdate (a .self .kind) || isUpdate (a .other .kind)
 unfolding areDependent
 of-one-key c =

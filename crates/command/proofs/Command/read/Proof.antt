@@ -12,6 +12,14 @@ use Rattle.command.proofs.Parts.{part-min, drop-min}
 use Rattle.command.proofs.Command.read.Statement.{statement}
 use Rattle.command.proofs.Command.read.Tie as tie
 
+-- the function's entry, from where the kind is read
+abbrev entry : tie.After-shared-slice-known2 → tie.Start
+entry c = c .before .before .before
+
+-- where the kind is known, from the call that reads the identifier
+abbrev kind-known : tie.After-read → tie.After-kind
+kind-known c = c .before .before .before .before
+
 -- no byte is no kind
 returns : tie.Need-returns
 unfolding kindOf withKind readCommand
@@ -31,7 +39,7 @@ enum-told c = search needs
 
 -- past the first test the kind's number decides
 numbered : (c : tie.After-of) →
-    let part = c .before .before .before .before .args .part .now in
+    let part = entry (c .before) .args .part .now in
     readCommand part ≡ withKind (knownKind (c .of .result)) (readText (take 13 (drop 1 part))) (drop 14 part)
 unfolding readCommand
 numbered c = rw (← c .of .ensures)
@@ -81,13 +89,13 @@ enum-told-3 c = search needs
 identified : (c : tie.After-read) →
     let e = c .before .before in
     let k = e .before .before in
-    let part = k .before .before .before .before .before .before .args .part .now in
+    let part = entry (k .before .before .before) .args .part .now in
     readCommand part ≡ withChute (k .kind .given .0 .0) (Identifier.textOutcome (c .read .result)) (drop (e .smaller .result) part)
 unfolding withKind
 identified c =
     let e = c .before .before in
     let k = e .before .before in
-    let part = k .before .before .before .before .before .before .args .part .now in
+    let part = entry (k .before .before .before) .args .part .now in
     rw (numbered (k .before .before), k .kind .given .1, c .read .ensures, e .smaller .ensures, drop-min, part-min 1 13 part)
 
 returns-3 : tie.Need-returns-3
@@ -95,7 +103,7 @@ returns-3 c =
     let k = c .before .before .before in
     let r = k .before .before in
     let end = r .before .before .smaller .result in
-    let part = r .before .before .before .before .before .before .before .before .before .before .args .part .now in
+    let part = entry (kind-known r .before .before .before) .args .part .now in
     let rest : take (length part - end) (drop end part) ≡ drop end part = take-all (length part - end) (drop end part) (rw length-drop (omega arith)) in
     rw (identified r, k .identifier .given .1) (rw rest at (c .with-chute .ensures))
 

@@ -17,6 +17,22 @@ use borrow.Author.Needs.{needs}
 use Rattle.controller.proofs.advance_call.advance.Statement.{statement}
 use Rattle.controller.proofs.advance_call.advance.Tie as tie
 
+-- where the lengths fit, from the test of the state
+abbrev lengths-tested : tie.After-state-fits → tie.Else1
+lengths-tested c = c .before .before .before
+
+-- that test, from the test of the schedule
+abbrev state-tested : tie.After-threads-named → tie.After-state-fits
+state-tested c = c .before .before .before
+
+-- where all three fit, from where the turns are run
+abbrev all-tested : tie.After-run-arg4 → tie.Else3
+all-tested c = c .before .before .before .before
+
+-- the call that runs the turns, from the return
+abbrev run-called : tie.After-slice-known9 → tie.After-run
+run-called c = c .before .before .before .before .before .before .before .before
+
 -- the lists, the commands and the schedule that the call gets
 abbrev given : tie.Start → Lists
 given c = lists (c .args .state .now) (c .args .keys .now) (c .args .chutes .now) (c .args .answers .now)
@@ -32,10 +48,10 @@ abbrev entry1 : tie.After-lengths-fit → tie.Start
 entry1 c = c .before .before .before .before .before .before .before .before
 
 abbrev entry2 : tie.After-state-fits → tie.Start
-entry2 c = entry1 (c .before .before .before .before)
+entry2 c = entry1 (lengths-tested c .before)
 
 abbrev entry3 : tie.After-threads-named → tie.Start
-entry3 c = entry2 (c .before .before .before)
+entry3 c = entry2 (state-tested c)
 
 -- each result is that of the call's test
 lengths-is : (c : tie.After-lengths-fit) → handedBackFit (given (entry1 c)) (commandsOf (entry1 c)) ≡ c .lengths-fit .result
@@ -55,7 +71,7 @@ state-passed c = state-is (c .before) ∙ not-false _ (c .if2 .left)
 
 named-is : (c : tie.After-threads-named) → allWithin (setupIn (entry3 c .args .state .now) (commandsOf (entry3 c)) .workers) (scheduleOf (entry3 c)) ≡ c .threads-named .result
 named-is c =
-    ap (λ (n : ℕ). allWithin n (scheduleOf (entry3 c))) (workers-in (entry3 c .args .state .now) (commandsOf (entry3 c)) (long (c .before .before .before .before .before .before))) ∙ sym (c .threads-named .ensures)
+    ap (λ (n : ℕ). allWithin n (scheduleOf (entry3 c))) (workers-in (entry3 c .args .state .now) (commandsOf (entry3 c)) (long (lengths-tested (state-tested c)))) ∙ sym (c .threads-named .ensures)
 
 lengths-fit-requires : tie.Need-lengths-fit-requires
 lengths-fit-requires c κs = search needs
@@ -80,11 +96,11 @@ same-length-3 c = search needs
 returns-2 : tie.Need-returns-2
 returns-2 c =
     let start = entry2 (c .before) in
-    refused-so (given start) (commandsOf start) (scheduleOf start) 12 (refuses-state _ _ _ (lengths-passed (c .before .before .before .before)) (state-is (c .before) ∙ not-true _ (c .if2 .taken)))
+    refused-so (given start) (commandsOf start) (scheduleOf start) 12 (refuses-state _ _ _ (lengths-passed (lengths-tested (c .before))) (state-is (c .before) ∙ not-true _ (c .if2 .taken)))
 
 slice-read-threads-named : tie.Need-slice-read-threads-named
 unfolding stateLength
-slice-read-threads-named c = omega (arith, long (c .before .before .before .before .before))
+slice-read-threads-named c = omega (arith, long (lengths-tested (c .before .before)))
 
 threads-named-requires : tie.Need-threads-named-requires
 threads-named-requires c κs = search needs
@@ -98,14 +114,14 @@ same-length-5 c = search needs
 returns-3 : tie.Need-returns-3
 returns-3 c =
     let start = entry3 (c .before) in
-    refused-so (given start) (commandsOf start) (scheduleOf start) 11 (refuses-thread _ _ _ (lengths-passed (c .before .before .before .before .before .before .before)) (state-passed (c .before .before .before)) (named-is (c .before) ∙ not-true _ (c .if3 .taken)))
+    refused-so (given start) (commandsOf start) (scheduleOf start) 11 (refuses-thread _ _ _ (lengths-passed (lengths-tested (state-tested (c .before)))) (state-passed (c .before .before .before)) (named-is (c .before) ∙ not-true _ (c .if3 .taken)))
 
 -- all three tests pass
 passes : (c : tie.Else3) → CallPasses (given (entry3 (c .before))) (commandsOf (entry3 (c .before))) (scheduleOf (entry3 (c .before)))
-passes c = record { lengths = lengths-passed (c .before .before .before .before .before .before .before); state = state-passed (c .before .before .before); named = named-is (c .before) ∙ not-false _ (c .if3 .left) }
+passes c = record { lengths = lengths-passed (lengths-tested (state-tested (c .before))); state = state-passed (c .before .before .before); named = named-is (c .before) ∙ not-false _ (c .if3 .left) }
 
 run-requires : tie.Need-run-requires
-run-requires c κs = passes (c .before .before .before .before)
+run-requires c κs = passes (all-tested c)
 
 same-length-6 : tie.Need-same-length-6
 same-length-6 c = search needs
@@ -121,9 +137,9 @@ same-length-9 c = search needs
 
 returns-4 : tie.Need-returns-4
 returns-4 c =
-    let called = c .before .before .before .before .before .before .before .before in
-    let start = entry3 (called .before .before .before .before .before .before) in
-    accepted-so (given start) (commandsOf start) (scheduleOf start) _ _ (called .run .ensures) (accepts _ _ _ (passes (called .before .before .before .before .before)))
+    let called = run-called c in
+    let start = entry3 (all-tested (called .before) .before) in
+    accepted-so (given start) (commandsOf start) (scheduleOf start) _ _ (called .run .ensures) (accepts _ _ _ (passes (all-tested (called .before))))
 
 pub advance-spec : {M : Type 1} → statement M
 advance-spec =

@@ -7,6 +7,10 @@ use borrow.Author.Needs.{needs}
 use Rattle.controller.proofs.advance_call.counters_in.Statement.{statement}
 use Rattle.controller.proofs.advance_call.counters_in.Tie as tie
 
+-- the function's entry, from the last call
+abbrev entry : tie.After-number-at2 → tie.Start
+entry c = c .before .before .before .before
+
 shared-slice-read-t5 : tie.Need-shared-slice-read-t5
 unfolding stateLength
 shared-slice-read-t5 c = omega arith
@@ -28,7 +32,7 @@ cast-t7-2 c = search needs
 returns : tie.Need-returns
 unfolding stateLength
 returns c =
-    let start = c .before .before .before .before in
+    let start = entry c in
     record { free-is = sym (number-one 10 (start .args .state .now) (omega (arith, start .pre))); loaded-is = c .before .number-at .ensures; used-is = c .number-at2 .ensures }
 
 pub counters-in-spec : {M : Type 1} → statement M

@@ -17,12 +17,28 @@ abbrev μ-loop : tie.MeasureT-loop
 μ-loop state keys₀ chutes₀ answers₀ commands schedule settings counters₀ next₀ seq₀ executing₀ locked₀ waits₀ kinds₀ item-keys₀ item-chutes₀ threads₀ i₀ keys chutes answers counters next seq executing locked waits kinds item-keys item-chutes threads i =
     length schedule - i
 
+-- the function's entry, from where the loop begins
+abbrev entry : tie.After-shared-slice-known2 Inv-loop μ-loop → tie.Start Inv-loop μ-loop
+entry c = c .before .before .before .before .before .before
+
+-- a turn's beginning, from where its step is made
+abbrev stepping : tie.After-step-arg3 Inv-loop μ-loop → tie.In-loop Inv-loop μ-loop
+stepping c = c .before .before .before .before .before .before .before .before .before .before .before .before .before
+
+-- a turn's step, from where the thread is stored
+abbrev stepped : tie.After-slice-known7 Inv-loop μ-loop → tie.After-step Inv-loop μ-loop
+stepped c = c .before .before .before .before .before .before
+
+-- the loop's end, from where the state is written
+abbrev ended : tie.After-waits2 Inv-loop μ-loop → tie.After-loop Inv-loop μ-loop
+ended c = c .before .before .before .before .before .before
+
 -- the function's entry, from the loop's head; and the turn that a step is made in
 abbrev start : tie.At-loop Inv-loop μ-loop → tie.Start Inv-loop μ-loop
-start c = c .before .before .before .before .before .before .before
+start c = entry (c .before)
 
 abbrev turn : tie.After-step Inv-loop μ-loop → tie.In-loop Inv-loop μ-loop
-turn c = c .before .before .before .before .before .before .before .before .before .before .before .before .before .before
+turn c = stepping (c .before)
 
 -- the thread that the schedule names next is one of the 65, and the next place is a number
 named : (c : tie.In-loop Inv-loop μ-loop) → getD (start (c .before) .args .schedule .now) (c .before .loop .i) 0 < 65
@@ -32,7 +48,7 @@ next-fits : (c : tie.In-loop Inv-loop μ-loop) → c .before .loop .i + 1 < 2 ^ 
 next-fits c = omega arith
 
 loop-holds : tie.Need-loop-holds Inv-loop μ-loop
-loop-holds c = along-none (c .before .before .before .before .before .before .pre .ready) (c .before .before .before .before .before .before .pre .within) (search needs)
+loop-holds c = along-none (entry c .pre .ready) (entry c .pre .within) (search needs)
 
 shared-slice-read-t : tie.Need-shared-slice-read-t Inv-loop μ-loop
 shared-slice-read-t c = omega arith
@@ -47,45 +63,45 @@ array-copy-out-thread : tie.Need-array-copy-out-thread Inv-loop μ-loop
 array-copy-out-thread c = named (c .before)
 
 step-requires : tie.Need-step-requires Inv-loop μ-loop
-step-requires c κs = let pass = c .before .before .before .before .before .before .before .before .before .before .before .before .before .before .loop in ready-for _ (pass .inv .within _) (pass .inv .ready)
+step-requires c κs = let pass = stepping c .before .loop in ready-for _ (pass .inv .within _) (pass .inv .ready)
 
 mul-threads : tie.Need-mul-threads Inv-loop μ-loop
-mul-threads c = omega (arith, named (turn (c .before .before .before .before .before .before)))
+mul-threads c = omega (arith, named (turn (stepped c)))
 
 array-set-from-threads : tie.Need-array-set-from-threads Inv-loop μ-loop
-array-set-from-threads c = named (turn (c .before .before .before .before .before .before))
+array-set-from-threads c = named (turn (stepped c))
 
 add-i : tie.Need-add-i Inv-loop μ-loop
-add-i c = omega (arith, next-fits (turn (c .before .before .before .before .before .before .before)))
+add-i c = omega (arith, next-fits (turn (stepped (c .before))))
 
 loop-less : tie.Need-loop-less Inv-loop μ-loop
-loop-less c = omega (arith, turn (c .before .before .before .before .before .before .before) .loop-test .taken)
+loop-less c = omega (arith, turn (stepped (c .before)) .loop-test .taken)
 
 loop-again : tie.Need-loop-again Inv-loop μ-loop
 loop-again c =
-    let after = c .before .before .before .before .before .before .before in
+    let after = stepped (c .before) in
     let called = after .step in
     let pass = turn after in
     along-more (called .result .thread) (pass .before .loop .inv) (pass .loop-test .taken) (named pass) (called .ensures) (called .kept .1 .1 .1 .1 .1 .1 .1 .1 .0) (called .kept .1 .1 .1 .1 .1 .1 .1 .1 .1 .0) (called .kept .1 .1 .1 .1 .1 .1 .1 .1 .1 .1 .0)
 
 write-state-requires : tie.Need-write-state-requires Inv-loop μ-loop
-write-state-requires c κs = start (c .before .before .before .before .before .before .before) .pre .long
+write-state-requires c κs = start (ended c .before) .pre .long
 
 same-length : tie.Need-same-length Inv-loop μ-loop
 same-length c = c .before .before .write-state .kept .0
 
 same-length-2 : tie.Need-same-length-2 Inv-loop μ-loop
-same-length-2 c = c .before .before .before .before .before .before .before .before .before .before .loop .inv .keys-long
+same-length-2 c = ended (c .before .before .before) .before .loop .inv .keys-long
 
 same-length-3 : tie.Need-same-length-3 Inv-loop μ-loop
-same-length-3 c = c .before .before .before .before .before .before .before .before .before .before .loop .inv .chutes-long
+same-length-3 c = ended (c .before .before .before) .before .loop .inv .chutes-long
 
 same-length-4 : tie.Need-same-length-4 Inv-loop μ-loop
-same-length-4 c = c .before .before .before .before .before .before .before .before .before .before .loop .inv .answers-long
+same-length-4 c = ended (c .before .before .before) .before .loop .inv .answers-long
 
 returns : tie.Need-returns Inv-loop μ-loop
 returns c =
-    let after = c .before .before .before .before .before .before .before .before .before in
+    let after = ended (c .before .before .before) in
     let pass = after .before .loop in
     performed (start (after .before) .args .settings) (pass .counters) (pass .next) (pass .seq) (pass .executing) (pass .locked) (pass .waits) (pass .keys) (pass .chutes) (pass .answers) _
     (pass .inv) (after .loop-test .left) (c .before .before .write-state .ensures)

@@ -14,6 +14,35 @@ use borrow.Author.Needs.{needs}
 use Rattle.controller.proofs.advance_call.run.Statement.{statement}
 use Rattle.controller.proofs.advance_call.run.Tie as tie
 
+-- the function's entry, from where the settings are read
+abbrev start0 : tie.After-settings-in-arg → tie.Start
+start0 c = c .before .before .before .before .before .before .before
+
+-- the calls that read, each from the next
+abbrev bytes-read : tie.After-read-numbers → tie.After-read-bytes
+bytes-read c = c .before .before .before .before
+
+abbrev numbers-read : tie.After-read-flags → tie.After-read-numbers
+numbers-read c = c .before .before .before .before
+
+abbrev flags-read : tie.After-read-flags2 → tie.After-read-flags
+flags-read c = c .before .before .before .before
+
+abbrev flags2-read : tie.After-read-sets → tie.After-read-flags2
+flags2-read c = c .before .before .before .before
+
+-- the last of them, from where the commands are kept
+abbrev threads-read : tie.After-item-chutes → tie.After-read-threads
+threads-read c = c .before .before .before .before
+
+-- the call that keeps the commands, from where the turns are performed
+abbrev kept : tie.After-perform-arg4 → tie.After-keep-all
+kept c = c .before .before .before .before
+
+-- the call that performs the turns, from the return
+abbrev performed : tie.After-slice-known8 → tie.After-perform
+performed c = c .before .before .before .before .before .before .before .before
+
 -- the lists that the call gets, and what their tests say
 abbrev given : tie.Start → Lists
 given c = lists (c .args .state .now) (c .args .keys .now) (c .args .chutes .now) (c .args .answers .now)
@@ -29,7 +58,7 @@ long c = lengths c .state
 
 -- the function's entry, from the place after each call
 abbrev start1 : tie.After-settings-in → tie.Start
-start1 c = c .before .before .before .before .before .before .before .before
+start1 c = start0 (c .before)
 
 abbrev start2 : tie.After-counters-in → tie.Start
 start2 c = start1 (c .before .before)
@@ -38,19 +67,19 @@ abbrev start3 : tie.After-read-bytes → tie.Start
 start3 c = start2 (c .before .before .before)
 
 abbrev start4 : tie.After-read-numbers → tie.Start
-start4 c = start3 (c .before .before .before .before)
+start4 c = start3 (bytes-read c)
 
 abbrev start5 : tie.After-read-flags → tie.Start
-start5 c = start4 (c .before .before .before .before)
+start5 c = start4 (numbers-read c)
 
 abbrev start6 : tie.After-read-flags2 → tie.Start
-start6 c = start5 (c .before .before .before .before)
+start6 c = start5 (flags-read c)
 
 abbrev start7 : tie.After-read-sets → tie.Start
-start7 c = start6 (c .before .before .before .before)
+start7 c = start6 (flags2-read c)
 
 settings-in-requires : tie.Need-settings-in-requires
-settings-in-requires c κs = long (c .before .before .before .before .before .before .before)
+settings-in-requires c κs = long (start0 c)
 
 counters-in-requires : tie.Need-counters-in-requires
 counters-in-requires c κs = long (start1 (c .before))
@@ -97,16 +126,16 @@ abbrev at-waits : tie.After-read-threads → tie.After-read-sets
 at-waits c = c .before .before .before
 
 abbrev at-locked : tie.After-read-threads → tie.After-read-flags2
-at-locked c = at-waits c .before .before .before .before
+at-locked c = flags2-read (at-waits c)
 
 abbrev at-executing : tie.After-read-threads → tie.After-read-flags
-at-executing c = at-locked c .before .before .before .before
+at-executing c = flags-read (at-locked c)
 
 abbrev at-seq : tie.After-read-threads → tie.After-read-numbers
-at-seq c = at-executing c .before .before .before .before
+at-seq c = numbers-read (at-executing c)
 
 abbrev at-next : tie.After-read-threads → tie.After-read-bytes
-at-next c = at-seq c .before .before .before .before
+at-next c = bytes-read (at-seq c)
 
 abbrev at-counters : tie.After-read-threads → tie.After-counters-in
 at-counters c = at-next c .before .before .before
@@ -150,18 +179,18 @@ read-out c = record {
 
 keep-all-requires : tie.Need-keep-all-requires
 keep-all-requires c κs =
-    let at = c .before .before .before .before in
+    let at = threads-read c in
     let start = entry at in
     (read-placed (given start) (read-out at) (start .args .commands .now) (lengths start) (range start), zeros 151)
 
 perform-requires : tie.Need-perform-requires
 perform-requires c κs =
-    let at = c .before .before .before .before .before .before .before .before .before in
+    let at = threads-read (kept c .before) in
     let start = entry at in
     let commands = start .args .commands .now in
     record {
       long = long start;
-      ready = read-ready (given start) (read-out at) commands (lengths start) (range start) (c .before .before .before .before .keep-all .ensures);
+      ready = read-ready (given start) (read-out at) commands (lengths start) (range start) (kept c .keep-all .ensures);
       within = read-within (given start) (read-out at) commands (lengths start) (range start);
       named = fit-named (given start) commands (range start) (start .args .schedule .now) (start .pre .named);
     }
@@ -180,8 +209,8 @@ same-length-4 c = search needs
 
 returns : tie.Need-returns
 returns c =
-    let called = c .before .before .before .before .before .before .before .before in
-    let at = called .before .before .before .before .before .before .before .before .before .before in
+    let called = performed c in
+    let at = threads-read (kept (called .before) .before) in
     let start = entry at in
     let commands = start .args .commands .now in
     let o = setupIn (start .args .state .now) commands in

@@ -6,6 +6,10 @@ use Rattle.state_bytes.proofs.Fill.{number-one}
 use Rattle.controller.proofs.advance_call.settings_in.Statement.{statement}
 use Rattle.controller.proofs.advance_call.settings_in.Tie as tie
 
+-- the function's entry, from the last call
+abbrev entry : tie.After-number-at2 → tie.Start
+entry c = c .before .before .before .before .before
+
 shared-slice-read-t3 : tie.Need-shared-slice-read-t3
 unfolding stateLength
 shared-slice-read-t3 c = omega arith
@@ -25,7 +29,7 @@ number-at-requires-2 c κs = omega arith
 returns : tie.Need-returns
 unfolding stateLength setupIn countIn
 returns c commands count =
-    let start = c .before .before .before .before .before in
+    let start = entry c in
     let b = start .args .state .now in
     record {
       size = number-one 0 b (omega (arith, start .pre));

@@ -11,6 +11,22 @@ use Rattle.controller.specs.Calls.{openOn}
 use Rattle.controller.proofs.open_call.answer_for.Statement.{statement}
 use Rattle.controller.proofs.open_call.answer_for.Tie as tie
 
+-- the function's entry, from where each test passed
+abbrev entry1 : tie.Else1 → tie.Start
+entry1 c = c .before .before .before .before .before .before .before
+
+abbrev entry2 : tie.Else2 → tie.Start
+entry2 c = entry1 (c .before .before)
+
+abbrev entry3 : tie.Else3 → tie.Start
+entry3 c = entry2 (c .before .before)
+
+abbrev entry4 : tie.Else4 → tie.Start
+entry4 c = entry3 (c .before)
+
+abbrev entry5 : tie.Else5 → tie.Start
+entry5 c = entry4 (c .before)
+
 is-within-requires : tie.Need-is-within-requires
 is-within-requires c κs = search needs
 
@@ -20,7 +36,7 @@ returns c = rw (← c .before .is-within .ensures, not-true (c .before .is-withi
 
 -- past a test, what it tested holds
 size-fits : (c : tie.Else1) →
-    let size = c .before .before .before .before .before .before .before .args .size in
+    let size = entry1 c .args .size in
     (leb 1 size && leb size 150) ≡ true
 size-fits c = sym (c .before .is-within .ensures) ∙ not-false _ (c .if1 .left)
 
@@ -32,7 +48,7 @@ unfolding openOn
 returns-2 c = rw (size-fits (c .before .before), ← c .before .is-within2 .ensures, not-true (c .before .is-within2 .result) (c .if2 .taken))
 
 workers-fit : (c : tie.Else2) →
-    let workers = c .before .before .before .before .before .before .before .before .before .args .workers in
+    let workers = entry2 c .args .workers in
     (leb 1 workers && leb workers 64) ≡ true
 workers-fit c = sym (c .before .is-within2 .ensures) ∙ not-false _ (c .if2 .left)
 
@@ -46,7 +62,7 @@ returns-3 c =
     rw (size-fits (e2 .before .before), workers-fit e2, ← c .before .is-within3 .ensures, not-true (c .before .is-within3 .result) (c .if3 .taken))
 
 capacity-fits : (c : tie.Else3) →
-    let capacity = c .before .before .before .before .before .before .before .before .before .before .before .args .capacity in
+    let capacity = entry3 c .args .capacity in
     (leb 1 capacity && leb capacity 4096) ≡ true
 capacity-fits c = sym (c .before .is-within3 .ensures) ∙ not-false _ (c .if3 .left)
 
@@ -58,7 +74,7 @@ returns-4 c =
     rw (size-fits (e2 .before .before), workers-fit e2, capacity-fits e3, ne-eqb _ _ (c .if4 .taken))
 
 whole : (c : tie.Else4) →
-    let commands = c .before .before .before .before .before .before .before .before .before .before .before .before .args .commands .now in
+    let commands = entry4 c .args .commands .now in
     eqb (length commands % 16) 0 ≡ true
 whole c = eq-eqb _ _ (c .if4 .left)
 
@@ -71,7 +87,7 @@ returns-5 c =
     rw (size-fits (e2 .before .before), workers-fit e2, capacity-fits e3, whole e4, lt-leb _ _ (c .if5 .taken))
 
 count-fits : (c : tie.Else5) →
-    let commands = c .before .before .before .before .before .before .before .before .before .before .before .before .before .args .commands .now in
+    let commands = entry5 c .args .commands .now in
     leb (length commands / 16) 4096 ≡ true
 count-fits c = le-leb _ _ (c .if5 .left)
 

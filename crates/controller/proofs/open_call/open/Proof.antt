@@ -9,6 +9,20 @@ use Rattle.controller.proofs.OpeningAnswer.{answer-told, refusal-keeps,
 use Rattle.controller.proofs.open_call.open.Statement.{statement}
 use Rattle.controller.proofs.open_call.open.Tie as tie
 
+-- the function's entry, from where the answer is asked
+abbrev entry : tie.After-answer-for-arg4 → tie.Start
+entry c = c .before .before .before .before .before .before .before .before .before
+
+-- the calls that write a list, each from the next
+abbrev chutes-cleared : tie.After-clear-numbers2 → tie.After-clear-numbers
+chutes-cleared c = c .before .before .before .before
+
+abbrev keys-cleared : tie.After-clear-numbers → tie.After-clear-keys
+keys-cleared c = c .before .before .before .before
+
+abbrev state-written : tie.After-clear-keys → tie.After-write-opened
+state-written c = c .before .before .before .before
+
 answer-for-requires : tie.Need-answer-for-requires
 answer-for-requires c κs = search needs
 
@@ -17,10 +31,10 @@ enum-told c = search needs
 
 -- where the answer is `Opened`, every test passed
 tests-passed : (c : tie.After-enum-told) →
-    let a = c .before .before .before .before .before .before .before .before .before .before .before .before .args in
+    let a = entry (c .before .before .before) .args in
     Admitted (setupOf (a .size) (a .workers) (a .capacity) (a .commands .now)) (lists (a .state .now) (a .keys .now) (a .chutes .now) (a .answers .now))
 tests-passed c =
-    let a = c .before .before .before .before .before .before .before .before .before .before .before .before .args in
+    let a = entry (c .before .before .before) .args in
     admitted (a .size) (a .workers) (a .capacity) (a .commands .now) (lists (a .state .now) (a .keys .now) (a .chutes .now) (a .answers .now))
     (c .before .before .answer-for .ensures)
     (c .enum-told .given .1)
@@ -68,12 +82,12 @@ same-length-4 c = search needs
 returns : tie.Need-returns
 returns c =
     let answers = c .before .before in
-    let chutes = answers .before .before .before .before in
-    let keys = chutes .before .before .before .before in
-    let state = keys .before .before .before .before in
+    let chutes = chutes-cleared answers in
+    let keys = keys-cleared chutes in
+    let state = state-written keys in
     let told = state .before .before in
     let answer = told .before .before .answer-for in
-    let a = told .before .before .before .before .before .before .before .before .before .before .before .before .args in
+    let a = entry (told .before .before .before) .args in
     let o = setupOf (a .size) (a .workers) (a .capacity) (a .commands .now) in
     let p = tests-passed told in
     let count = sym (p .answers-long) in
@@ -101,7 +115,7 @@ same-length-8 c = search needs
 -- a refusal: no list was written
 returns-2 : tie.Need-returns-2
 returns-2 c =
-    let a = c .before .before .before .before .before .before .before .before .before .before .before .args in
+    let a = entry (c .before .before) .args in
     let o = setupOf (a .size) (a .workers) (a .capacity) (a .commands .now) in
     let answer = c .before .answer-for in
     let numbers = answer-told (answer .result) o in

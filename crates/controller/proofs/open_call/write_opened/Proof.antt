@@ -8,6 +8,10 @@ use Rattle.controller.proofs.OpeningState.{opened-shown}
 use Rattle.controller.proofs.open_call.write_opened.Statement.{statement}
 use Rattle.controller.proofs.open_call.write_opened.Tie as tie
 
+-- the call that numbers the free nodes, from the call that writes the state
+abbrev numbered : tie.After-write-state → tie.After-first-next
+numbered c = c .before .before .before .before .before .before .before
+
 first-next-requires : tie.Need-first-next-requires
 first-next-requires c κs = search needs
 
@@ -20,7 +24,7 @@ same-length c = search needs
 returns : tie.Need-returns
 returns c o sets =
     let w = c .before .before in
-    let f = w .before .before .before .before .before .before .before in
+    let f = numbered w in
     let next = f .first-next in
     w .write-state .ensures o (opened o) sets (opened-shown o (next .result) (λ n. next .ensures n ∙ ap (λ (size : ℕ). firstNext size n) (sym (sets .size))))
 

@@ -10,6 +10,18 @@ use Rattle.depot.proofs.Outcome.{printed-refused, printed-accepted, adv
 use Rattle.depot.proofs.perform.advance_and_report.Statement.{statement}
 use Rattle.depot.proofs.perform.advance_and_report.Tie as tie
 
+-- the proved call, from the call that numbers its answer
+abbrev called : tie.After-number → tie.After-advance
+called c = c .before .before .before .before .before .before .before .before .before
+
+-- the function's entry, from the proved call
+abbrev entry : tie.After-advance → tie.Start
+entry c = c .before .before .before .before .before .before .before .before .before .before .before .before
+
+-- where the call is accepted, from the call that writes the report
+abbrev accepted : tie.After-put-report → tie.Else1
+accepted c = c .before .before .before .before
+
 advance-requires : tie.Need-advance-requires
 advance-requires c κs = search needs
 
@@ -40,8 +52,8 @@ returns c =
     let last = c .before .before in
     let test = last .before .before in
     let answer = test .before in
-    let call = answer .before .before .before .before .before .before .before .before .before in
-    let a = call .before .before .before .before .before .before .before .before .before .before .before .before .args in
+    let call = called answer in
+    let a = entry call .args in
     let commands = a .commands .now in
     let schedule = a .schedule .now in
     let lent = lists (a .state .now) (a .keys .now) (a .chutes .now) (a .answers .now) in
@@ -71,10 +83,10 @@ returns-2 : tie.Need-returns-2
 unfolding advanced
 returns-2 c =
     let last = c .before .before in
-    let test = last .before .before .before .before in
+    let test = accepted last in
     let answer = test .before in
-    let call = answer .before .before .before .before .before .before .before .before .before in
-    let a = call .before .before .before .before .before .before .before .before .before .before .before .before .args in
+    let call = called answer in
+    let a = entry call .args in
     let commands = a .commands .now in
     let schedule = a .schedule .now in
     let lent = lists (a .state .now) (a .keys .now) (a .chutes .now) (a .answers .now) in

@@ -8,6 +8,22 @@ use Rattle.depot.proofs.Outcome.{printed-refused, printed-accepted, ope
 use Rattle.depot.proofs.perform.open_and_advance.Statement.{statement}
 use Rattle.depot.proofs.perform.open_and_advance.Tie as tie
 
+-- the proved call, from the call that numbers its answer
+abbrev called : tie.After-number → tie.After-open
+called c = c .before .before .before .before .before .before .before .before .before
+
+-- the function's entry, from the proved call
+abbrev entry : tie.After-open → tie.Start
+entry c = c .before .before .before .before .before .before .before .before .before .before .before .before
+
+-- where the call is accepted, from the call that goes on
+abbrev accepted : tie.After-advance-and-report → tie.Else1
+accepted c = c .before .before .before .before .before .before
+
+-- the call that goes on, from the return
+abbrev went-on : tie.After-slice-known15 → tie.After-advance-and-report
+went-on c = c .before .before .before .before .before .before .before .before .before .before
+
 open-requires : tie.Need-open-requires
 open-requires c κs = search needs
 
@@ -37,8 +53,8 @@ returns c =
     let last = c .before .before in
     let test = last .before .before in
     let answer = test .before in
-    let call = answer .before .before .before .before .before .before .before .before .before in
-    let a = call .before .before .before .before .before .before .before .before .before .before .before .before .args in
+    let call = called answer in
+    let a = entry call .args in
     let commands = a .commands .now in
     let schedule = a .schedule .now in
     let lent = lists (a .state .now) (a .keys .now) (a .chutes .now) (a .answers .now) in
@@ -66,11 +82,11 @@ same-length-10 c = search needs
 
 returns-2 : tie.Need-returns-2
 returns-2 c =
-    let last = c .before .before .before .before .before .before .before .before .before .before in
-    let test = last .before .before .before .before .before .before in
+    let last = went-on c in
+    let test = accepted last in
     let answer = test .before in
-    let call = answer .before .before .before .before .before .before .before .before .before in
-    let a = call .before .before .before .before .before .before .before .before .before .before .before .before .args in
+    let call = called answer in
+    let a = entry call .args in
     let commands = a .commands .now in
     let schedule = a .schedule .now in
     let lent = lists (a .state .now) (a .keys .now) (a .chutes .now) (a .answers .now) in

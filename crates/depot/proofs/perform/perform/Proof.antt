@@ -9,6 +9,22 @@ use Rattle.depot.proofs.Outcome.{lent-as-zeros}
 use Rattle.depot.proofs.perform.perform.Statement.{statement}
 use Rattle.depot.proofs.perform.perform.Tie as tie
 
+-- the call that says how many entries are lent, from where the keys are
+abbrev entries-known : tie.After-keys → tie.After-lent-entries
+entries-known c = c .before .before .before
+
+-- the call that makes the state, from there
+abbrev made : tie.After-lent-entries → tie.After-new-state
+made c = c .before .before .before .before
+
+-- the function's entry, from the first call
+abbrev entry : tie.After-new-state → tie.Start
+entry c = c .before .before .before .before
+
+-- the call that opens, from the return
+abbrev called : tie.After-answers2 → tie.After-open-and-advance
+called c = c .before .before .before .before .before .before
+
 new-state-requires : tie.Need-new-state-requires
 new-state-requires c κs = search needs
 
@@ -31,23 +47,23 @@ array-borrow-prefix-keys : tie.Need-array-borrow-prefix-keys
 array-borrow-prefix-keys c = search needs
 
 slice-aggregate-open-and-advance-2 : tie.Need-slice-aggregate-open-and-advance-2
-slice-aggregate-open-and-advance-2 c = sym (length-take-le (c .before .before .before .lent-entries .result) (c .before .before .before .before .before .before .new-keys .result) (omega arith))
+slice-aggregate-open-and-advance-2 c = sym (length-take-le (entries-known c .lent-entries .result) (entries-known c .before .before .before .new-keys .result) (omega arith))
 
 array-borrow-prefix-chutes : tie.Need-array-borrow-prefix-chutes
 array-borrow-prefix-chutes c = search needs
 
 slice-aggregate-open-and-advance-3 : tie.Need-slice-aggregate-open-and-advance-3
-slice-aggregate-open-and-advance-3 c = sym (length-take-le (c .before .before .before .before .lent-entries .result) (c .before .before .before .before .before .before .new-numbers .result) (omega arith))
+slice-aggregate-open-and-advance-3 c = sym (length-take-le (entries-known (c .before) .lent-entries .result) (entries-known (c .before) .before .before .new-numbers .result) (omega arith))
 
 array-borrow-prefix-answers : tie.Need-array-borrow-prefix-answers
 array-borrow-prefix-answers c = search needs
 
 slice-aggregate-open-and-advance-4 : tie.Need-slice-aggregate-open-and-advance-4
-slice-aggregate-open-and-advance-4 c = sym (length-take-le (c .before .before .before .before .before .before .before .before .before .before .before .before .before .args .count) (c .before .before .before .before .before .before .new-numbers2 .result) (omega arith))
+slice-aggregate-open-and-advance-4 c = sym (length-take-le (entry (made (entries-known (c .before .before))) .args .count) (entries-known (c .before .before) .before .new-numbers2 .result) (omega arith))
 
 open-and-advance-requires : tie.Need-open-and-advance-requires
 open-and-advance-requires c κs =
-    let lent = length-take-le (c .before .before .before .before .before .before .before .before .before .before .before .before .before .args .count) (c .before .before .before .before .before .before .new-numbers2 .result) (omega arith) in
+    let lent = length-take-le (entry (made (entries-known (c .before .before))) .args .count) (entries-known (c .before .before) .before .new-numbers2 .result) (omega arith) in
     ((omega arith, omega arith, omega arith), omega arith)
 
 same-length : tie.Need-same-length
@@ -55,13 +71,13 @@ same-length c = search needs
 
 returns : tie.Need-returns
 returns c =
-    let call = c .before .before .before .before .before .before in
-    let entries = call .before .before .before .before .before .before in
+    let call = called c in
+    let entries = entries-known (call .before .before .before) in
     let answers = entries .before in
     let chutes = answers .before in
     let keys = chutes .before in
     let state = keys .before in
-    let a = state .before .before .before .before .args in
+    let a = entry state .args in
     let n = entries .lent-entries .result in
     let lent = lists (state .new-state .result) (take n (keys .new-keys .result)) (take n (chutes .new-numbers .result)) (take (a .count) (answers .new-numbers2 .result)) in
     let as-zeros = lent-as-zeros (a .size) (a .workers) (a .capacity) (a .count) (a .commands .now) lent (state .new-state .ensures)

@@ -15,6 +15,10 @@ Inv-loop state node₀ count₀ node count = Walked (stateIn (lists state [] [] 
 abbrev μ-loop : tie.MeasureT-loop
 μ-loop state node₀ count₀ node count = 150 - count
 
+-- the loop's head, from a turn's test
+abbrev turn : tie.After-struct-known Inv-loop μ-loop → tie.At-loop Inv-loop μ-loop
+turn c = c .before .before .before
+
 loop-holds : tie.Need-loop-holds Inv-loop μ-loop
 loop-holds c = walk-begins _
 
@@ -24,7 +28,7 @@ next-at-requires c κs = omega arith
 
 returns : tie.Need-returns Inv-loop μ-loop
 returns c =
-    let l = c .before .before .before .before .loop in
+    let l = turn (c .before) .loop in
     (walk-ends _ (l .node .0) (l .count) (l .inv) (sym (c .before .before .next-at .ensures _ refl) ∙ c .if1 .taken), l .inv .0)
 
 add-count : tie.Need-add-count Inv-loop μ-loop
@@ -35,7 +39,7 @@ loop-less c = omega arith
 
 loop-again : tie.Need-loop-again Inv-loop μ-loop
 loop-again c =
-    let l = c .before .before .before .before .loop in
+    let l = turn (c .before) .loop in
     walk-goes-on _ (l .node .0) (c .before .before .next-at .result .0) (l .count) (l .inv) (c .before .before .before .loop-test .taken) (c .before .before .next-at .ensures _ refl) (c .if1 .left)
 
 returns-2 : tie.Need-returns-2 Inv-loop μ-loop

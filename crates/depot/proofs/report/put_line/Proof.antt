@@ -10,6 +10,27 @@ use Rattle.depot.proofs.Wrote.{wrote-then}
 use Rattle.depot.proofs.report.put_line.Statement.{statement}
 use Rattle.depot.proofs.report.put_line.Tie as tie
 
+-- the function's entry, from the call that tells the kind
+abbrev entry : tie.After-of → tie.Start
+entry c = c .before .before .before .before .before
+
+-- each call that writes, from the next
+abbrev start-put : tie.After-put-text → tie.After-put-start
+start-put c = c .before .before .before .before .before
+
+abbrev text-put : tie.After-put-byte → tie.After-put-text
+text-put c = c .before .before .before .before
+
+abbrev byte-put : tie.After-put-number-arg → tie.After-put-byte
+byte-put c = c .before .before .before
+
+abbrev number-put : tie.After-put-byte-arg2 → tie.After-put-number
+number-put c = c .before .before .before
+
+-- the function's entry, from where the answer is written
+abbrev begin : tie.After-put-number-arg → tie.Start
+begin c = entry (start-put (text-put (byte-put c)) .before)
+
 -- a command's identifier has 13 characters, and a 16-bit answer at most five digits
 identifier-length : (c : tie.Start) → length (take 13 (drop 1 (c .args .command .now))) ≡ 13
 identifier-length c = simp (length-take, length-drop) (omega arith)
@@ -42,10 +63,10 @@ put-byte-requires : tie.Need-put-byte-requires
 put-byte-requires c κs = search needs
 
 put-number-requires : tie.Need-put-number-requires
-put-number-requires c κs = omega (arith, identifier-length (c .before .before .before .before .before .before .before .before .before .before .before .before .before .before .before .before .before .before), answer-length (c .before .before .before .before .before .before .before .before .before .before .before .before .before .before .before .before .before .before))
+put-number-requires c κs = omega (arith, identifier-length (begin c), answer-length (begin c))
 
 put-byte-requires-2 : tie.Need-put-byte-requires-2
-put-byte-requires-2 c κs = omega (arith, identifier-length (c .before .before .before .before .before .before .before .before .before .before .before .before .before .before .before .before .before .before .before .before .before .before), answer-length (c .before .before .before .before .before .before .before .before .before .before .before .before .before .before .before .before .before .before .before .before .before .before))
+put-byte-requires-2 c κs = omega (arith, identifier-length (begin (number-put c .before)), answer-length (begin (number-put c .before)))
 
 same-length : tie.Need-same-length
 same-length c = search needs
@@ -54,12 +75,12 @@ returns : tie.Need-returns
 unfolding commandLine
 returns c =
     let five = c .before .before in
-    let four = five .before .before .before .before in
-    let three = four .before .before .before .before in
-    let two = three .before .before .before .before in
-    let one = two .before .before .before .before .before in
+    let four = number-put (five .before) in
+    let three = byte-put (four .before) in
+    let two = text-put three in
+    let one = start-put two in
     let kind = one .before in
-    let start = kind .before .before .before .before .before in
+    let start = entry kind in
     let room = start .pre in
     let identifier-room = identifier-length start in
     let answer-room = answer-length start in

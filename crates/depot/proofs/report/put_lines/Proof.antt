@@ -25,6 +25,14 @@ Inv-loop out₀ commands answers at₀ i₀ out at i = (i ≤ length answers) ×
 abbrev μ-loop : tie.MeasureT-loop
 μ-loop out₀ commands answers at₀ i₀ out at i = length answers - i
 
+-- the function's entry, from the loop's head
+abbrev entry : tie.At-loop Inv-loop μ-loop → tie.Start Inv-loop μ-loop
+entry c = c .before .before .before .before
+
+-- the call that finds the answers, from the call that writes the line
+abbrev answers-found : tie.After-put-line Inv-loop μ-loop → tie.After-answers-from Inv-loop μ-loop
+answers-found c = c .before .before .before .before
+
 loop-holds : tie.Need-loop-holds Inv-loop μ-loop
 loop-holds c = (omega arith, omega arith, refl, none-wrote (lineOf (c .before .before .before .args .commands .now) (c .before .before .before .args .answers .now)) (c .before .before .before .args .out .now))
 
@@ -52,7 +60,7 @@ part-put-line-end c = omega arith
 shared-slice-read-put-line : tie.Need-shared-slice-read-put-line Inv-loop μ-loop
 shared-slice-read-put-line c =
     let from = c .before .before .before in
-    some-from (from .before .before .loop .i) (from .before .before .before .before .before .before .args .answers .now) (from .answers-from .result .now) (from .answers-from .ensures .0) (omega arith)
+    some-from (from .before .before .loop .i) (entry (from .before .before) .args .answers .now) (from .answers-from .result .now) (from .answers-from .ensures .0) (omega arith)
 
 put-line-requires : tie.Need-put-line-requires Inv-loop μ-loop
 put-line-requires c κs = (omega arith, omega arith, simp (length-take, length-drop) (omega arith))
@@ -66,10 +74,10 @@ loop-less c = omega arith
 loop-again : tie.Need-loop-again Inv-loop μ-loop
 loop-again c =
     let p = c .before .before in
-    let from = p .before .before .before .before in
+    let from = answers-found p in
     let l = from .before .before .loop in
     let cut : 16 * l .i + 16 - 16 * l .i ≡ 16 = omega arith in
-    let own = first-from (l .i) (from .before .before .before .before .before .before .args .answers .now) (from .answers-from .result .now) (from .answers-from .ensures .0) in
+    let own = first-from (l .i) (entry (from .before .before) .args .answers .now) (from .answers-from .result .now) (from .answers-from .ensures .0) in
     let line = rw (own, add-one, cut) at (p .put-line .ensures .0) in
     (omega arith, omega arith, omega arith, rw (add-one, fields-more) (wrote-then (omega arith) (l .inv .3) line))
 
@@ -80,7 +88,7 @@ returns : tie.Need-returns Inv-loop μ-loop
 unfolding commandLines
 returns c =
     let l = c .before .loop in
-    let a = c .before .before .before .before .before .args in
+    let a = entry (c .before) .args in
     let count : length (a .commands .now) / 16 ≡ l .i = omega arith in
     (rw count (l .inv .3), omega arith)
 

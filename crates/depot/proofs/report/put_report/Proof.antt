@@ -10,6 +10,14 @@ use Rattle.depot.proofs.Wrote.{wrote-then}
 use Rattle.depot.proofs.report.put_report.Statement.{statement}
 use Rattle.depot.proofs.report.put_report.Tie as tie
 
+-- the call that writes the lines, from the call that writes the totals
+abbrev lines-put : tie.After-put-totals → tie.After-put-lines
+lines-put c = c .before .before .before .before
+
+-- the function's entry, from the first call
+abbrev entry : tie.After-put-lines → tie.Start
+entry c = c .before .before .before .before .before .before
+
 put-lines-requires : tie.Need-put-lines-requires
 put-lines-requires c κs = search needs
 
@@ -23,8 +31,8 @@ returns : tie.Need-returns
 unfolding report
 returns c =
     let two = c .before .before in
-    let one = two .before .before .before .before in
-    let a = one .before .before .before .before .before .before .args in
+    let one = lines-put two in
+    let a = entry one .args in
     rw (totals-by-bytes (lists (a .state .now) [] [] (a .answers .now)) (lists (a .state .now) [] [] []) refl)
     (wrote-then (omega arith) (one .put-lines .ensures .0) (two .put-totals .ensures))
 

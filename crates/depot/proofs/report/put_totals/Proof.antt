@@ -10,6 +10,23 @@ use Rattle.depot.proofs.Wrote.{wrote-then}
 use Rattle.depot.proofs.report.put_totals.Statement.{statement}
 use Rattle.depot.proofs.report.put_totals.Tie as tie
 
+-- the function's entry, from the first call
+abbrev entry : tie.After-put-text → tie.Start
+entry c = c .before .before .before .before .before
+
+-- each call that writes, from where the next is made
+abbrev label-put : tie.After-number-at → tie.After-put-text
+label-put c = c .before .before .before .before
+
+abbrev used-put : tie.After-put-text-arg4 → tie.After-put-number
+used-put c = c .before .before .before .before
+
+abbrev text-put : tie.After-chain-length → tie.After-put-text2
+text-put c = c .before .before .before .before
+
+abbrev count-put : tie.After-put-byte-arg → tie.After-put-number2
+count-put c = c .before .before .before
+
 -- two bytes write at most five digits, and 150 has three
 used-length : (c : tie.After-number-at) → length (decimal (c .number-at .result)) ≤ 5
 used-length c = decimal-length 4 (c .number-at .result) (omega arith)
@@ -36,16 +53,16 @@ slice-aggregate-put-text-2 : tie.Need-slice-aggregate-put-text-2
 slice-aggregate-put-text-2 c = search needs
 
 put-text-requires-2 : tie.Need-put-text-requires-2
-put-text-requires-2 c κs = omega (arith, used-length (c .before .before .before .before .before))
+put-text-requires-2 c κs = omega (arith, used-length (used-put c .before))
 
 chain-length-requires : tie.Need-chain-length-requires
 chain-length-requires c κs = search needs
 
 put-number-requires-2 : tie.Need-put-number-requires-2
-put-number-requires-2 c κs = omega (arith, used-length (c .before .before .before .before .before .before .before .before .before .before), count-length c)
+put-number-requires-2 c κs = omega (arith, used-length (used-put (text-put c .before) .before), count-length c)
 
 put-byte-requires : tie.Need-put-byte-requires
-put-byte-requires c κs = omega (arith, used-length (c .before .before .before .before .before .before .before .before .before .before .before .before .before .before), count-length (c .before .before .before .before))
+put-byte-requires c κs = omega (arith, used-length (used-put (text-put (count-put c .before) .before) .before), count-length (count-put c .before))
 
 same-length : tie.Need-same-length
 same-length c = search needs
@@ -59,8 +76,8 @@ returns c =
     let three = chain .before .before .before .before in
     let two = three .before .before .before .before .before in
     let used = two .before in
-    let one = used .before .before .before .before in
-    let start = one .before .before .before .before .before in
+    let one = label-put used in
+    let start = entry one in
     let used-room = used-length used in
     let chain-room = count-length chain in
     let room = start .pre in

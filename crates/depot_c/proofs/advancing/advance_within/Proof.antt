@@ -10,6 +10,18 @@ use Rattle.depot_c.proofs.Outcomes.{advance-place, entries-read-back, a
 use Rattle.depot_c.proofs.advancing.advance_within.Statement.{statement}
 use Rattle.depot_c.proofs.advancing.advance_within.Tie as tie
 
+-- the call that makes the answer, from where the numbers are written
+abbrev answered : tie.After-write-lists-arg6 → tie.After-number
+answered c = c .before .before .before .before .before .before .before
+
+-- the call that writes them, from the return
+abbrev written : tie.After-slice-known17 → tie.After-write-lists
+written c = c .before .before .before .before .before .before
+
+-- where the entries are known to be bytes, from the call that reads the numbers
+abbrev known : tie.After-read-lists → tie.After-slice-known4
+known c = c .before .before .before .before .before .before .before .before .before .before .before .before
+
 -- the places after the calls, from the answer back to the function's entry
 abbrev called : tie.After-number → tie.After-advance
 called c = c .before .before .before .before .before .before .before .before .before
@@ -18,7 +30,7 @@ abbrev read : tie.After-advance → tie.After-read-lists
 read c = c .before .before .before .before .before .before .before .before .before .before .before
 
 abbrev start : tie.After-read-lists → tie.Start
-start c = c .before .before .before .before .before .before .before .before .before .before .before .before .before .before .before .before
+start c = known c .before .before .before .before
 
 abbrev entry : tie.After-number → tie.Start
 entry c = start (read (called c))
@@ -46,7 +58,7 @@ number-requires c κs = search needs
 
 write-lists-requires : tie.Need-write-lists-requires
 write-lists-requires c κs =
-    let call = c .before .before .before .before .before .before .before .before .before .before .before .before .before .before .before .before in
+    let call = called (answered c) in
     let pre = start (read call) .pre in
     let first = read call .read-lists .kept .1 .1 .1 in
     let then = call .advance .kept .1 in
@@ -79,18 +91,18 @@ same-length-7 c = search needs
 
 returns : tie.Need-returns
 returns c =
-    let answer = c .before .before .before .before .before .before .before .before .before .before .before .before .before .before in
+    let answer = answered (written c .before) in
     let before = read (called answer) in
     let begin = entry answer in
     let args = begin .args in
     let whole = entries-read-back (args .state .now) (args .keys .now) (args .chutes .now) (args .answers .now) (length (args .key-room .now)) (length (args .chute-room .now))
     (length (args .answer-room .now)) (begin .pre .keys-fit) (begin .pre .chutes-fit) (begin .pre .answers-fit)
-    (λ i. omega (arith, before .before .before .before .before .before .before .before .before .before .before .before .before .before .before .slice-known2 .given i))
-    (λ i. omega (arith, before .before .before .before .before .before .before .before .before .before .before .before .before .before .slice-known3 .given i))
-    (λ i. omega (arith, before .before .before .before .before .before .before .before .before .before .before .before .before .slice-known4 .given i)) in (
+    (λ i. omega (arith, known before .before .before .slice-known2 .given i))
+    (λ i. omega (arith, known before .before .slice-known3 .given i))
+    (λ i. omega (arith, known before .slice-known4 .given i)) in (
       answer-is answer,
       written-on (args .state .now) (args .keys .now) (args .chutes .now) (args .answers .now) (outcome begin) (before .read-lists .ensures) whole
-          (called answer .advance .ensures .1 .1) (c .before .before .before .before .before .before .write-lists .ensures),
+          (called answer .advance .ensures .1 .1) (written c .write-lists .ensures),
     )
 
 same-length-8 : tie.Need-same-length-8

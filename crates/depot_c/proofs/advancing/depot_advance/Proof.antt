@@ -13,13 +13,33 @@ use borrow.Author.Needs.{needs}
 use Rattle.depot_c.proofs.advancing.depot_advance.Statement.{statement}
 use Rattle.depot_c.proofs.advancing.depot_advance.Tie as tie
 
+-- the function's entry, from the test whether the lists end with a number
+abbrev entry : tie.After-are-whole → tie.Start
+entry c = c .before .before .before .before .before .before .before
+
+-- where they do, from the answer on lists that are too long
+abbrev whole-long : tie.After-long-answer → tie.Else1
+whole-long c = c .before .before .before .before
+
+-- where the lists have room, from where rooms are lent
+abbrev with-room : tie.After-advance-within-arg4 → tie.Else2
+with-room c = c .before .before .before .before
+
+-- where they end with a number, from the call on rooms
+abbrev whole-lent : tie.After-answer-room → tie.Else1
+whole-lent c = with-room (c .before .before .before) .before .before
+
+-- the call on rooms, from the return
+abbrev called : tie.After-answer-room2 → tie.After-advance-within
+called c = c .before .before .before .before .before .before .before .before .before .before .before
+
 are-whole-requires : tie.Need-are-whole-requires
 are-whole-requires c κs = search needs
 
 returns : tie.Need-returns
 unfolding answerOf refusalNumber refusalPlace left
 returns c =
-    let args = c .before .before .before .before .before .before .before .before .args in
+    let args = entry (c .before) .args in
     let b = lists (args .state .now) (args .keys .now) (args .chutes .now) (args .answers .now) in
     let none = decoded-none b (sym (c .before .are-whole .ensures) ∙ not-true _ (c .if1 .taken)) in
     let six = nothing-advanced (args .commands .now) (args .schedule .now) in
@@ -36,9 +56,9 @@ same-length c = search needs
 
 returns-2 : tie.Need-returns-2
 returns-2 c =
-    let args = c .before .before .before .before .before .before .before .before .before .before .before .before .args in
+    let args = entry (whole-long c .before) .args in
     let b = lists (args .state .now) (args .keys .now) (args .chutes .now) (args .answers .now) in
-    let whole = decoded-whole b (sym (c .before .before .before .before .before .are-whole .ensures) ∙ not-false _ (c .before .before .before .before .if1 .left)) in
+    let whole = decoded-whole b (sym (whole-long c .before .are-whole .ensures) ∙ not-false _ (whole-long c .if1 .left)) in
     let long = long-answered b (args .commands .now) (args .schedule .now) (sym (c .before .before .before .have-room .ensures) ∙ not-true _ (c .before .before .if2 .taken)) in
     let answer = of-entries (args .state .now) (args .keys .now) (args .chutes .now) (args .answers .now) (args .commands .now)
     {P = λ l list. c .long-answer .result ≡ cond (handedBackFit l list) 12 6} (c .long-answer .ensures) in
@@ -46,9 +66,9 @@ returns-2 c =
 
 -- each list fits its room
 bounds : (c : tie.After-advance-within-arg4) →
-    let args = c .before .before .before .before .before .before .before .before .before .before .before .before .before .before .args in
+    let args = entry (with-room c .before .before .before) .args in
     (length (args .keys .now) / 8 ≤ 4096) × (length (args .chutes .now) / 2 ≤ 4096) × (length (args .answers .now) / 2 ≤ 4096)
-bounds c = room-bounds _ _ _ (sym (c .before .before .before .before .before .have-room .ensures) ∙ not-false _ (c .before .before .before .before .if2 .left))
+bounds c = room-bounds _ _ _ (sym (with-room c .before .have-room .ensures) ∙ not-false _ (with-room c .if2 .left))
 
 array-borrow-prefix-key-room : tie.Need-array-borrow-prefix-key-room
 array-borrow-prefix-key-room c = bounds c .0
@@ -71,7 +91,7 @@ slice-aggregate-advance-within-3 c = sym (length-take-le _ _ (bounds (c .before 
 advance-within-requires : tie.Need-advance-within-requires
 advance-within-requires c κs =
     let fit = bounds (c .before .before .before) in
-    let first = c .before .before .before .before .before .before .before .before .before in
+    let first = whole-lent c in
     let whole = whole-lengths _ _ _ (sym (first .before .are-whole .ensures) ∙ not-false _ (first .if1 .left)) in
     record {
       keys-fit = whole .0 ∙ ap (λ (m : ℕ). 8 * m) (sym (length-take-le _ _ (fit .0)));
@@ -93,10 +113,10 @@ same-length-5 c = search needs
 
 returns-3 : tie.Need-returns-3
 returns-3 c =
-    let args = c .before .before .before .before .before .before .before .before .before .before .before .before .before .before .before .before .before .before .before .before .before .before .before .before .before .before .before .before .before .args in
+    let args = entry (whole-lent (called c .before) .before) .args in
     let b = lists (args .state .now) (args .keys .now) (args .chutes .now) (args .answers .now) in
-    let call = c .before .before .before .before .before .before .before .before .before .before .before in
-    let first = call .before .before .before .before .before .before .before .before .before .before in
+    let call = called c in
+    let first = whole-lent (call .before) in
     let whole = decoded-whole b (sym (first .before .are-whole .ensures) ∙ not-false _ (first .if1 .left)) in
     (rw whole (call .advance-within .ensures .0), rw whole (call .advance-within .ensures .1))
 

@@ -15,6 +15,10 @@ use Rattle.state_bytes.proofs.Paste.{pasted-whole}
 use Rattle.depot_c.proofs.identifiers.depot_read_identifier.Statement.{statement}
 use Rattle.depot_c.proofs.identifiers.depot_read_identifier.Tie as tie
 
+-- the function's entry, from where the key's list is long enough
+abbrev entry : tie.Else1 → tie.Start
+entry c = c .before .before .before
+
 -- an accepted text leaves its key
 accepted-left : (r : Reading) (old : List ℕ) → numberRead (textOutcome r) ≡ 0 → bytesRead (textOutcome r) old ≡ bytesOf 8 (keyRead (textOutcome r))
 unfolding bytesRead
@@ -54,7 +58,7 @@ returns-2 c =
     let key = c .before .before .before in
     let number = key .before .before .before in
     let reading = number .before .read in
-    let old = number .before .before .before .before .before .args .key .now in
+    let old = entry (number .before .before) .args .key .now in
     let long = number .before .before .if1 .left in
     let zero-read = sym (number .reading-number .ensures) ∙ key .before .before .if2 .taken in
     let put = c .before .before .put-number .ensures ∙ pasted-whole _ old (bytes-length 8 (key .reading-key .result) ∙ sym long) in (

@@ -15,6 +15,10 @@ Inv-loop bytes out₀ i₀ out i = Filled (λ (n : ℕ). numberAt 2 (2 * n) byte
 abbrev μ-loop : tie.MeasureT-loop
 μ-loop bytes out₀ i₀ out i = length out₀ - i
 
+-- the function's entry, from the loop's end
+abbrev entry : tie.After-loop Inv-loop μ-loop → tie.Start Inv-loop μ-loop
+entry c = c .before .before .before .before
+
 loop-holds : tie.Need-loop-holds Inv-loop μ-loop
 loop-holds c = filled-none refl
 
@@ -43,7 +47,7 @@ same-length : tie.Need-same-length Inv-loop μ-loop
 same-length c = c .before .loop .inv .long
 
 returns : tie.Need-returns Inv-loop μ-loop
-returns c = filled-numbers _ _ _ (omega arith) (c .before .before .before .before .pre) (c .before .loop .inv) (omega arith)
+returns c = filled-numbers _ _ _ (omega arith) (entry c .pre) (c .before .loop .inv) (omega arith)
 
 pub read-shorts-spec : {M : Type 1} → statement M
 read-shorts-spec =

@@ -15,6 +15,14 @@ Inv-loop bytes₀ from i₀ bytes i = PutFields (λ (n : ℕ). bytesOf 8 (getD f
 abbrev μ-loop : tie.MeasureT-loop
 μ-loop bytes₀ from i₀ bytes i = length from - i
 
+-- the loop's head, from a turn's call
+abbrev turn : tie.After-put-number Inv-loop μ-loop → tie.At-loop Inv-loop μ-loop
+turn c = c .before .before .before .before
+
+-- the function's entry, from the loop's head
+abbrev entry : tie.At-loop Inv-loop μ-loop → tie.Start Inv-loop μ-loop
+entry c = c .before .before .before
+
 loop-holds : tie.Need-loop-holds Inv-loop μ-loop
 loop-holds c = fields-none _ _ _ _ _
 
@@ -39,15 +47,15 @@ loop-less c = omega arith
 loop-again : tie.Need-loop-again Inv-loop μ-loop
 loop-again c =
     let called = c .before .before in
-    let pass = called .before .before .before .before .loop in
-    let args = called .before .before .before .before .before .before .before .args in
+    let pass = turn called .loop in
+    let args = entry (turn called) .args in
     fields-put (pass .inv) (8 * pass .i) (omega arith) (omega arith) (bytes-length 8 (getD (args .from .now) (pass .i) 0)) (called .put-number .ensures)
 
 same-length : tie.Need-same-length Inv-loop μ-loop
 same-length c = fields-put-length (c .before .loop .inv)
 
 returns : tie.Need-returns Inv-loop μ-loop
-returns c = put-numbers _ _ _ (c .before .before .before .before .pre) (c .before .loop .inv) (omega arith)
+returns c = put-numbers _ _ _ (entry (c .before) .pre) (c .before .loop .inv) (omega arith)
 
 pub write-keys-spec : {M : Type 1} → statement M
 write-keys-spec =

@@ -10,15 +10,31 @@ use Rattle.depot_c.proofs.Outcomes.{opening-place-below, entries-read-b
 use Rattle.depot_c.proofs.opening.open_within.Statement.{statement}
 use Rattle.depot_c.proofs.opening.open_within.Tie as tie
 
+-- the proved call, from where the rooms have come back
+abbrev left : tie.After-slice-known14 → tie.After-open
+left c = c .before .before .before .before .before .before .before .before
+
+-- the call that makes the answer, from where the numbers are written
+abbrev answered : tie.After-write-lists-arg6 → tie.After-opening-answer
+answered c = c .before .before .before .before .before .before .before
+
+-- the call that writes them, from the return
+abbrev written : tie.After-slice-known17 → tie.After-write-lists
+written c = c .before .before .before .before .before .before
+
+-- where the entries are known to be bytes, from the call that reads the numbers
+abbrev known : tie.After-read-lists → tie.After-slice-known4
+known c = c .before .before .before .before .before .before .before .before .before .before .before
+
 -- the places after the calls, from the answer back to the function's entry
 abbrev called : tie.After-opening-answer → tie.After-open
-called c = c .before .before .before .before .before .before .before .before .before
+called c = left (c .before)
 
 abbrev read : tie.After-open → tie.After-read-lists
 read c = c .before .before .before .before .before .before .before .before .before .before .before
 
 abbrev start : tie.After-read-lists → tie.Start
-start c = c .before .before .before .before .before .before .before .before .before .before .before .before .before .before .before
+start c = known c .before .before .before .before
 
 abbrev entry : tie.After-opening-answer → tie.Start
 entry c = start (read (called c))
@@ -42,11 +58,11 @@ open-requires : tie.Need-open-requires
 open-requires c κs = search needs
 
 opening-answer-requires : tie.Need-opening-answer-requires
-opening-answer-requires c κs = rw (c .before .before .before .before .before .before .before .before .«open» .ensures .1 .0) (opening-place-below _ _ _ _ _)
+opening-answer-requires c κs = rw (left c .«open» .ensures .1 .0) (opening-place-below _ _ _ _ _)
 
 write-lists-requires : tie.Need-write-lists-requires
 write-lists-requires c κs =
-    let call = c .before .before .before .before .before .before .before .before .before .before .before .before .before .before .before .before in
+    let call = called (answered c) in
     let pre = start (read call) .pre in
     let first = read call .read-lists .kept .1 .1 .1 in
     let then = call .«open» .kept .1 in
@@ -79,18 +95,18 @@ same-length-7 c = search needs
 
 returns : tie.Need-returns
 returns c =
-    let answer = c .before .before .before .before .before .before .before .before .before .before .before .before .before .before in
+    let answer = answered (written c .before) in
     let before = read (called answer) in
     let begin = entry answer in
     let args = begin .args in
     let whole = entries-read-back (args .state .now) (args .keys .now) (args .chutes .now) (args .answers .now) (length (args .key-room .now)) (length (args .chute-room .now))
     (length (args .answer-room .now)) (begin .pre .keys-fit) (begin .pre .chutes-fit) (begin .pre .answers-fit)
-    (λ i. omega (arith, before .before .before .before .before .before .before .before .before .before .before .before .before .before .slice-known2 .given i))
-    (λ i. omega (arith, before .before .before .before .before .before .before .before .before .before .before .before .before .slice-known3 .given i))
-    (λ i. omega (arith, before .before .before .before .before .before .before .before .before .before .before .before .slice-known4 .given i)) in (
+    (λ i. omega (arith, known before .before .before .slice-known2 .given i))
+    (λ i. omega (arith, known before .before .slice-known3 .given i))
+    (λ i. omega (arith, known before .slice-known4 .given i)) in (
       answer-is answer,
       written-on (args .state .now) (args .keys .now) (args .chutes .now) (args .answers .now) (outcome begin) (before .read-lists .ensures) whole
-          (called answer .«open» .ensures .1 .1) (c .before .before .before .before .before .before .write-lists .ensures),
+          (called answer .«open» .ensures .1 .1) (written c .write-lists .ensures),
     )
 
 same-length-8 : tie.Need-same-length-8

@@ -6,6 +6,10 @@ use borrow.Author.Needs.{needs}
 use Rattle.depot_c.proofs.opening.open_without.Statement.{statement}
 use Rattle.depot_c.proofs.opening.open_without.Tie as tie
 
+-- the proved call, from where its answer is put together
+abbrev called : tie.After-answers2 → tie.After-open
+called c = c .before .before .before .before
+
 array-borrow-prefix-state : tie.Need-array-borrow-prefix-state
 array-borrow-prefix-state c = search needs
 
@@ -35,13 +39,13 @@ open-requires c κs = search needs
 
 opening-answer-requires : tie.Need-opening-answer-requires
 opening-answer-requires c κs =
-    let call = c .before .before .before .before in
+    let call = called c in
     rw (call .«open» .ensures .1 .0) (opening-place-below _ _ _ _ _)
 
 returns : tie.Need-returns
 unfolding answerOf
 returns c =
-    let call = c .before .before .before .before .before in
+    let call = called (c .before) in
     c .opening-answer .ensures ∙ rw (call .«open» .ensures .0, call .«open» .ensures .1 .0)
 
 pub open-without-spec : {M : Type 1} → statement M

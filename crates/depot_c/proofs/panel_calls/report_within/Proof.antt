@@ -5,6 +5,22 @@ use Rattle.depot_c.proofs.Reporting.{report-on}
 use Rattle.depot_c.proofs.panel_calls.report_within.Statement.{statement}
 use Rattle.depot_c.proofs.panel_calls.report_within.Tie as tie
 
+-- where the counts are wanted, from the call that gives them
+abbrev counting : tie.After-pending-counts → tie.After-enum-told
+counting c = c .before .before .before .before .before
+
+-- where the status is wanted, from the call that gives it
+abbrev showing : tie.After-worker-status-bytes → tie.After-enum-told2
+showing c = c .before .before .before .before .before
+
+-- the call that reads the numbers, from where the cases part
+abbrev lists-read : tie.After-slice-known7 → tie.After-read-lists
+lists-read c = c .before .before .before .before .before .before
+
+-- the function's entry, from that call
+abbrev entry : tie.After-read-lists → tie.Start
+entry c = c .before .before .before .before .before .before .before .before .before .before .before .before .before
+
 read-lists-requires : tie.Need-read-lists-requires
 read-lists-requires c κs = search needs
 
@@ -41,9 +57,9 @@ same-length-4 c = search needs
 returns : tie.Need-returns
 returns c =
     let call = c .before .before .before in
-    let told = call .before .before .before .before .before in
-    let read = told .before .before .before .before .before .before .before .before in
-    let args = read .before .before .before .before .before .before .before .before .before .before .before .before .before .args in
+    let told = counting call in
+    let read = lists-read (told .before .before) in
+    let args = entry read .args in
     rw (told .enum-told .given .1)
     (report-on PendingCounts (args .state .now) (args .keys .now) (args .chutes .now) (args .answers .now) (args .commands .now) (args .out .now)
     (read .read-lists .ensures) (c .report-answer .ensures) (call .pending-counts .ensures .0, call .pending-counts .ensures .1 .1))
@@ -63,9 +79,9 @@ same-length-8 c = search needs
 returns-2 : tie.Need-returns-2
 returns-2 c =
     let call = c .before .before .before in
-    let told = call .before .before .before .before .before in
-    let read = told .before .before .before .before .before .before .before .before in
-    let args = read .before .before .before .before .before .before .before .before .before .before .before .before .before .args in
+    let told = showing call in
+    let read = lists-read (told .before .before) in
+    let args = entry read .args in
     rw (told .enum-told2 .given .1)
     (report-on WorkerStatus (args .state .now) (args .keys .now) (args .chutes .now) (args .answers .now) (args .commands .now) (args .out .now)
     (read .read-lists .ensures) (c .report-answer2 .ensures) (call .worker-status-bytes .ensures .0, call .worker-status-bytes .ensures .1 .1))

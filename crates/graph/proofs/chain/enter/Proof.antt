@@ -4,6 +4,10 @@ use Rattle.graph.proofs.Steps.{enter-waits, enter-locks}
 use Rattle.graph.proofs.chain.enter.Statement.{statement}
 use Rattle.graph.proofs.chain.enter.Tie as tie
 
+-- the function's entry, from the call that locks the head
+abbrev entry : tie.After-set-flag → tie.Start
+entry c = c .before .before .before .before
+
 element-copy-out-if1 : tie.Need-element-copy-out-if1
 element-copy-out-if1 c = search needs
 
@@ -17,7 +21,7 @@ set-flag-requires c κs = search needs
 
 returns-2 : tie.Need-returns-2
 returns-2 c =
-    let a = c .before .before .before .before .args in
+    let a = entry c .args in
     enter-locks (a .thread) (a .entered) (a .locked .now) (c .set-flag .last .0) (c .before .before .if1 .left) (c .set-flag .ensures)
 
 pub enter-spec : {M : Type 1} → statement M

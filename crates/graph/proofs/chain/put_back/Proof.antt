@@ -4,6 +4,19 @@ use Rattle.graph.proofs.Bridge.{empty-is-none}
 use Rattle.graph.proofs.chain.put_back.Statement.{statement}
 use Rattle.graph.proofs.chain.put_back.Tie as tie
 
+-- the calls that store, each from the next
+abbrev unlocked : tie.After-set-waits → tie.After-set-flag2
+unlocked c = c .before .before .before
+
+abbrev rested : tie.After-set-flag2 → tie.After-set-flag
+rested c = c .before .before
+
+abbrev numbered : tie.After-set-flag → tie.After-set-seq
+numbered c = c .before .before
+
+abbrev linked : tie.After-set-seq → tie.After-set-next
+linked c = c .before .before
+
 cast-n : tie.Need-cast-n
 cast-n c = search needs
 
@@ -27,10 +40,10 @@ set-waits-requires c κs = search needs
 
 returns : tie.Need-returns
 returns c = record {
-  next-is = c .before .before .before .before .before .before .before .before .before .set-next .ensures;
-  seq-is = c .before .before .before .before .before .before .before .set-seq .ensures;
-  executing-is = c .before .before .before .before .before .set-flag .ensures;
-  locked-is = c .before .before .before .set-flag2 .ensures;
+  next-is = linked (numbered (rested (unlocked c))) .set-next .ensures;
+  seq-is = numbered (rested (unlocked c)) .set-seq .ensures;
+  executing-is = rested (unlocked c) .set-flag .ensures;
+  locked-is = unlocked c .set-flag2 .ensures;
   waits-is = rw (c .set-waits .ensures, empty-is-none _ (c .before .empty .ensures));
 }
 

@@ -8,6 +8,26 @@ use Rattle.graph.proofs.Steps.{search-ends, search-waits, search-takes,
 use Rattle.graph.proofs.chain.search.Statement.{statement}
 use Rattle.graph.proofs.chain.search.Tie as tie
 
+-- the function's entry, from where the next index is read
+abbrev entry : tie.After-y → tie.Start
+entry c = c .before .before
+
+-- where there is a next node, from where the thread steps on
+abbrev passed : tie.After-step-on-arg → tie.Else1
+passed c = c .before .before .before
+
+-- the function's entry, from there
+abbrev begin : tie.After-step-on-arg → tie.Start
+begin c = entry (passed c .before)
+
+-- the call that steps on, from the call that says whether the node waits for none
+abbrev went : tie.After-is-empty → tie.After-step-on
+went c = c .before .before .before .before
+
+-- that call, from where the node is marked as executing
+abbrev asked : tie.After-set-flag-arg2 → tie.After-is-empty
+asked c = c .before .before
+
 cast-a : tie.Need-cast-a
 cast-a c = search needs
 
@@ -15,14 +35,14 @@ element-copy-out-y : tie.Need-element-copy-out-y
 element-copy-out-y c = search needs
 
 cast-n : tie.Need-cast-n
-cast-n c = omega (arith, c .before .before .pre .0 (c .before .before .args .at .0))
+cast-n c = omega (arith, entry c .pre .0 (entry c .args .at .0))
 
 set-flag-requires : tie.Need-set-flag-requires
 set-flag-requires c κs = search needs
 
 returns : tie.Need-returns
 returns c =
-    let a = c .before .before .before .before .before .args in
+    let a = entry (c .before .before .before) .args in
     (tt, search-ends (a .at) (a .next .now) (a .executing .now) (a .locked .now) (a .waits .now) _ refl (c .set-flag .last .0) (c .before .before .if1 .taken) (c .set-flag .ensures))
 
 element-copy-out-if2 : tie.Need-element-copy-out-if2
@@ -30,50 +50,50 @@ element-copy-out-if2 c = omega (arith, c .before .before .before .pre .0 (c .bef
 
 returns-2 : tie.Need-returns-2
 returns-2 c =
-    let start = c .before .before .before .before .before in
+    let start = entry (c .before .before .before) in
     let a = start .args in
     (start .pre .1, search-waits (a .at) (a .next .now) (a .executing .now) (a .locked .now) (a .waits .now) _ refl (c .before .before .if1 .left) (c .if2 .taken))
 
 step-on-requires : tie.Need-step-on-requires
-step-on-requires c κs = omega (arith, c .before .before .before .before .before .before .pre .0 (c .before .before .before .before .before .before .args .at .0))
+step-on-requires c κs = omega (arith, begin c .pre .0 (begin c .args .at .0))
 
 mul-set : tie.Need-mul-set
-mul-set c = omega (arith, c .before .before .before .before .before .before .before .pre .0 (c .before .before .before .before .before .before .before .args .at .0))
+mul-set c = omega (arith, begin (c .before) .pre .0 (begin (c .before) .args .at .0))
 
 element-copy-out-set : tie.Need-element-copy-out-set
-element-copy-out-set c = omega (arith, c .before .before .before .before .before .before .before .pre .0 (c .before .before .before .before .before .before .before .args .at .0))
+element-copy-out-set c = omega (arith, begin (c .before) .pre .0 (begin (c .before) .args .at .0))
 
 element-copy-out-if3 : tie.Need-element-copy-out-if3
-element-copy-out-if3 c = omega (arith, c .before .before .before .before .before .before .before .before .pre .0 (c .before .before .before .before .before .before .before .before .args .at .0))
+element-copy-out-if3 c = omega (arith, begin (c .before .before) .pre .0 (begin (c .before .before) .args .at .0))
 
 is-empty-requires : tie.Need-is-empty-requires
 is-empty-requires c κs = search needs
 
 set-flag-requires-2 : tie.Need-set-flag-requires-2
-set-flag-requires-2 c κs = omega (arith, c .before .before .before .before .before .before .before .before .before .before .before .before .before .pre .0 (c .before .before .before .before .before .before .before .before .before .before .before .before .before .args .at .0))
+set-flag-requires-2 c κs = omega (arith, begin (went (asked c) .before) .pre .0 (begin (went (asked c) .before) .args .at .0))
 
 set-flag-requires-3 : tie.Need-set-flag-requires-3
-set-flag-requires-3 c κs = omega (arith, c .before .before .before .before .before .before .before .before .before .before .before .before .before .before .before .pre .0 (c .before .before .before .before .before .before .before .before .before .before .before .before .before .before .before .args .at .0))
+set-flag-requires-3 c κs = omega (arith, begin (went (asked (c .before .before)) .before) .pre .0 (begin (went (asked (c .before .before)) .before) .args .at .0))
 
 returns-3 : tie.Need-returns-3
 returns-3 c =
     let second = c .before .before in
     let emptied = second .before .before .before in
-    let stepped = emptied .before .before .before .before in
-    let start = stepped .before .before .before .before .before .before .before in
+    let stepped = went emptied in
+    let start = begin (stepped .before) in
     let a = start .args in (
       start .pre .0 (a .at .0),
-      search-takes (a .at) (a .next .now) (a .executing .now) (a .locked .now) (a .waits .now) _ refl (stepped .before .before .before .before .if1 .left) (second .set-flag2 .last .0) (c .set-flag3 .last .0) (stepped .before .before .if2 .left)
+      search-takes (a .at) (a .next .now) (a .executing .now) (a .locked .now) (a .waits .now) _ refl (passed (stepped .before) .if1 .left) (second .set-flag2 .last .0) (c .set-flag3 .last .0) (stepped .before .before .if2 .left)
           (rw (emptied .before .if3 .taken) (sym (emptied .is-empty .ensures) ∙ second .before .before .if4 .taken)) (second .set-flag2 .ensures) (rw (c .set-flag3 .ensures, stepped .step-on .ensures)),
     )
 
 returns-4 : tie.Need-returns-4
 returns-4 c =
     let stepped = c .before .before .before in
-    let start = stepped .before .before .before .before .before .before .before in
+    let start = begin (stepped .before) in
     let a = start .args in (
       start .pre .0 (a .at .0),
-      search-steps (a .at) (a .next .now) (a .executing .now) (a .locked .now) (a .waits .now) _ refl (stepped .before .before .before .before .if1 .left) (stepped .step-on .last .0) (stepped .before .before .if2 .left)
+      search-steps (a .at) (a .next .now) (a .executing .now) (a .locked .now) (a .waits .now) _ refl (passed (stepped .before) .if1 .left) (stepped .step-on .last .0) (stepped .before .before .if2 .left)
           (⊎-elim (λ w. rw (w .0 .taken) (sym (w .1 .ensures) ∙ w .2 .left)) (λ w. rw (w .left)) (c .if3 .came)) (stepped .step-on .ensures),
     )
 

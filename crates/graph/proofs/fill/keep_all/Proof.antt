@@ -16,6 +16,14 @@ Inv-loop seq list kinds₀ keys₀ chutes₀ n₀ kinds keys chutes n = KeptBelo
 abbrev μ-loop : tie.MeasureT-loop
 μ-loop seq list kinds₀ keys₀ chutes₀ n₀ kinds keys chutes n = 151 - n
 
+-- the loop's head, from where a turn reads the node's number
+abbrev turn : tie.After-t13 Inv-loop μ-loop → tie.At-loop Inv-loop μ-loop
+turn c = c .before .before
+
+-- the function's entry, from the loop's head
+abbrev entry : tie.At-loop Inv-loop μ-loop → tie.Start Inv-loop μ-loop
+entry c = c .before .before
+
 loop-holds : tie.Need-loop-holds Inv-loop μ-loop
 loop-holds c = none-kept _ _ _ _ _ (c .before .pre .1)
 
@@ -26,12 +34,12 @@ element-copy-out-t13 : tie.Need-element-copy-out-t13 Inv-loop μ-loop
 element-copy-out-t13 c = search needs
 
 cast-t14 : tie.Need-cast-t14 Inv-loop μ-loop
-cast-t14 c = omega (arith, c .before .before .before .before .pre .0 (c .before .before .loop .n))
+cast-t14 c = omega (arith, entry (turn c) .pre .0 (turn c .loop .n))
 
 command-at-requires : tie.Need-command-at-requires Inv-loop μ-loop
 command-at-requires c κs =
-    let pass = c .before .before .before .before in
-    let fits = pass .before .before .pre .0 (pass .loop .n) in
+    let pass = turn (c .before .before) in
+    let fits = entry pass .pre .0 (pass .loop .n) in
     (omega arith, omega arith)
 
 cast-t19 : tie.Need-cast-t19 Inv-loop μ-loop
@@ -48,7 +56,7 @@ loop-less c = omega arith
 
 loop-again : tie.Need-loop-again Inv-loop μ-loop
 loop-again c =
-    let pass = c .before .before .before .before .loop in
+    let pass = turn (c .before .before) .loop in
     let h : pass .n < 151 = omega arith in
     ⊎-elim
     (λ w. rw (w .6, w .7, w .8) (kept-with _ _ (pass .inv) h _ _ _ (some (w .1 .result)) (w .1 .ensures) (w .5 .ensures)))

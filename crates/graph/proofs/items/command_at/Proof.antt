@@ -19,6 +19,10 @@ use Rattle.graph.proofs.Commands.{command-is}
 use Rattle.graph.proofs.items.command_at.Statement.{statement}
 use Rattle.graph.proofs.items.command_at.Tie as tie
 
+-- the function's entry, from the call that reads the command
+abbrev entry : tie.After-read → tie.Start
+entry c = c .before .before .before .before
+
 mul-end : tie.Need-mul-end
 mul-end c = search needs
 
@@ -55,10 +59,10 @@ refused-reads WrongChute e = refl
 
 -- the reading is that of the sixteen bytes that end with the command's place
 part-read : (c : tie.After-read) →
-    let a = c .before .before .before .before .args in
+    let a = entry c .args in
     commandAt (commandsIn (a .list .now)) (a .place .0) ≡ some (commandFrom (commandOutcome (c .read .result)))
 part-read c =
-    let start = c .before .before .before .before in
+    let start = entry c in
     let a = start .args in
     let size : a .place .0 * 16 - (a .place .0 * 16 - 16) ≡ 16 = omega arith in
     let swap : 16 * a .place .0 ≡ a .place .0 * 16 = omega arith in

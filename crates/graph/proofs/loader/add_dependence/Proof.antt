@@ -9,6 +9,10 @@ use Rattle.graph.proofs.Loading.{added-is-upd}
 use Rattle.graph.proofs.loader.add_dependence.Statement.{statement}
 use Rattle.graph.proofs.loader.add_dependence.Tie as tie
 
+-- where the commands are dependent, from the call that adds the node to the set
+abbrev dependent : tie.After-add → tie.Then1
+dependent c = c .before .before .before .before
+
 item-of-requires : tie.Need-item-of-requires
 item-of-requires c κs = search needs
 
@@ -36,11 +40,11 @@ set-waits-requires c κs = search needs
 returns : tie.Need-returns
 returns c =
     let added = c .before in
-    let tested = added .before .before .before .before .before in
+    let tested = dependent added .before in
     let later = tested .before in
     let earlier = later .before in
     let a = earlier .before .args in
-    rw (c .set-waits .ensures, ← earlier .item-of .ensures, ← later .item-of2 .ensures, ← tested .dependent .ensures, added .before .before .before .before .if1 .taken)
+    rw (c .set-waits .ensures, ← earlier .item-of .ensures, ← later .item-of2 .ensures, ← tested .dependent .ensures, dependent added .if1 .taken)
     (ap (upd (sets (a .waits .now)) (a .own .0)) (added-is-upd _ (added .add .result) (a .y .0) (lt-ltb (a .y .0) 192 (omega arith)) (added .add .ensures)))
 
 returns-2 : tie.Need-returns-2

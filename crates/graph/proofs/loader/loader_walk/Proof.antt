@@ -9,6 +9,14 @@ use Rattle.graph.proofs.Loading.{loader-links, loader-waits, loader-ste
 use Rattle.graph.proofs.loader.loader_walk.Statement.{statement}
 use Rattle.graph.proofs.loader.loader_walk.Tie as tie
 
+-- where there is no next node, from the call that links the own one
+abbrev last : tie.After-link → tie.Then1
+last c = c .before .before .before .before
+
+-- where the next index is read, from where the thread steps on
+abbrev read : tie.After-step-on-arg → tie.After-y
+read c = c .before .before .before .before
+
 cast-a : tie.Need-cast-a
 cast-a c = search needs
 
@@ -29,7 +37,7 @@ link-requires c κs = search needs
 
 returns : tie.Need-returns
 returns c =
-    let end = c .before .before .before .before in
+    let end = last c in
     let start = end .before .before .before in
     let a = start .args in (
       (tt, nodes-stored (a .next .now) (c .link .last .0) (a .at .0) (a .own .0) (start .pre .0) (start .pre .2) (c .link .ensures .next-is)),
@@ -49,10 +57,10 @@ returns-2 c =
     )
 
 step-on-requires : tie.Need-step-on-requires
-step-on-requires c κs = omega (arith, next-in (c .before .before .before .before))
+step-on-requires c κs = omega (arith, next-in (read c))
 
 add-dependence-requires : tie.Need-add-dependence-requires
-add-dependence-requires c κs = omega (arith, next-in (c .before .before .before .before .before .before))
+add-dependence-requires c κs = omega (arith, next-in (read (c .before .before)))
 
 returns-3 : tie.Need-returns-3
 returns-3 c =

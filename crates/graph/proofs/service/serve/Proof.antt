@@ -5,6 +5,14 @@ use Rattle.model.specs.Service.{writeKind}
 use Rattle.graph.proofs.service.serve.Statement.{statement}
 use Rattle.graph.proofs.service.serve.Tie as tie
 
+-- the call that inserts, from the return
+abbrev insert-called : tie.After-slice-known4 → tie.After-serve-insert
+insert-called c = c .before .before .before .before
+
+-- the call that removes, from the return
+abbrev remove-called : tie.After-slice-known6 → tie.After-remove
+remove-called c = c .before .before .before .before
+
 enum-told : tie.Need-enum-told
 enum-told c = search needs
 
@@ -46,7 +54,7 @@ same-length-2 c = search needs
 
 returns-4 : tie.Need-returns-4
 returns-4 c =
-    let served = c .before .before .before .before in
+    let served = insert-called c in
     rw (served .before .before .before .enum-told .given .1) (served .serve-insert .ensures)
 
 same-length-3 : tie.Need-same-length-3
@@ -58,7 +66,7 @@ same-length-4 c = search needs
 returns-5 : tie.Need-returns-5
 unfolding writeKind
 returns-5 c =
-    let removed = c .before .before .before .before in
+    let removed = remove-called c in
     let held = removed .before .before .before in
     rw (held .before .enum-told2 .given .1, ne-eqb _ 0 (held .if1 .left), removed .remove .ensures)
 

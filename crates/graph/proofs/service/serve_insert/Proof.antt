@@ -5,6 +5,10 @@ use Rattle.model.specs.Service.{writeKind}
 use Rattle.graph.proofs.service.serve_insert.Statement.{statement}
 use Rattle.graph.proofs.service.serve_insert.Tie as tie
 
+-- the call that inserts, from the return
+abbrev insert-called : tie.After-slice-known4 → tie.After-insert
+insert-called c = c .before .before .before .before
+
 returns : tie.Need-returns
 unfolding writeKind
 returns c = rw (ne-eqb _ 0 (c .if1 .taken))
@@ -25,7 +29,7 @@ same-length-2 c = search needs
 returns-3 : tie.Need-returns-3
 unfolding writeKind
 returns-3 c =
-    let inserted = c .before .before .before .before in
+    let inserted = insert-called c in
     let room = inserted .before .before .before in
     rw (eq-eqb _ 0 (room .before .if1 .left), lt-leb _ _ (room .if2 .left), inserted .insert .ensures)
 

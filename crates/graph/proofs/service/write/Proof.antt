@@ -9,6 +9,18 @@ use Rattle.graph.proofs.Writing.{writes-none, writes-served}
 use Rattle.graph.proofs.service.write.Statement.{statement}
 use Rattle.graph.proofs.service.write.Tie as tie
 
+-- the call that serves, from where its answer is stored
+abbrev serve-called : tie.After-struct-known → tie.After-serve
+serve-called c = c .before .before .before .before .before
+
+-- where the node has a command, from the call that serves
+abbrev found : tie.After-serve → tie.After-item
+found c = c .before .before .before .before
+
+-- the function's entry, from where the cases part
+abbrev entry : tie.After-slice-known3 → tie.Start
+entry c = c .before .before .before
+
 enum-told : tie.Need-enum-told
 enum-told c = search needs
 
@@ -20,11 +32,11 @@ serve-requires c κs = search needs
 
 -- the place of a node's command is one of the list's
 within : (c : tie.After-struct-known) →
-    let a = c .before .before .before .before .before .before .before .before .before .before .before .before .before .before .args in
+    let a = entry (found (serve-called c) .before .before) .args in
     (1 ≤ a .place .0) × (a .place .0 ≤ length (a .answers .now))
 within c =
-    let item = c .before .before .before .before .before .before .before .before .before in
-    item .before .before .before .before .before .pre _ (ap itemOf (item .item .given .1))
+    let item = found (serve-called c) in
+    entry (item .before .before) .pre _ (ap itemOf (item .item .given .1))
 
 sub-i : tie.Need-sub-i
 sub-i c = within c .0
@@ -37,7 +49,7 @@ slice-write-answers c = omega (arith, within c)
 
 returns : tie.Need-returns
 returns c =
-    let start = c .before .before .before .before .before in
+    let start = entry (c .before .before) in
     let a = start .args in
     rw (c .enum-told .given .1) (writes-none (a .place .0) (a .found) (a .keys .now) (a .chutes .now) (a .answers .now) (a .used))
 
@@ -52,9 +64,9 @@ same-length-3 c = search needs
 
 returns-2 : tie.Need-returns-2
 returns-2 c =
-    let served = c .before .before .before .before .before in
-    let item = served .before .before .before .before in
-    let a = item .before .before .before .before .before .args in
+    let served = serve-called c in
+    let item = found served in
+    let a = entry (item .before .before) .args in
     rw (item .item .given .1) (writes-served (item .item .given .0 .0) (a .place .0) (a .found) (a .keys .now) (a .chutes .now) (a .answers .now) (a .used) _ _ _ _ (within c .0) (within c .1) (served .serve .ensures))
 
 pub write-spec : {M : Type 1} → statement M

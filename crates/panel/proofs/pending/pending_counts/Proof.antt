@@ -8,6 +8,10 @@ use Rattle.panel.proofs.Reporting.{passed-lengths, no-place, left-repor
 use Rattle.panel.proofs.pending.pending_counts.Statement.{statement}
 use Rattle.panel.proofs.pending.pending_counts.Tie as tie
 
+-- where there is a report, from the return
+abbrev reported : tie.After-slice-known2 → tie.After-enum-told
+reported c = c .before .before .before .before
+
 -- the function's entry, from the result of the tests, and the lists that it gets
 abbrev entry : tie.After-tested → tie.Start
 entry c = c .before .before .before .before .before .before .before
@@ -35,7 +39,7 @@ same-length c = search needs
 
 returns : tie.Need-returns
 returns c =
-    let told = c .before .before .before .before in
+    let told = reported c in
     let called = told .before .before in
     (number-is called, (no-place (called .tested .result), c .before .before .write-counts .ensures (given (entry called)) refl ∙ left-report (called .tested .result) _ (entry called .args .counts .now) (told .enum-told .given .1)))
 

@@ -17,6 +17,10 @@ Inv-loop state counts₀ node₀ i₀ counts node i = (l : Lists) → l .state �
 abbrev μ-loop : tie.MeasureT-loop
 μ-loop state counts₀ node₀ i₀ counts node i = 150 - i
 
+-- the loop's head, from the call that counts
+abbrev turn : tie.After-count-of Inv-loop μ-loop → tie.At-loop Inv-loop μ-loop
+turn c = c .before .before .before .before
+
 abbrev entry : tie.At-loop Inv-loop μ-loop → tie.Start Inv-loop μ-loop
 entry c = c .before .before .before .before
 
@@ -37,10 +41,10 @@ count-of-requires : tie.Need-count-of-requires Inv-loop μ-loop
 count-of-requires c κs = entry (c .before .before .before) .pre .0
 
 slice-write-counts-2 : tie.Need-slice-write-counts-2 Inv-loop μ-loop
-slice-write-counts-2 c = omega (arith, long (c .before .before .before .before))
+slice-write-counts-2 c = omega (arith, long (turn c))
 
 next-at-requires-2 : tie.Need-next-at-requires-2 Inv-loop μ-loop
-next-at-requires-2 c κs = entry (c .before .before .before .before) .pre .0
+next-at-requires-2 c κs = entry (turn c) .pre .0
 
 add-i : tie.Need-add-i Inv-loop μ-loop
 add-i c = omega arith

@@ -9,6 +9,10 @@ use Rattle.panel.proofs.Reporting.{refuses-report, as-wanted, no-place}
 use Rattle.panel.proofs.status.worker_status_bytes.Statement.{statement}
 use Rattle.panel.proofs.status.worker_status_bytes.Tie as tie
 
+-- the function's entry, from the test of the length
+abbrev entry : tie.After-slice-known → tie.Start
+entry c = c .before .before .before .before .before .before
+
 -- the lists that the function gets
 abbrev given : tie.Start → Lists
 given start = lists (start .args .state .now) (start .args .keys .now) (start .args .chutes .now) (start .args .answers .now)
@@ -16,7 +20,7 @@ given start = lists (start .args .state .now) (start .args .keys .now) (start .a
 returns : tie.Need-returns
 unfolding reportLeft
 returns c =
-    let start = c .before .before .before .before .before .before .before in
+    let start = entry (c .before) in
     (refuses-report (given start) (start .args .commands .now) (length (start .args .bytes .now)) 128 (c .if1 .taken), (refl, refl))
 
 status-as-bytes-requires : tie.Need-status-as-bytes-requires
@@ -29,7 +33,7 @@ returns-2 : tie.Need-returns-2
 returns-2 c =
     let call = c .before .before in
     let else1 = call .before .before in
-    let start = else1 .before .before .before .before .before .before .before in
+    let start = entry (else1 .before) in
     let number = call .status-as-bytes .ensures .0 ∙ as-wanted (given start) (start .args .commands .now) (length (start .args .bytes .now)) 128 (else1 .if1 .left) in
     (number, (no-place (call .status-as-bytes .result), call .status-as-bytes .ensures .1))
 

@@ -17,6 +17,10 @@ Inv-loop bytes₀ status i₀ bytes i = (length bytes ≡ 128) × ((workers : �
 abbrev μ-loop : tie.MeasureT-loop
 μ-loop bytes₀ status i₀ bytes i = 64 - i
 
+-- the loop's head, from a turn's call
+abbrev turn : tie.After-state-number Inv-loop μ-loop → tie.At-loop Inv-loop μ-loop
+turn c = c .before .before .before .before
+
 loop-holds : tie.Need-loop-holds Inv-loop μ-loop
 loop-holds c = (c .before .pre, λ workers s same. fields-none _ _ _ _ _)
 
@@ -52,7 +56,7 @@ loop-less c = omega arith
 
 loop-again : tie.Need-loop-again Inv-loop μ-loop
 loop-again c =
-    let pass = c .before .before .before .before in
+    let pass = turn c in
     (simp length-set (pass .loop .inv .0), λ workers s same. bytes-more workers s _ (c .state-number .result) (pass .loop .inv .1 workers s same) (c .before .before .before .loop-test .taken) same (c .state-number .ensures))
 
 same-length : tie.Need-same-length Inv-loop μ-loop

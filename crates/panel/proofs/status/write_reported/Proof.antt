@@ -6,6 +6,10 @@ use Rattle.panel.proofs.Reporting.{left-report, left-old}
 use Rattle.panel.proofs.status.write_reported.Statement.{statement}
 use Rattle.panel.proofs.status.write_reported.Tie as tie
 
+-- where there is a report, from the return
+abbrev reported : tie.After-slice-known2 → tie.After-enum-told
+reported c = c .before .before .before .before
+
 enum-told : tie.Need-enum-told
 enum-told c = search needs
 
@@ -17,7 +21,7 @@ same-length c = search needs
 
 returns : tie.Need-returns
 returns c workers s made =
-    let told = c .before .before .before .before in
+    let told = reported c in
     let args = told .before .before .before .args in
     c .before .before .write-entries .ensures workers s (made (ap reportOf (told .enum-told .given .1))) ∙ left-report (args .report) _ (args .bytes .now) (told .enum-told .given .1)
 

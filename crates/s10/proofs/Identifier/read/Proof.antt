@@ -14,6 +14,14 @@ use Rattle.s10.proofs.WellFormed.{well-formed}
 use Rattle.s10.proofs.Identifier.read.Statement.{statement}
 use Rattle.s10.proofs.Identifier.read.Tie as tie
 
+-- the function's entry, from the call that finds the first fault
+abbrev entry : tie.After-first-fault → tie.Start
+entry c = c .before .before .before
+
+-- where the text has no fault, from the call that computes the check digit
+abbrev tested : tie.After-shared-slice-known2 → tie.Else2
+tested c = c .before .before .before
+
 -- a text of another length is not well-formed
 returns : tie.Need-returns
 unfolding readText isWellFormed
@@ -26,16 +34,16 @@ first-fault-requires c κs = search needs
 returns-2 : tie.Need-returns-2
 unfolding readText
 returns-2 c =
-    let s = c .before .before .before .before in
+    let s = entry (c .before) in
     rw (fault-well-formed (s .args .text .now) (omega arith), ne-eqb (firstFault 0 (s .args .text .now)) 13 (omega arith))
 
 -- past both tests it is
-passed : (c : tie.Else2) → isWellFormed (c .before .before .before .before .args .text .now) ≡ true
+passed : (c : tie.Else2) → isWellFormed (entry (c .before) .args .text .now) ≡ true
 passed c =
-    let s = c .before .before .before .before in
+    let s = entry (c .before) in
     rw (fault-well-formed (s .args .text .now) (omega arith)) (eq-eqb (firstFault 0 (s .args .text .now)) 13 (omega arith))
 
-parts : (c : tie.Else2) → WellFormed (c .before .before .before .before .args .text .now)
+parts : (c : tie.Else2) → WellFormed (entry (c .before) .args .text .now)
 parts c = well-formed _ (passed c)
 
 sub-check-digit : tie.Need-sub-check-digit
@@ -59,18 +67,18 @@ sub-if3 c = parts (c .before .before .before) .check .0
 returns-3 : tie.Need-returns-3
 unfolding readText serialDigits
 returns-3 c =
-    let e = c .before .before .before .before in
-    let text = e .before .before .before .before .args .text .now in
+    let e = tested (c .before) in
+    let text = entry (e .before) .args .text .now in
     rw (passed e, ne-eqb (getD text 10 0 - 48) (checkDigit (serialDigits text)) (omega arith))
 
 key-of-requires : tie.Need-key-of-requires
-key-of-requires c κs = parts (c .before .before .before .before)
+key-of-requires c κs = parts (tested (c .before))
 
 returns-4 : tie.Need-returns-4
 unfolding readText serialDigits
 returns-4 c =
-    let e = c .before .before .before .before .before in
-    let text = e .before .before .before .before .args .text .now in
+    let e = tested (c .before .before) in
+    let text = entry (e .before) .args .text .now in
     rw (passed e, eq-eqb (getD text 10 0 - 48) (checkDigit (serialDigits text)) (omega arith), c .key-of .ensures)
 
 pub read-spec : {M : Type 1} → statement M

@@ -8,6 +8,10 @@ use Rattle.s10.specs.Outcome.{writeNumber, writeText}
 use Rattle.s10.proofs.Identifier.write.Statement.{statement}
 use Rattle.s10.proofs.Identifier.write.Tie as tie
 
+-- the function's entry, from where the key is written
+abbrev entry : tie.After-slice-known2 → tie.Start
+entry c = c .before .before .before .before .before .before .before
+
 -- 6 is tested first
 returns : tie.Need-returns
 unfolding writeNumber writeText
@@ -35,7 +39,7 @@ same-length c = search needs
 returns-3 : tie.Need-returns-3
 unfolding writeNumber writeText largestKey
 returns-3 c =
-    let s = c .before .before .before .before .before .before .before in
+    let s = entry c in
     let long = eq-eqb (length (s .args .text .now)) 13 (omega arith) in
     let small = le-leb (s .args .key) largestKey (omega arith) in
     (rw (long, small), rw (long, small) (c .before .before .write-key .ensures))

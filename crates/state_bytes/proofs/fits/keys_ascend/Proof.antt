@@ -50,6 +50,14 @@ Inv-loop keys used used' place₀ place = (place ≤ used) × (allBelow place (a
 abbrev μ-loop : tie.MeasureT-loop
 μ-loop keys used used' place₀ place = used - place
 
+-- the loop's head, from where a turn has read two keys
+abbrev turn : tie.After-key-at2 Inv-loop μ-loop → tie.At-loop Inv-loop μ-loop
+turn c = c .before .before .before
+
+-- the function's entry, from the loop's head
+abbrev entry : tie.At-loop Inv-loop μ-loop → tie.Start Inv-loop μ-loop
+entry c = c .before .before
+
 loop-holds : tie.Need-loop-holds Inv-loop μ-loop
 loop-holds c = (omega arith, all-below-none _)
 
@@ -67,8 +75,8 @@ key-at-requires-2 c κs = search needs
 
 returns : tie.Need-returns Inv-loop μ-loop
 returns c =
-    let keys = c .before .before .before .before .before .before .args .keys .now in
-    let i = c .before .before .before .before .loop .place in
+    let keys = entry (turn (c .before)) .args .keys .now in
+    let i = turn (c .before) .loop .place in
     let low : getD keys (i + 1) 0 ≤ getD keys i 0 = omega arith in
     falls-at _ keys i (c .before .before .before .loop-test .taken) low
 
@@ -80,10 +88,10 @@ loop-less c = omega arith
 
 loop-again : tie.Need-loop-again Inv-loop μ-loop
 loop-again c =
-    let keys = c .before .before .before .before .before .before .args .keys .now in
-    let i = c .before .before .before .before .loop .place in
+    let keys = entry (turn (c .before)) .args .keys .now in
+    let i = turn (c .before) .loop .place in
     let high : getD keys i 0 < getD keys (i + 1) 0 = omega arith in
-    (omega arith, all-below-more i _ (c .before .before .before .before .loop .inv .1) (rises-at _ keys i high))
+    (omega arith, all-below-more i _ (turn (c .before) .loop .inv .1) (rises-at _ keys i high))
 
 returns-2 : tie.Need-returns-2 Inv-loop μ-loop
 returns-2 c = all-ascend _ _ _ (c .loop-test .left) (c .before .loop .inv .1)

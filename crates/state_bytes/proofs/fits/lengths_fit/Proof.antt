@@ -13,6 +13,10 @@ use Rattle.state_bytes.proofs.Tested.{unequal-fails, equal-passes, all,
 use Rattle.state_bytes.proofs.fits.lengths_fit.Statement.{statement}
 use Rattle.state_bytes.proofs.fits.lengths_fit.Tie as tie
 
+-- the call that reads the capacity, from where the answers fit
+abbrev read : tie.Else2 → tie.After-number-at
+read c = c .before .before
+
 -- the tests of the lists' lengths before that of the commands
 abbrev tests : Lists → List Bool
 tests l =
@@ -51,10 +55,10 @@ returns-2 : tie.Need-returns-2
 returns-2 c l list state answers keys chutes commands = as-tests l list ∙ fails-at 1 (whole l list) (unequal-fails answers (same-number 4 state (c .before .number-at2 .ensures)) (c .if2 .taken))
 
 returns-3 : tie.Need-returns-3
-returns-3 c l list state answers keys chutes commands = as-tests l list ∙ fails-at 2 (whole l list) (unequal-fails keys (same-number 2 state (c .before .before .before .number-at .ensures)) (c .if3 .taken))
+returns-3 c l list state answers keys chutes commands = as-tests l list ∙ fails-at 2 (whole l list) (unequal-fails keys (same-number 2 state (read (c .before) .number-at .ensures)) (c .if3 .taken))
 
 returns-4 : tie.Need-returns-4
-returns-4 c l list state answers keys chutes commands = as-tests l list ∙ fails-at 3 (whole l list) (unequal-fails chutes (same-number 2 state (c .before .before .before .before .number-at .ensures)) (c .if4 .taken))
+returns-4 c l list state answers keys chutes commands = as-tests l list ∙ fails-at 3 (whole l list) (unequal-fails chutes (same-number 2 state (read (c .before .before) .number-at .ensures)) (c .if4 .taken))
 
 mul-result : tie.Need-mul-result
 mul-result c = search needs
@@ -62,7 +66,7 @@ mul-result c = search needs
 returns-5 : tie.Need-returns-5
 returns-5 c l list state answers keys chutes commands =
     let else2 = c .before .before in
-    let capacity = same-number 2 state (else2 .before .before .number-at .ensures) in
+    let capacity = same-number 2 state (read else2 .number-at .ensures) in
     let count = same-number 4 state (else2 .before .number-at2 .ensures) in
     let each =
     equal-passes (ap length state) refl (else2 .before .before .before .if1 .left)

@@ -17,6 +17,14 @@ use Rattle.state_bytes.proofs.Tested.{above-fails, within-passes, all, 
 use Rattle.state_bytes.proofs.fits.node_fits.Statement.{statement}
 use Rattle.state_bytes.proofs.fits.node_fits.Tie as tie
 
+-- the function's entry, from the call that reads the node's place
+abbrev entry : tie.After-number-at → tie.Start
+entry c = c .before .before .before .before
+
+-- that call, from the third test
+abbrev numbered : tie.After-shared-slice-known3 → tie.After-number-at
+numbered c = c .before .before
+
 -- the tests of a node before that of its set
 abbrev tests : List ℕ → ℕ → ℕ → ℕ → List Bool
 tests b size count n =
@@ -64,7 +72,7 @@ number-at-requires c κs = omega arith
 
 returns-2 : tie.Need-returns-2
 returns-2 c =
-    let args = c .before .before .before .before .before .args in
+    let args = entry (c .before) .args in
     node-fails 1 (args .state .now) (args .size) (args .count) (args .n) (above-fails (c .before .number-at .ensures) (c .if2 .taken))
 
 add-if3 : tie.Need-add-if3
@@ -76,7 +84,7 @@ shared-slice-read-if3 c = omega arith
 
 returns-3 : tie.Need-returns-3
 returns-3 c =
-    let args = c .before .before .before .before .before .before .before .args in
+    let args = entry (numbered (c .before)) .args in
     node-fails 2 (args .state .now) (args .size) (args .count) (args .n) (lt-leb _ _ (c .if3 .taken))
 
 add-if4 : tie.Need-add-if4
@@ -88,11 +96,11 @@ shared-slice-read-if4 c = omega arith
 
 returns-4 : tie.Need-returns-4
 returns-4 c =
-    let args = c .before .before .before .before .before .before .before .before .before .args in
+    let args = entry (numbered (c .before .before .before)) .args in
     node-fails 3 (args .state .now) (args .size) (args .count) (args .n) (lt-leb _ _ (c .if4 .taken))
 
 set-at-requires : tie.Need-set-at-requires
-set-at-requires c κs = c .before .before .before .before .before .before .before .before .before .pre
+set-at-requires c κs = entry (numbered (c .before .before .before)) .pre
 
 is-within-requires : tie.Need-is-within-requires
 is-within-requires c κs = search needs

@@ -5,6 +5,10 @@ use Rattle.state_bytes.specs.Layout.{settingsFit}
 use Rattle.state_bytes.proofs.fits.settings_fit.Statement.{statement}
 use Rattle.state_bytes.proofs.fits.settings_fit.Tie as tie
 
+-- where three tests passed, from where all passed
+abbrev third-passed : tie.Else6 → tie.Else3
+third-passed c = c .before .before .before
+
 returns : tie.Need-returns
 unfolding settingsFit
 returns c = simp (lt-leb _ _ (c .if1 .taken))
@@ -33,9 +37,9 @@ returns-7 : tie.Need-returns-7
 unfolding settingsFit
 returns-7 c =
     simp (
-      le-leb _ _ (c .before .before .before .before .before .if1 .left),
-      le-leb _ _ (c .before .before .before .before .if2 .left),
-      le-leb _ _ (c .before .before .before .if3 .left),
+      le-leb _ _ (third-passed c .before .before .if1 .left),
+      le-leb _ _ (third-passed c .before .if2 .left),
+      le-leb _ _ (third-passed c .if3 .left),
       le-leb _ _ (c .before .before .if4 .left),
       le-leb _ _ (c .before .if5 .left),
       le-leb _ _ (c .if6 .left),

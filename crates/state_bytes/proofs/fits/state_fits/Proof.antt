@@ -16,6 +16,14 @@ use Rattle.state_bytes.proofs.Tested.{answer-fails, answer-passes, all,
 use Rattle.state_bytes.proofs.fits.state_fits.Statement.{statement}
 use Rattle.state_bytes.proofs.fits.state_fits.Tie as tie
 
+-- where the numbers are read, from the test of the free node
+abbrev numbers-read : tie.Else2 → tie.After-number-at4
+numbers-read c = c .before .before .before
+
+-- and from where the nodes fit
+abbrev nodes-tested : tie.Else4 → tie.After-number-at4
+nodes-tested c = numbers-read (c .before .before .before)
+
 -- the tests of the state before that of the keys
 abbrev tests : List ℕ → ℕ → ℕ → ℕ → ℕ → ℕ → ℕ → ℕ → List Bool
 tests b size workers free capacity count loaded used =
@@ -109,22 +117,22 @@ returns-2 : tie.Need-returns-2
 returns-2 c = state-fails (c .before .before .before) 1 (lt-leb _ _ (c .if2 .taken))
 
 returns-3 : tie.Need-returns-3
-returns-3 c = state-fails (c .before .before .before .before) 2 (lt-leb _ _ (c .if3 .taken))
+returns-3 c = state-fails (numbers-read (c .before)) 2 (lt-leb _ _ (c .if3 .taken))
 
 nodes-fit-requires : tie.Need-nodes-fit-requires
-nodes-fit-requires c κs = start (c .before .before .before .before) .pre
+nodes-fit-requires c κs = start (numbers-read (c .before)) .pre
 
 returns-4 : tie.Need-returns-4
-returns-4 c = state-fails (c .before .before .before .before .before .before) 3 (answer-fails (c .before .nodes-fit .ensures) (c .if4 .taken))
+returns-4 c = state-fails (numbers-read (c .before .before .before)) 3 (answer-fails (c .before .nodes-fit .ensures) (c .if4 .taken))
 
 threads-fit-requires : tie.Need-threads-fit-requires
-threads-fit-requires c κs = start (c .before .before .before .before .before .before) .pre
+threads-fit-requires c κs = start (nodes-tested c) .pre
 
 returns-5 : tie.Need-returns-5
-returns-5 c = state-fails (c .before .before .before .before .before .before .before .before) 4 (answer-fails (c .before .threads-fit .ensures) (c .if5 .taken))
+returns-5 c = state-fails (nodes-tested (c .before .before)) 4 (answer-fails (c .before .threads-fit .ensures) (c .if5 .taken))
 
 returns-6 : tie.Need-returns-6
-returns-6 c = state-fails (c .before .before .before .before .before .before .before .before .before) 5 (lt-leb _ _ (c .if6 .taken))
+returns-6 c = state-fails (nodes-tested (c .before .before .before)) 5 (lt-leb _ _ (c .if6 .taken))
 
 keys-ascend-requires : tie.Need-keys-ascend-requires
 keys-ascend-requires c κs = search needs

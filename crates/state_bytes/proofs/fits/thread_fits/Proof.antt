@@ -8,6 +8,16 @@ use Rattle.state_bytes.proofs.Tested.{answer-fails, answer-passes}
 use Rattle.state_bytes.proofs.fits.thread_fits.Statement.{statement}
 use Rattle.state_bytes.proofs.fits.thread_fits.Tie as tie
 
+-- the calls that test, each from the next
+abbrev own-tested : tie.After-found-fits → tie.After-own-fits
+own-tested c = c .before .before
+
+abbrev at-tested : tie.After-own-fits → tie.After-at-fits
+at-tested c = c .before .before
+
+abbrev tag-tested : tie.After-at-fits → tie.After-tag-fits
+tag-tested c = c .before .before
+
 returns : tie.Need-returns
 unfolding threadFits
 returns c = simp (lt-leb _ _ (c .if1 .taken))
@@ -49,12 +59,12 @@ unfolding threadFits
 returns-7 c =
     c .found-fits .ensures
     ∙ simp (
-      le-leb _ _ (c .before .before .before .before .before .before .before .before .before .if1 .left),
-      le-leb _ _ (c .before .before .before .before .before .before .before .before .if2 .left),
-      le-leb _ _ (c .before .before .before .before .before .before .before .if3 .left),
-      answer-passes (c .before .before .before .before .before .before .tag-fits .ensures) (c .before .before .before .before .before .if4 .left),
-      answer-passes (c .before .before .before .before .at-fits .ensures) (c .before .before .before .if5 .left),
-      answer-passes (c .before .before .own-fits .ensures) (c .before .if6 .left),
+      le-leb _ _ (tag-tested (at-tested (own-tested c)) .before .before .before .if1 .left),
+      le-leb _ _ (tag-tested (at-tested (own-tested c)) .before .before .if2 .left),
+      le-leb _ _ (tag-tested (at-tested (own-tested c)) .before .if3 .left),
+      answer-passes (tag-tested (at-tested (own-tested c)) .tag-fits .ensures) (at-tested (own-tested c) .before .if4 .left),
+      answer-passes (at-tested (own-tested c) .at-fits .ensures) (c .before .before .before .if5 .left),
+      answer-passes (own-tested c .own-fits .ensures) (c .before .if6 .left),
     )
 
 pub thread-fits-spec : {M : Type 1} → statement M

@@ -7,6 +7,14 @@ use Rattle.state_bytes.specs.Layout.{stateLength, threadFitsAt}
 use Rattle.state_bytes.proofs.fits.thread_fits_at.Statement.{statement}
 use Rattle.state_bytes.proofs.fits.thread_fits_at.Tie as tie
 
+-- the call that reads the found chute, from the call that tests
+abbrev found-read : tie.After-thread-fits → tie.After-number-at
+found-read c = c .before .before .before .before
+
+-- the function's entry, from there
+abbrev entry : tie.After-thread-fits → tie.Start
+entry c = found-read c .before .before
+
 mul-from : tie.Need-mul-from
 mul-from c = omega arith
 
@@ -44,11 +52,11 @@ thread-fits-requires c κs = search needs
 returns : tie.Need-returns
 unfolding threadFitsAt
 returns c =
-    let t = c .before .before .before .before .before .before .args .t in
+    let t = entry c .args .t in
     let at : 4391 + 5 * t ≡ 4390 + 5 * t + 1 = omega arith in
     let own : 4392 + 5 * t ≡ 4390 + 5 * t + 2 = omega arith in
     let found : 4393 + 5 * t ≡ 4390 + 5 * t + 3 = omega arith in
-    rw (at, own, found, ← c .before .before .before .before .number-at .ensures) (c .thread-fits .ensures)
+    rw (at, own, found, ← found-read c .number-at .ensures) (c .thread-fits .ensures)
 
 pub thread-fits-at-spec : {M : Type 1} → statement M
 thread-fits-at-spec =

@@ -8,6 +8,10 @@ use Rattle.state_bytes.specs.Layout.{stateLength, setAt}
 use Rattle.state_bytes.proofs.read.set_at.Statement.{statement}
 use Rattle.state_bytes.proofs.read.set_at.Tie as tie
 
+-- the function's entry, from the call that reads the third word
+abbrev entry : tie.After-word-at3 → tie.Start
+entry c = c .before .before .before .before
+
 mul-at : tie.Need-mul-at
 mul-at c = omega arith
 
@@ -43,7 +47,7 @@ set-of b n first second third =
 
 returns : tie.Need-returns
 returns c =
-    let args = c .before .before .before .before .args in
+    let args = entry c .args in
     set-of (args .state .now) (args .n) (c .before .before .word-at .ensures) (c .before .word-at2 .ensures) (c .word-at3 .ensures)
 
 pub set-at-spec : {M : Type 1} → statement M

@@ -10,6 +10,10 @@ use Rattle.state_bytes.specs.Layout.{stateLength, threadOf, threadAt}
 use Rattle.state_bytes.proofs.read.thread_at.Statement.{statement}
 use Rattle.state_bytes.proofs.read.thread_at.Tie as tie
 
+-- the function's entry, from the last call
+abbrev entry : tie.After-thread-of → tie.Start
+entry c = c .before .before .before .before .before .before
+
 mul-from : tie.Need-mul-from
 mul-from c = omega arith
 
@@ -56,7 +60,7 @@ thread-of-fields b t found last =
 
 returns : tie.Need-returns
 returns c =
-    let args = c .before .before .before .before .before .before .args in
+    let args = entry c .args in
     c .thread-of .ensures ∙ thread-of-fields (args .state .now) (args .t) (c .before .number-at .result) (c .before .number-at .ensures)
 
 pub thread-at-spec : {M : Type 1} → statement M

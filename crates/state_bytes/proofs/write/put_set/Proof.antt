@@ -14,6 +14,13 @@ use borrow.Author.Needs.{needs}
 use Rattle.state_bytes.proofs.write.put_set.Statement.{statement}
 use Rattle.state_bytes.proofs.write.put_set.Tie as tie
 
+-- the calls that put a word, each from the next
+abbrev second-put : tie.After-put-number3 → tie.After-put-number2
+second-put c = c .before .before .before .before
+
+abbrev first-put : tie.After-put-number2 → tie.After-put-number
+first-put c = c .before .before .before .before
+
 array-read-put-number : tie.Need-array-read-put-number
 array-read-put-number c = search needs
 
@@ -48,8 +55,8 @@ words c = array-is-a-set (c .args .t3) (search needs) (λ i. search needs)
 returns : tie.Need-returns
 returns c =
     let third = c .before .before in
-    let second = third .before .before .before .before in
-    let first = second .before .before .before .before in
+    let second = second-put third in
+    let first = first-put second in
     let start = first .before .before .before in
     let at = start .args .at in
     let b = start .args .state .now in

@@ -11,6 +11,14 @@ use borrow.Author.Needs.{needs}
 use Rattle.state_bytes.proofs.write.put_thread.Statement.{statement}
 use Rattle.state_bytes.proofs.write.put_thread.Tie as tie
 
+-- the call that takes the thread apart, from the return
+abbrev parts-called : tie.After-slice-known2 → tie.After-parts-of
+parts-called c = c .before .before .before .before .before
+
+-- the function's entry, from the return
+abbrev entry : tie.After-slice-known2 → tie.Start
+entry c = parts-called c .before .before
+
 parts-of-requires : tie.Need-parts-of-requires
 parts-of-requires c κs = search needs
 
@@ -43,8 +51,8 @@ same-length c = c .before .before .put-number .kept .0 ∙ simp length-set
 
 returns : tie.Need-returns
 returns c =
-    let start = c .before .before .before .before .before .before .before in
-    let parts = c .before .before .before .before .before .parts-of in
+    let start = entry c in
+    let parts = parts-called c .parts-of in
     let r = parts .result in
     c .before .before .put-number .ensures
     ∙ stores-before (start .args .at) (r .0) (r .1) (r .2) (bytesOf 2 (r .3)) (start .args .state .now)

@@ -17,6 +17,10 @@ Inv-loop state₀ at from i₀ state i = PutFields (λ (n : ℕ). flagByte (getD
 abbrev μ-loop : tie.MeasureT-loop
 μ-loop state₀ at from i₀ state i = length from - i
 
+-- the function's entry, from a turn's call
+abbrev entry : tie.After-flag-byte Inv-loop μ-loop → tie.Start Inv-loop μ-loop
+entry c = c .before .before .before .before .before .before
+
 loop-holds : tie.Need-loop-holds Inv-loop μ-loop
 loop-holds c = fields-none _ _ _ _ _
 
@@ -40,7 +44,7 @@ loop-less c = omega arith
 
 loop-again : tie.Need-loop-again Inv-loop μ-loop
 loop-again c =
-    let b = c .before .before .before .before .before .before in
+    let b = entry c in
     let pass = c .before .before .before .loop in
     let at = b .args .at in
     fields-put (pass .inv) (at + pass .i) (omega arith) (omega arith) (ap length (c .flag-byte .ensures))

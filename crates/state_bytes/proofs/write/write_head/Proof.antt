@@ -10,6 +10,25 @@ use borrow.Author.Needs.{needs}
 use Rattle.state_bytes.proofs.write.write_head.Statement.{statement}
 use Rattle.state_bytes.proofs.write.write_head.Tie as tie
 
+-- the calls that put a number, each from the next
+abbrev first-put : tie.After-put-number2 → tie.After-put-number
+first-put c = c .before .before .before .before .before
+
+abbrev second-put : tie.After-put-number3 → tie.After-put-number2
+second-put c = c .before .before .before .before .before
+
+abbrev third-put : tie.After-put-number4 → tie.After-put-number3
+third-put c = c .before .before .before .before .before
+
+abbrev fourth-put : tie.After-put-number5 → tie.After-put-number4
+fourth-put c = c .before .before .before .before
+
+abbrev fifth-put : tie.After-put-number6 → tie.After-put-number5
+fifth-put c = c .before .before .before .before
+
+abbrev sixth-put : tie.After-struct-known5 → tie.After-put-number6
+sixth-put c = c .before .before .before .before
+
 cast-put-number : tie.Need-cast-put-number
 cast-put-number c = search needs
 
@@ -42,25 +61,25 @@ cast-put-number-5 c = search needs
 
 -- the function's entry, from the fourth call on
 abbrev entry4 : tie.After-put-number4 → tie.Start
-entry4 c = c .before .before .before .before .before .before .before .before .before .before .before .before .before .before .before .before .before .before .before .before .before
+entry4 c = first-put (second-put (third-put c)) .before .before .before .before .before .before
 
 abbrev entry5 : tie.After-put-number5 → tie.Start
-entry5 c = entry4 (c .before .before .before .before)
+entry5 c = entry4 (fourth-put c)
 
 abbrev entry6 : tie.After-put-number6 → tie.Start
-entry6 c = entry5 (c .before .before .before .before)
+entry6 c = entry5 (fifth-put c)
 
 abbrev entry7 : tie.After-put-number7 → tie.Start
-entry7 c = entry6 (c .before .before .before .before .before)
+entry7 c = entry6 (sixth-put (c .before))
 
 -- the four settings
 four : (c : tie.After-put-number4) →
     let o = entry4 c .args .settings in
     Put 0 (bytesOf 1 (o .size) ++ bytesOf 1 (o .workers) ++ bytesOf 2 (o .capacity) ++ bytesOf 2 (o .count)) 6 (entry4 c .args .state .now) (c .put-number4 .last .0)
 four c =
-    let third = c .before .before .before .before .before in
-    let second = third .before .before .before .before .before in
-    let first = second .before .before .before .before .before in
+    let third = third-put c in
+    let second = second-put third in
+    let first = first-put second in
     let one = put-more (put-none 0 (entry4 c .args .state .now)) _ 0 1 refl (bytes-length 1 _) (first .put-number .ensures) in
     let two = put-more one _ 1 1 refl (bytes-length 1 _) (second .put-number2 .ensures) in
     let three = put-more two _ 2 2 refl (bytes-length 2 _) (third .put-number3 .ensures) in
@@ -72,7 +91,7 @@ five : (c : tie.After-put-number5) →
     let k = entry5 c .args .counters in
     Put 0 (bytesOf 1 (o .size) ++ bytesOf 1 (o .workers) ++ bytesOf 2 (o .capacity) ++ bytesOf 2 (o .count) ++ bytesOf 2 (k .loaded .0)) 8
     (entry5 c .args .state .now) (c .put-number5 .last .0)
-five c = put-more (four (c .before .before .before .before)) _ 6 2 refl (bytes-length 2 _) (c .put-number5 .ensures)
+five c = put-more (four (fourth-put c)) _ 6 2 refl (bytes-length 2 _) (c .put-number5 .ensures)
 
 put-number-requires-6 : tie.Need-put-number-requires-6
 put-number-requires-6 c κs = omega (arith, put-length (five (c .before .before .before)), entry5 (c .before .before .before) .pre)
@@ -83,14 +102,14 @@ six : (c : tie.After-put-number6) →
     let k = entry6 c .args .counters in
     Put 0 (bytesOf 1 (o .size) ++ bytesOf 1 (o .workers) ++ bytesOf 2 (o .capacity) ++ bytesOf 2 (o .count) ++ bytesOf 2 (k .loaded .0) ++ bytesOf 2 (k .used)) 10
     (entry6 c .args .state .now) (c .put-number6 .last .0)
-six c = put-more (five (c .before .before .before .before)) _ 8 2 refl (bytes-length 2 _) (c .put-number6 .ensures)
+six c = put-more (five (fifth-put c)) _ 8 2 refl (bytes-length 2 _) (c .put-number6 .ensures)
 
 -- and the first free node
 seven : (c : tie.After-put-number7) → Put 0 (headOf (entry7 c .args .settings) (entry7 c .args .counters)) 11 (entry7 c .args .state .now) (c .put-number7 .last .0)
-seven c = put-more (six (c .before .before .before .before .before)) _ 10 1 refl (bytes-length 1 _) (c .put-number7 .ensures)
+seven c = put-more (six (sixth-put (c .before))) _ 10 1 refl (bytes-length 1 _) (c .put-number7 .ensures)
 
 put-number-requires-7 : tie.Need-put-number-requires-7
-put-number-requires-7 c κs = omega (arith, put-length (six (c .before .before .before .before)), entry6 (c .before .before .before .before) .pre)
+put-number-requires-7 c κs = omega (arith, put-length (six (sixth-put c)), entry6 (sixth-put c) .pre)
 
 same-length : tie.Need-same-length
 same-length c = put-length (seven (c .before .before))

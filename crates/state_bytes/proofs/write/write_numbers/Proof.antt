@@ -14,6 +14,14 @@ Inv-loop state₀ at from i₀ state i = PutFields (λ (n : ℕ). bytesOf 2 (get
 abbrev μ-loop : tie.MeasureT-loop
 μ-loop state₀ at from i₀ state i = length from - i
 
+-- the loop's head, from a turn's call
+abbrev turn : tie.After-put-number Inv-loop μ-loop → tie.At-loop Inv-loop μ-loop
+turn c = c .before .before .before .before
+
+-- the function's entry, from there
+abbrev entry : tie.After-put-number Inv-loop μ-loop → tie.Start Inv-loop μ-loop
+entry c = turn c .before .before .before
+
 loop-holds : tie.Need-loop-holds Inv-loop μ-loop
 loop-holds c = fields-none _ _ _ _ _
 
@@ -44,8 +52,8 @@ loop-less c = omega arith
 loop-again : tie.Need-loop-again Inv-loop μ-loop
 loop-again c =
     let called = c .before .before in
-    let pass = called .before .before .before .before .loop in
-    let args = called .before .before .before .before .before .before .before .args in
+    let pass = turn called .loop in
+    let args = entry called .args in
     fields-put (pass .inv) (args .at + 2 * pass .i) (omega arith) (omega arith) (bytes-length 2 (getD (args .from .now) (pass .i) 0)) (called .put-number .ensures)
 
 same-length : tie.Need-same-length Inv-loop μ-loop

@@ -16,6 +16,14 @@ Inv-loop state₀ at from i₀ state i = PutFields (λ (n : ℕ). setBytes (memb
 abbrev μ-loop : tie.MeasureT-loop
 μ-loop state₀ at from i₀ state i = length from - i
 
+-- the loop's head, from a turn's call
+abbrev turn : tie.After-put-set Inv-loop μ-loop → tie.At-loop Inv-loop μ-loop
+turn c = c .before .before .before .before
+
+-- the function's entry, from there
+abbrev entry : tie.After-put-set Inv-loop μ-loop → tie.Start Inv-loop μ-loop
+entry c = turn c .before .before
+
 loop-holds : tie.Need-loop-holds Inv-loop μ-loop
 loop-holds c = fields-none _ _ _ _ _
 
@@ -43,8 +51,8 @@ loop-less c = omega arith
 loop-again : tie.Need-loop-again Inv-loop μ-loop
 loop-again c =
     let called = c .before .before in
-    let pass = called .before .before .before .before .loop in
-    let args = called .before .before .before .before .before .before .args in
+    let pass = turn called .loop in
+    let args = entry called .args in
     fields-put (pass .inv) (args .at + 24 * pass .i) (omega arith) (omega arith) (set-length (member (getD (args .from .now) (pass .i) []))) (called .put-set .ensures)
 
 same-length : tie.Need-same-length Inv-loop μ-loop

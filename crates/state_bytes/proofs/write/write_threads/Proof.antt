@@ -15,6 +15,14 @@ Inv-loop state₀ at threads t₀ state t = PutFields (λ (n : ℕ). threadBytes
 abbrev μ-loop : tie.MeasureT-loop
 μ-loop state₀ at threads t₀ state t = 65 - t
 
+-- the loop's head, from a turn's call
+abbrev turn : tie.After-put-thread Inv-loop μ-loop → tie.At-loop Inv-loop μ-loop
+turn c = c .before .before .before .before
+
+-- the function's entry, from there
+abbrev entry : tie.After-put-thread Inv-loop μ-loop → tie.Start Inv-loop μ-loop
+entry c = turn c .before .before
+
 loop-holds : tie.Need-loop-holds Inv-loop μ-loop
 loop-holds c = fields-none _ _ _ _ _
 
@@ -42,8 +50,8 @@ loop-less c = omega arith
 loop-again : tie.Need-loop-again Inv-loop μ-loop
 loop-again c =
     let called = c .before .before in
-    let pass = called .before .before .before .before .loop in
-    let args = called .before .before .before .before .before .before .args in
+    let pass = turn called .loop in
+    let args = entry called .args in
     fields-put (pass .inv) (args .at + 5 * pass .t) (omega arith) (omega arith) (thread-length (getD (args .t3) (pass .t) Idle)) (called .put-thread .ensures)
 
 same-length : tie.Need-same-length Inv-loop μ-loop

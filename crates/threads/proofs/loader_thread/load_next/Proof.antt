@@ -11,12 +11,24 @@ use Rattle.threads.proofs.Readiness.{ready-beside}
 use Rattle.threads.proofs.loader_thread.load_next.Statement.{statement}
 use Rattle.threads.proofs.loader_thread.load_next.Tie as tie
 
+-- the function's entry, from the first test
+abbrev entry : tie.After-struct-known → tie.Start
+entry c = c .before .before .before .before .before
+
+-- the call that keeps the command, from the call that loads it
+abbrev keep-called : tie.After-load → tie.After-keep
+keep-called c = c .before .before .before .before
+
+-- the call that reads the command, from the call that keeps it
+abbrev read-called : tie.After-keep → tie.After-command-at
+read-called c = c .before .before .before .before
+
 element-copy-out-if3 : tie.Need-element-copy-out-if3
 element-copy-out-if3 c = search needs
 
 returns : tie.Need-returns
 returns c =
-    let start = c .before .before .before .before .before .before in
+    let start = entry (c .before) in
     let a = start .args in
     let tests = blocked-if (length (a .answers .now)) (a .counters .loaded .0) (a .counters .free .0) (a .locked .now) in
     λ executing waits keys chutes. load-waits _ _ _ _ _
@@ -42,12 +54,12 @@ load-requires c κs = search needs
 
 returns-2 : tie.Need-returns-2
 returns-2 c =
-    let kept = c .before .before .before .before in
-    let read = kept .before .before .before .before in
+    let kept = keep-called c in
+    let read = read-called kept in
     let test3 = read .before .before in
     let test2 = test3 .before .before in
     let test1 = test2 .before .before in
-    let start = test1 .before .before .before .before .before .before in
+    let start = entry (test1 .before) in
     let a = start .args in
     let free = blocked-if (length (a .answers .now)) (a .counters .loaded .0) (a .counters .free .0) (a .locked .now) false false false
     (lt-leb _ _ (test1 .if1 .left)) (test2 .if2 .left) (test3 .if3 .left) in

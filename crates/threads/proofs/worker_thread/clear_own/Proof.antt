@@ -7,6 +7,14 @@ use Rattle.threads.proofs.WorkerSteps.{busy, idle-returned, other-staye
 use Rattle.threads.proofs.worker_thread.clear_own.Statement.{statement}
 use Rattle.threads.proofs.worker_thread.clear_own.Tie as tie
 
+-- the call that clears, from the call that forgets the command
+abbrev clear-called : tie.After-forget → tie.After-clear
+clear-called c = c .before .before .before .before
+
+-- the function's entry, from the call that clears
+abbrev entry : tie.After-clear → tie.Start
+entry c = c .before .before .before .before .before .before
+
 clear-requires : tie.Need-clear-requires
 clear-requires c κs = search needs
 
@@ -18,8 +26,8 @@ forget-requires c κs = search needs
 
 returns : tie.Need-returns
 returns c =
-    let cleared = c .before .before .before .before in
-    let a = cleared .before .before .before .before .before .before .args in
+    let cleared = clear-called c in
+    let a = entry cleared .args in
     let left = cleared .clear .last in
     let returned =
     idle-returned (a .at) (a .own) (a .free .0) (a .next .now) (a .seq .now) (a .executing .now) (a .locked .now) (a .waits .now)
@@ -36,7 +44,7 @@ returns c =
 returns-2 : tie.Need-returns-2
 returns-2 c =
     let cleared = c .before in
-    let a = cleared .before .before .before .before .before .before .args in
+    let a = entry cleared .args in
     let left = cleared .clear .last in
     let stayed =
     other-stayed (a .at) (a .own) (a .free .0) (a .next .now) (a .seq .now) (a .executing .now) (a .locked .now) (a .waits .now)

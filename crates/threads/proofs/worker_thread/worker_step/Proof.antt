@@ -8,6 +8,34 @@ use Rattle.threads.proofs.WorkerSteps.{worker-waits, idle-enters, writt
 use Rattle.threads.proofs.worker_thread.worker_step.Statement.{statement}
 use Rattle.threads.proofs.worker_thread.worker_step.Tie as tie
 
+-- the function's entry, from where the cases part
+abbrev entry : tie.After-loaded → tie.Start
+entry c = c .before .before .before .before .before
+
+-- where the worker searches, from its step
+abbrev searching : tie.After-search-arg4 → tie.After-thread
+searching c = c .before .before .before .before .before
+
+-- where the worker has looked up, from where the node's place is read
+abbrev looked-up : tie.After-struct-known → tie.After-thread3
+looked-up c = c .before .before .before .before
+
+-- the call that writes, from the return
+abbrev write-called : tie.After-slice-known6 → tie.After-write
+write-called c = c .before .before .before .before .before .before
+
+-- the call that reads the place, from the call that writes
+abbrev place-called : tie.After-write → tie.After-place-of
+place-called c = c .before .before .before .before
+
+-- where the worker walks, from its step
+abbrev walking : tie.After-walk → tie.After-thread5
+walking c = c .before .before .before .before
+
+-- where the worker clears, from its step
+abbrev clearing : tie.After-clear-own-arg6 → tie.After-thread6
+clearing c = c .before .before .before .before .before .before .before
+
 enum-told : tie.Need-enum-told
 enum-told c = search needs
 
@@ -22,8 +50,8 @@ enum-known-thread c = search needs
 
 search-requires : tie.Need-search-requires
 search-requires c κs =
-    let known = c .before .before .before .before .before in
-    let start = known .before .before .before .before .before .before .before in
+    let known = searching c in
+    let start = entry (known .before .before) in
     (start .pre .nodes, rw (known .thread .given .1) at (start .pre .within))
 
 enum-known-thread-2 : tie.Need-enum-known-thread-2
@@ -32,7 +60,7 @@ enum-known-thread-2 c = search needs
 item-of-requires : tie.Need-item-of-requires
 item-of-requires c κs =
     let known = c .before .before in
-    rw (known .thread2 .given .1) at (known .before .before .before .before .before .before .before .pre .within)
+    rw (known .thread2 .given .1) at (entry (known .before .before) .pre .within)
 
 look-up-requires : tie.Need-look-up-requires
 look-up-requires c κs = search needs
@@ -43,7 +71,7 @@ enum-known-thread-3 c = search needs
 item-of-requires-2 : tie.Need-item-of-requires-2
 item-of-requires-2 c κs =
     let known = c .before .before in
-    rw (known .thread3 .given .1) at (known .before .before .before .before .before .before .before .pre .within)
+    rw (known .thread3 .given .1) at (entry (known .before .before) .pre .within)
 
 cast-place-of : tie.Need-cast-place-of
 cast-place-of c = search needs
@@ -53,8 +81,8 @@ mul-place-of c = search needs
 
 element-copy-out-place-of : tie.Need-element-copy-out-place-of
 element-copy-out-place-of c =
-    let known = c .before .before .before .before in
-    let within : known .thread3 .given .0 .0 .0 ≤ 150 = rw (known .thread3 .given .1) at (known .before .before .before .before .before .before .before .pre .within) in
+    let known = looked-up c in
+    let within : known .thread3 .given .0 .0 .0 ≤ 150 = rw (known .thread3 .given .1) at (entry (known .before .before) .pre .within) in
     omega arith
 
 place-of-requires : tie.Need-place-of-requires
@@ -66,7 +94,7 @@ write-requires c κs =
     let placed = c .before .before .before in
     let item = placed .before .before .before in
     let known = item .before .before .before in
-    let start = known .before .before .before .before .before .before .before in
+    let start = entry (known .before .before) in
     let within : known .thread3 .given .0 .0 .0 ≤ 150 = rw (known .thread3 .given .1) at (start .pre .within) in
     rw (placed .place-of .ensures) (start .pre .placed (known .thread3 .given .0 .0 .0) command within (sym (item .item-of2 .ensures) ∙ e))
 
@@ -81,8 +109,8 @@ same-length-3 c = search needs
 
 returns : tie.Need-returns
 returns c =
-    let written = c .before .before .before .before .before .before in
-    let placed = written .before .before .before .before in
+    let written = write-called c in
+    let placed = place-called written in
     let item = placed .before .before .before in
     let known = item .before .before .before in
     let fields = known .thread3 .given .0 in
@@ -102,7 +130,7 @@ enum-known-thread-5 c = search needs
 walk-requires : tie.Need-walk-requires
 walk-requires c κs =
     let known = c .before .before .before in
-    let start = known .before .before .before .before .before .before .before in
+    let start = entry (known .before .before) in
     let within = rw (known .thread5 .given .1) at (start .pre .within) in
     (start .pre .nodes, within .0, within .1)
 
@@ -111,15 +139,15 @@ enum-known-thread-6 c = search needs
 
 clear-own-requires : tie.Need-clear-own-requires
 clear-own-requires c κs =
-    let known = c .before .before .before .before .before .before .before in
-    let start = known .before .before .before .before .before .before .before in
+    let known = clearing c in
+    let start = entry (known .before .before) in
     let within = rw (known .thread6 .given .1) at (start .pre .within) in
     (start .pre .nodes, within .0, within .1, start .pre .free)
 
 returns-2 : tie.Need-returns-2
 returns-2 c =
     let cleared = c .before in
-    let known = cleared .before .before .before .before .before .before .before .before in
+    let known = clearing (cleared .before) in
     let fields = known .thread6 .given .0 in
     let does = cleared .clear-own .ensures in
     λ list t other. from-known (known .thread6 .given .1) (λ ready.
@@ -137,7 +165,7 @@ returns-4 c =
 
 returns-5 : tie.Need-returns-5
 returns-5 c =
-    let known = c .before .before .before .before .before .before in
+    let known = searching (c .before) in
     λ list t other. from-known (known .thread .given .1)
     (searching-steps _ _ _ _ _ other _ (known .thread .given .0 .0) _ _ _ (c .search .ensures .1) (c .search .ensures .0))
 
@@ -161,7 +189,7 @@ returns-7 c =
 
 returns-8 : tie.Need-returns-8
 returns-8 c =
-    let known = c .before .before .before .before in
+    let known = walking c in
     let fields = known .thread5 .given .0 in
     λ list t other. from-known (known .thread5 .given .1)
     (walking-steps _ _ _ _ _ other _ (fields .0) (fields .1 .0) _ _ _ (c .walk .ensures .1) (c .walk .ensures .0 .0) (c .walk .ensures .0 .1))
