@@ -4,6 +4,10 @@ use Rattle.s10.specs.Text.{keyOf}
 use Rattle.s10.proofs.key_of.Statement.{statement}
 use Rattle.s10.proofs.key_of.Tie as tie
 
+-- the call on the first two letters, from the call on the last two
+abbrev first-pair : tie.After-pair-number2 → tie.After-pair-number
+first-pair c = c .before .before .before .before .before
+
 shared-slice-read-pair-number : tie.Need-shared-slice-read-pair-number
 shared-slice-read-pair-number c = search needs
 
@@ -52,10 +56,10 @@ add-result-2 c = search needs
 returns : tie.Need-returns
 unfolding keyOf
 returns c =
-    let first = c .before .before .before .before .before .pair-number .ensures .0 in
+    let first = first-pair c .pair-number .ensures .0 in
     let serial = c .before .before .before .decimal-number .ensures .0 in
     let last = c .pair-number2 .ensures .0 in
-    rw (first, serial, last)
+    rw (serial, last, first)
 
 pub key-of-spec : {M : Type 1} → statement M
 key-of-spec =
