@@ -11,7 +11,7 @@ use Rattle.store.proofs.insert.Tie as tie
 abbrev compared : tie.After-find → tie.After-smaller
 compared c = c .before .before .before
 
--- the function's entry, from there
+-- the function's entry, from the call that takes the smaller length
 abbrev entry : tie.After-smaller → tie.Start
 entry c = c .before .before .before
 
@@ -19,7 +19,7 @@ entry c = c .before .before .before
 abbrev keys-shifted : tie.After-shift-up-chutes-arg → tie.After-shift-up-keys
 keys-shifted c = c .before .before .before
 
--- where there is room, from there
+-- where there is room, from where the chutes are lent
 abbrev room : tie.After-shift-up-chutes-arg → tie.Else2
 room c = keys-shifted c .before .before
 

@@ -9,7 +9,7 @@ use Rattle.store.proofs.remove.Tie as tie
 abbrev keys-shifted : tie.After-shift-down-chutes-arg → tie.After-shift-down-keys
 keys-shifted c = c .before .before .before
 
--- where the key is held, from there
+-- where the key is held, from where the chutes are lent
 abbrev found : tie.After-shift-down-chutes-arg → tie.Then1
 found c = keys-shifted c .before .before
 

@@ -9,11 +9,11 @@ use Rattle.depot.proofs.Outcome.{lent-as-zeros}
 use Rattle.depot.proofs.perform.perform.Statement.{statement}
 use Rattle.depot.proofs.perform.perform.Tie as tie
 
--- the call that says how many entries are lent, from where the keys are
+-- the call that says how many entries are lent, from where the keys are lent
 abbrev entries-known : tie.After-keys → tie.After-lent-entries
 entries-known c = c .before .before .before
 
--- the call that makes the state, from there
+-- the call that makes the state, from the call that says how many entries are lent
 abbrev made : tie.After-lent-entries → tie.After-new-state
 made c = c .before .before .before .before
 

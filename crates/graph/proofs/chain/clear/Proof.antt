@@ -20,7 +20,7 @@ unlatched c = c .before .before .before .before .before .before
 abbrev passed : tie.After-step-on-arg → tie.Else1
 passed c = c .before .before .before
 
--- the function's entry, from there
+-- the function's entry, from where the thread steps on
 abbrev begin : tie.After-step-on-arg → tie.Start
 begin c = entry (passed c .before)
 

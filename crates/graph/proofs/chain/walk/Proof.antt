@@ -15,7 +15,7 @@ use Rattle.graph.proofs.chain.walk.Tie as tie
 abbrev passed : tie.After-struct-known2 → tie.Else1
 passed c = c .before .before .before
 
--- the function's entry, from there
+-- the function's entry, from where the next node is compared with the own one
 abbrev entry : tie.After-struct-known2 → tie.Start
 entry c = passed c .before .before .before
 

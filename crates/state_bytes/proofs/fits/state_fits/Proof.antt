@@ -20,7 +20,7 @@ use Rattle.state_bytes.proofs.fits.state_fits.Tie as tie
 abbrev numbers-read : tie.Else2 → tie.After-number-at4
 numbers-read c = c .before .before .before
 
--- and from where the nodes fit
+-- where the numbers are read, from where the nodes fit
 abbrev nodes-tested : tie.Else4 → tie.After-number-at4
 nodes-tested c = numbers-read (c .before .before .before)
 

@@ -11,7 +11,7 @@ use Rattle.state_bytes.proofs.fits.thread_fits_at.Tie as tie
 abbrev found-read : tie.After-thread-fits → tie.After-number-at
 found-read c = c .before .before .before .before
 
--- the function's entry, from there
+-- the function's entry, from the call that tests
 abbrev entry : tie.After-thread-fits → tie.Start
 entry c = found-read c .before .before
 

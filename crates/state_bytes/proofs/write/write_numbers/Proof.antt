@@ -18,7 +18,7 @@ abbrev μ-loop : tie.MeasureT-loop
 abbrev turn : tie.After-put-number Inv-loop μ-loop → tie.At-loop Inv-loop μ-loop
 turn c = c .before .before .before .before
 
--- the function's entry, from there
+-- the function's entry, from a turn's call
 abbrev entry : tie.After-put-number Inv-loop μ-loop → tie.Start Inv-loop μ-loop
 entry c = turn c .before .before .before
 
