@@ -1,4 +1,4 @@
--- Demand 3 over the calls of the belt host, proved: the numbers of the lists that calls reach fit their bytes, so the byte lists kept are
+-- Demand 3 over the calls of a host in C, proved: the numbers of the lists that calls reach fit their bytes, so the byte lists kept are
 -- always read as the lists of the state that the performed schedules reach, and the three parts are those over calls on numbers. Assumes nothing.
 use Prim.Native.Nat.{ℕ, zero, suc, _-_, _*_, _%_, _^_, _≤_, _<_}
 use native.Mathlib.Omega.{arith}

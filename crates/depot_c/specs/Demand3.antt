@@ -1,4 +1,4 @@
--- Demand 3 over the calls of the belt host: "a single claim about the whole list of dealing calls, and not one for each call", said of the
+-- Demand 3 over the calls of a host in C: "a single claim about the whole list of dealing calls, and not one for each call", said of the
 -- byte lists that it lends and the numbers that it is answered. What `depot_open` and `depot_advance` answer and leave is what their contracts
 -- say: `openAnswer`, `openLeft`, `advanceAnswer` and `advanceLeft`. A call is accepted if it answers 0, and refused if not. Assumes nothing.
 use Prim.Native.Nat.{ℕ, _+_, _-_, _*_, _≤_}
