@@ -8,6 +8,7 @@ use native.Mathlib.Omega.{arith}
 use borrow.Author.Tests.{leb-true, eqb-true, eqb-false, eq-eqb, ne-eqb}
 use lib.Dec.{eqb, leb}
 use lib.ListN.{length, getD, getElem?, take, drop, length-map}
+use Rattle.s10.specs.Refusal.{Refusal, plain, atPlace}
 use Rattle.s10.specs.Text.{largestKey}
 use Rattle.s10.specs.Outcome.{readText}
 use Rattle.s10.specs.Outcome as Identifier
@@ -15,7 +16,7 @@ use Rattle.s10.proofs.Laws.{accepted-is-at-most-largest}
 use Rattle.command.specs.declared.Kind.{Kind}
 use Rattle.command.specs.declared.Kind.the-variants.{Insert, Delete, Read, Update}
 use Rattle.command.specs.declared.Command.{Command}
-use Rattle.command.specs.Read.{CommandOutcome, accepted, refused, kindOf, chuteFits, chuteOf, withKind, withChute, readCommand, parts, partsOf, readings, allAccepted, refusedAt, firstRefusal, commandFrom, commandsIn}
+use Rattle.command.specs.Read.{CommandOutcome, accepted, refused, kindOf, chuteFits, chuteOf, withKind, withChute, readCommand, parts, partsOf, readings, allAccepted, listRefused, firstRefusal, commandFrom, commandsIn}
 use Rattle.command.specs.Dependent.{isInsertOrDelete, isUpdate, areDependent}
 use Rattle.command.specs.Laws.{DependenceIsSymmetric, KindOfItsNumber, AcceptedChuteFits, AcceptedChuteIsAtMostLast, AcceptedKeyIsAtMostLargest, AllAccepted, NoRefusalIsAllAccepted, RefusedBeginsInside}
 
@@ -55,7 +56,7 @@ accepted-passed part command e = cases (kindOf (getD part 0 0)) (readText (take 
     bytes = drop 14 part
 
     chosen : (kind : Kind) (key : ℕ) (b : Bool) → readText (take 13 (drop 1 part)) ≡ Identifier.accepted key → eqb (length bytes) 2 && chuteFits kind (chuteOf bytes) ≡ b →
-        cond b (accepted (record { kind = kind; key = key; chute = chuteOf bytes })) (refused 10) ≡ accepted command → Accepted part command
+        cond b (accepted (record { kind = kind; key = key; chute = chuteOf bytes })) (refused (plain 10)) ≡ accepted command → Accepted part command
     chosen kind key true r f e =
         let read : Command = record { kind = kind; key = key; chute = chuteOf bytes } in
         let same : read ≡ command = cc in
@@ -128,12 +129,12 @@ unfolding readings partsOf
 length-readings list = rw (length-map, length-parts)
 
 -- a refusal's place is that of some reading
-refused-place : (place : ℕ) (rs : List CommandOutcome) (n at : ℕ) → firstRefusal place rs ≡ refusedAt n at → at < place + length rs
+refused-place : (place : ℕ) (rs : List CommandOutcome) (r : Refusal) → firstRefusal place rs ≡ listRefused r → r .place < place + length rs
 unfolding firstRefusal
-refused-place place [] n at e = let z : _≡_ {A = ℕ} 0 1 = cc in absurd (omega arith)
-refused-place place (accepted command ∷ rest) n at e = omega (arith, refused-place (place + 1) rest n at e)
-refused-place place (refused m ∷ rest) n at e = let same : place ≡ at = cc in omega arith
+refused-place place [] r e = let z : _≡_ {A = ℕ} 0 1 = cc in absurd (omega arith)
+refused-place place (accepted command ∷ rest) r e = omega (arith, refused-place (place + 1) rest r e)
+refused-place place (refused s ∷ rest) r e = let same : atPlace place s ≡ r = cc in rw (← same) (omega arith)
 
 -- the last part begins before the list ends
 pub refused-begins-inside : RefusedBeginsInside
-refused-begins-inside list n place e = omega (arith, refused-place 1 (readings list) n place e, length-readings list)
+refused-begins-inside list r e = omega (arith, refused-place 1 (readings list) r e, length-readings list)

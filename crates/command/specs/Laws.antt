@@ -5,10 +5,11 @@ use mathlib.Core.Bool.{true}
 use mathlib.Core.List.{List, [], _∷_}
 use mathlib.Core.Option.{some}
 use lib.ListN.{length}
+use Rattle.s10.specs.Refusal.{Refusal}
 use Rattle.s10.specs.Text.{largestKey}
 use Rattle.command.specs.declared.Kind.{Kind}
 use Rattle.command.specs.declared.Command.{Command}
-use Rattle.command.specs.Read.{CommandOutcome, accepted, refused, kindOf, kindNumber, chuteFits, readCommand, readings, allAccepted, refusedAt, firstRefusal}
+use Rattle.command.specs.Read.{CommandOutcome, accepted, refused, kindOf, kindNumber, chuteFits, readCommand, readings, allAccepted, listRefused, firstRefusal}
 use Rattle.command.specs.Dependent.{areDependent}
 
 -- Of two commands each depends on the other, or neither does.
@@ -35,7 +36,7 @@ AcceptedKeyIsAtMostLargest = (part : List ℕ) (command : Command) → readComma
 abbrev pub AllAccepted : List CommandOutcome → Type 0
 AllAccepted [] = Unit {0}
 AllAccepted (accepted command ∷ rest) = AllAccepted rest
-AllAccepted (refused n ∷ rest) = ⊥
+AllAccepted (refused r ∷ rest) = ⊥
 
 -- A list has no refusal exactly if every reading is accepted.
 abbrev pub NoRefusalIsAllAccepted : Type 0
@@ -45,4 +46,4 @@ NoRefusalIsAllAccepted =
 
 -- A refused command begins inside the list.
 abbrev pub RefusedBeginsInside : Type 0
-RefusedBeginsInside = (list : List ℕ) (n place : ℕ) → firstRefusal 1 (readings list) ≡ refusedAt n place → place * 16 < length list + 16
+RefusedBeginsInside = (list : List ℕ) (r : Refusal) → firstRefusal 1 (readings list) ≡ listRefused r → r .place * 16 < length list + 16

@@ -5,6 +5,7 @@ use mathlib.Core.List.{List, [], _∷_, map}
 use mathlib.Core.Option.{Option, none, some}
 use lib.ListN.{length, getD, take, drop}
 use lib.Dec.{eqb, leb}
+use Rattle.s10.specs.Refusal.{Refusal, plain, atPlace}
 use Rattle.s10.specs.Outcome.{readText}
 use Rattle.s10.specs.Outcome as Identifier
 use Rattle.command.specs.declared.Kind.{Kind}
@@ -12,23 +13,28 @@ use Rattle.command.specs.declared.Kind.the-variants.{Insert, Delete, Rea
 use Rattle.command.specs.declared.AnyKind.{AnyKind}
 use Rattle.command.specs.declared.AnyKind.the-variants.{Known, Unknown}
 use Rattle.command.specs.declared.Command.{Command}
+use Rattle.command.specs.declared.Reason.{Reason}
+use Rattle.command.specs.declared.Reason.the-variants.{UnknownKind, WrongIdentifier, WrongChute}
 use Rattle.command.specs.declared.Reading.{Reading}
-use Rattle.command.specs.declared.Reading.the-variants.{Read as Accepted, UnknownKind, Malformed, WrongCheckDigit, WrongChute}
+use Rattle.command.specs.declared.Reading.the-variants.{Read as Accepted, Refused}
 use Rattle.command.specs.declared.ListReading.{ListReading}
-use Rattle.command.specs.declared.ListReading.the-variants.{AllRead, UnknownKindAt, MalformedAt, WrongCheckDigitAt, WrongChuteAt}
+use Rattle.command.specs.declared.ListReading.the-variants.{AllRead, RefusedAt}
 
--- A command is accepted, or refused with a number.
+-- A command is accepted, or refused; its place is not known yet.
 pub data CommandOutcome : Type 0 where
   accepted : Command → CommandOutcome
-  refused : ℕ → CommandOutcome
+  refused : Refusal → CommandOutcome
 
--- the document's number and value for each answer of `Command::read`
+-- the document's values for each reason
+abbrev pub refusalFor : Reason → Refusal
+refusalFor UnknownKind = plain 7
+refusalFor (WrongIdentifier reason) = Identifier.refusalFor reason
+refusalFor WrongChute = plain 10
+
+-- the outcome that each answer of `Command::read` stands for
 abbrev pub commandOutcome : Reading → CommandOutcome
 commandOutcome (Accepted command) = accepted command
-commandOutcome UnknownKind = refused 7
-commandOutcome Malformed = refused 8
-commandOutcome WrongCheckDigit = refused 9
-commandOutcome WrongChute = refused 10
+commandOutcome (Refused reason) = refused (refusalFor reason)
 
 -- "kind (1 insert, 2 delete, 3 read, 4 update)"; any other number is no kind's
 unfoldable pub kindOf : ℕ → Option Kind
@@ -60,13 +66,13 @@ chuteOf bytes = 256 * getD bytes 0 0 + getD bytes 1 0
 unfoldable pub withChute : Kind → Identifier.TextOutcome → List ℕ → CommandOutcome
 unfolding chuteFits chuteOf
 withChute kind (Identifier.accepted key) bytes =
-    cond (eqb (length bytes) 2 && chuteFits kind (chuteOf bytes)) (accepted (record { kind = kind; key = key; chute = chuteOf bytes })) (refused 10)
-withChute kind (Identifier.refused n) bytes = refused n
+    cond (eqb (length bytes) 2 && chuteFits kind (chuteOf bytes)) (accepted (record { kind = kind; key = key; chute = chuteOf bytes })) (refused (plain 10))
+withChute kind (Identifier.refused r) bytes = refused r
 
 -- what follows the kind: refusal 7, "kind not 1 to 4", or what follows the identifier's outcome
 unfoldable pub withKind : Option Kind → Identifier.TextOutcome → List ℕ → CommandOutcome
 unfolding withChute
-withKind none identifier bytes = refused 7
+withKind none identifier bytes = refused (plain 7)
 withKind (some kind) identifier bytes = withChute kind identifier bytes
 
 -- "A command is 16 bytes: kind, identifier, chute"; refusals 7, 8, 9 and 10 in this order. A part that ends early or late lacks what
@@ -88,30 +94,27 @@ unfoldable pub readings : List ℕ → List CommandOutcome
 unfolding partsOf readCommand
 readings bytes = map readCommand (partsOf bytes)
 
--- A list of commands is accepted, or refused with a number and the command's place, from 1.
+-- A list of commands is accepted, or refused at a command's place, from 1.
 pub data ListOutcome : Type 0 where
   allAccepted : ListOutcome
-  refusedAt : ℕ → ℕ → ListOutcome
+  listRefused : Refusal → ListOutcome
 
 -- "then each command in order for 7 to 10": the first refusal, the first reading being that of a place
 unfoldable pub firstRefusal : ℕ → List CommandOutcome → ListOutcome
 firstRefusal place [] = allAccepted
 firstRefusal place (accepted command ∷ rest) = firstRefusal (place + 1) rest
-firstRefusal place (refused n ∷ rest) = refusedAt n place
+firstRefusal place (refused r ∷ rest) = listRefused (atPlace place r)
 
--- the document's number and place for each answer of `read_list`
+-- the outcome that each answer of `read_list` stands for
 abbrev pub listOutcome : ListReading → ListOutcome
 listOutcome AllRead = allAccepted
-listOutcome (UnknownKindAt seq) = refusedAt 7 (seq .0)
-listOutcome (MalformedAt seq) = refusedAt 8 (seq .0)
-listOutcome (WrongCheckDigitAt seq) = refusedAt 9 (seq .0)
-listOutcome (WrongChuteAt seq) = refusedAt 10 (seq .0)
+listOutcome (RefusedAt seq reason) = listRefused (atPlace (seq .0) (refusalFor reason))
 
 -- the commands of a list. A list that was accepted has no refused command; in any other list a refused one reads as a read of key 0, so
 -- that every list has a command at each place
 unfoldable pub commandFrom : CommandOutcome → Command
 commandFrom (accepted c) = c
-commandFrom (refused n) = record { kind = Read; key = 0; chute = 0 }
+commandFrom (refused r) = record { kind = Read; key = 0; chute = 0 }
 
 unfoldable pub commandsIn : List ℕ → List Command
 commandsIn bytes = map commandFrom (readings bytes)

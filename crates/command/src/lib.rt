@@ -1,10 +1,10 @@
 // A command of 16 bytes: kind, identifier and chute.
 ghost use mathlib.Core.Path.{_≡_};
-ghost use Prim.Native.Nat.{_+_, _*_, min};
+ghost use Prim.Native.Nat.{_+_, _*_, _≤_, min};
 ghost use mathlib.Core.Bool.{_&&_};
 ghost use lib.Dec.{leb};
 ghost use Rattle.s10.specs.Outcome.{accepted};
-ghost use Rattle.command.specs.Read.{commandOutcome, knownKind, kindOf, chuteFits, withChute, readCommand, listOutcome, firstRefusal, readings, kindNumber};
+ghost use Rattle.command.specs.Read.{refusalFor, commandOutcome, knownKind, kindOf, chuteFits, withChute, readCommand, listOutcome, firstRefusal, readings, kindNumber};
 ghost use Rattle.command.specs.Dependent.{isInsertOrDelete, isUpdate, areDependent};
 use s10::Identifier;
 
@@ -30,23 +30,36 @@ pub struct Command {
     pub chute: u16,
 }
 
+// Why a command is refused.
+pub enum Reason {
+    UnknownKind,
+    WrongIdentifier(s10::Reason),
+    WrongChute,
+}
+
 // What reading one command finds.
 pub enum Reading {
     Read(Command),
-    UnknownKind,
-    // The identifier's length, a letter or a digit is wrong.
-    Malformed,
-    WrongCheckDigit,
-    WrongChute,
+    Refused(Reason),
 }
 
 // What reading a list of commands finds: every command read, or the first that was refused.
 pub enum ListReading {
     AllRead,
-    UnknownKindAt(Seq),
-    MalformedAt(Seq),
-    WrongCheckDigitAt(Seq),
-    WrongChuteAt(Seq),
+    RefusedAt(Seq, Reason),
+}
+
+impl Reason {
+    // The refusal's number.
+    pub fn number(self) -> u64
+        ensures { λ r. ⌜ (r ≡ refusalFor self .number) × (r ≤ 12) ⌝ }
+    {
+        match self {
+            Reason::UnknownKind => 7,
+            Reason::WrongIdentifier(reason) => reason.number(),
+            Reason::WrongChute => 10,
+        }
+    }
 }
 
 impl Command {
@@ -64,17 +77,16 @@ impl Command {
         ensures { λ r. ⌜ commandOutcome r ≡ readCommand (now (part .entry)) ⌝ }
     {
         if part.len() == 0 {
-            return Reading::UnknownKind;
+            return Reading::Refused(Reason::UnknownKind);
         }
         let AnyKind::Known(kind) = Kind::of(part[0]) else {
-            return Reading::UnknownKind;
+            return Reading::Refused(Reason::UnknownKind);
         };
         let end = smaller(Command::CHUTE, part.len());
         let identifier = Identifier::read(&part[Command::IDENTIFIER..end]);
         match identifier {
             s10::Reading::Key(key) => with_chute(kind, key, &part[end..]),
-            s10::Reading::Malformed => Reading::Malformed,
-            s10::Reading::WrongCheckDigit => Reading::WrongCheckDigit,
+            s10::Reading::Refused(reason) => Reading::Refused(Reason::WrongIdentifier(reason)),
         }
     }
 
@@ -175,11 +187,11 @@ fn with_chute(kind: Kind, key: u64, bytes: &[u8]) -> Reading
     ensures { λ r. ⌜ commandOutcome r ≡ withChute kind (accepted key) (now (bytes .entry)) ⌝ }
 {
     if bytes.len() != Command::LENGTH - Command::CHUTE {
-        return Reading::WrongChute;
+        return Reading::Refused(Reason::WrongChute);
     }
     let chute = number_of(bytes[0], bytes[1]);
     if !kind.takes(chute) {
-        return Reading::WrongChute;
+        return Reading::Refused(Reason::WrongChute);
     }
     Reading::Read(Command { kind, key, chute })
 }
@@ -195,10 +207,7 @@ pub fn read_list(list: &[u8]) -> ListReading
         let reading = Command::read(&list[at..end]);
         match reading {
             Reading::Read(_) => {}
-            Reading::UnknownKind => return ListReading::UnknownKindAt(Seq(seq)),
-            Reading::Malformed => return ListReading::MalformedAt(Seq(seq)),
-            Reading::WrongCheckDigit => return ListReading::WrongCheckDigitAt(Seq(seq)),
-            Reading::WrongChute => return ListReading::WrongChuteAt(Seq(seq)),
+            Reading::Refused(reason) => return ListReading::RefusedAt(Seq(seq), reason),
         }
         at = end;
         seq += 1;

@@ -8,9 +8,9 @@ use mathlib.Core.Option.{some}
 use lib.ListN.{length, getElem?}
 use lib.Dec.{eqb, leb}
 use borrow.Author.Tests.{leb-true, eqb-true}
-use Rattle.s10.specs.Outcome as Identifier
+use Rattle.s10.specs.Refusal.{plain}
 use Rattle.command.specs.declared.Command.{Command}
-use Rattle.command.specs.Read.{CommandOutcome, accepted, refused, chuteFits, readCommand, partsOf, readings, ListOutcome, allAccepted, refusedAt, firstRefusal, commandFrom, commandsIn}
+use Rattle.command.specs.Read.{CommandOutcome, accepted, refused, chuteFits, readCommand, partsOf, readings, ListOutcome, allAccepted, listRefused, firstRefusal, commandFrom, commandsIn}
 use Rattle.command.proofs.Laws.{accepted-chute-fits}
 use Rattle.model.specs.Setup.{Setup, commandAt}
 use Rattle.model.specs.Step.{opened}
@@ -49,7 +49,7 @@ commands-fit bytes e (suc i) command at = chutes-fit (partsOf bytes) 1 command i
 -- ---- the opening
 
 -- a chain of tests is accepted where each passes
-pub passed : (t : Bool) (n : ℕ) {x : Calls.CallOutcome} {l : Lists} → cond t x (Calls.refused n 0) ≡ Calls.accepted l → (t ≡ true) × (x ≡ Calls.accepted l)
+pub passed : (t : Bool) (n : ℕ) {x : Calls.CallOutcome} {l : Lists} → cond t x (Calls.refused (plain n)) ≡ Calls.accepted l → (t ≡ true) × (x ≡ Calls.accepted l)
 passed true n e = (refl, e)
 passed false n e = let z : _≡_ {A = ℕ} 0 1 = cc in absurd (omega arith)
 
@@ -57,7 +57,7 @@ passed false n e = let z : _≡_ {A = ℕ} 0 1 = cc in absurd (omega arith)
 opened-lists : (r : ListOutcome) (o : Setup) (l : Lists) → openedWith r o ≡ Calls.accepted l → (r ≡ allAccepted) × (l ≡ listsOf o (opened o))
 unfolding openedWith
 opened-lists allAccepted o l e = (refl, cc)
-opened-lists (refusedAt n place) o l e = let z : _≡_ {A = ℕ} 0 1 = cc in absurd (omega arith)
+opened-lists (listRefused r) o l e = let z : _≡_ {A = ℕ} 0 1 = cc in absurd (omega arith)
 
 -- two tests bound a number
 range : (n high : ℕ) → (leb 1 n && leb n high) ≡ true → (1 ≤ n) × (n ≤ high)

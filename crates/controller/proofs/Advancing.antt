@@ -3,24 +3,25 @@ use Prim.Native.Nat.{ℕ}
 use mathlib.Core.Path.{_≡_, sym, ap}
 use mathlib.Core.Bool.{true, false}
 use mathlib.Core.List.{List}
+use Rattle.s10.specs.Refusal.{plain}
 use Rattle.model.specs.Step.{steps}
 use Rattle.model.specs.Statement.{allWithin}
 use Rattle.state_bytes.specs.Layout.{Lists, listsOf, setupIn, stateIn, stateFits, handedBackFit}
-use Rattle.controller.specs.Calls.{CallOutcome, accepted, refused, refusalNumber, refusalPlace, kept, advanceOn}
+use Rattle.controller.specs.Calls.{CallOutcome, accepted, refused, refusalIn, kept, advanceOn}
 use Rattle.controller.specs.Performed.{CallPasses}
 
 module _ (l : Lists) (commands schedule : List ℕ) where
   -- the first test that fails decides
-  pub refuses-lengths : handedBackFit l commands ≡ false → advanceOn l commands schedule ≡ refused 6 0
+  pub refuses-lengths : handedBackFit l commands ≡ false → advanceOn l commands schedule ≡ refused (plain 6)
   unfolding advanceOn
   refuses-lengths e = rw e
 
-  pub refuses-state : handedBackFit l commands ≡ true → stateFits l ≡ false → advanceOn l commands schedule ≡ refused 12 0
+  pub refuses-state : handedBackFit l commands ≡ true → stateFits l ≡ false → advanceOn l commands schedule ≡ refused (plain 12)
   unfolding advanceOn
   refuses-state e f = rw (e, f)
 
   pub refuses-thread : handedBackFit l commands ≡ true → stateFits l ≡ true → allWithin (setupIn (l .state) commands .workers) schedule ≡ false
-      → advanceOn l commands schedule ≡ refused 11 0
+      → advanceOn l commands schedule ≡ refused (plain 11)
   unfolding advanceOn
   refuses-thread e f g = rw (e, f, g)
 
@@ -29,14 +30,14 @@ module _ (l : Lists) (commands schedule : List ℕ) where
   unfolding advanceOn
   accepts p = rw (p .lengths, p .state, p .named)
 
-  -- a refusal answers its number, with no place, and leaves the lists
-  pub refused-so : (n : ℕ) → advanceOn l commands schedule ≡ refused n 0
-      → (n ≡ refusalNumber (advanceOn l commands schedule)) × ((0 ≡ refusalPlace (advanceOn l commands schedule)) × (l ≡ kept (advanceOn l commands schedule) l))
-  unfolding refusalNumber refusalPlace kept
-  refused-so n e = (sym (ap refusalNumber e), (sym (ap refusalPlace e), sym (ap (λ (x : CallOutcome). kept x l) e)))
+  -- a refusal answers its number and leaves the lists
+  pub refused-so : (n : ℕ) → advanceOn l commands schedule ≡ refused (plain n)
+      → (plain n ≡ refusalIn (advanceOn l commands schedule)) × (l ≡ kept (advanceOn l commands schedule) l)
+  unfolding refusalIn kept
+  refused-so n e = (sym (ap refusalIn e), sym (ap (λ (x : CallOutcome). kept x l) e))
 
-  -- an accepted call answers 0, with no place, and leaves its lists
+  -- an accepted call answers 0 and leaves its lists
   pub accepted-so : (m after : Lists) → m ≡ after → advanceOn l commands schedule ≡ accepted after
-      → (0 ≡ refusalNumber (advanceOn l commands schedule)) × ((0 ≡ refusalPlace (advanceOn l commands schedule)) × (m ≡ kept (advanceOn l commands schedule) l))
-  unfolding refusalNumber refusalPlace kept
-  accepted-so m after is e = (sym (ap refusalNumber e), (sym (ap refusalPlace e), rw (is, e)))
+      → (plain 0 ≡ refusalIn (advanceOn l commands schedule)) × (m ≡ kept (advanceOn l commands schedule) l)
+  unfolding refusalIn kept
+  accepted-so m after is e = (sym (ap refusalIn e), rw (is, e))

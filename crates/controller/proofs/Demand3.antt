@@ -21,6 +21,7 @@ use Rattle.model.specs.Proof.Theorem.{table-at-any-moment, demand-3}
 use Rattle.model.specs.Proof.Formed.{Formed}
 use Rattle.model.specs.Proof.Formed.Keep.{steps-formed}
 use Rattle.model.specs.Proof.Formed.Opening.{opened-formed, accepted-formed}
+use Rattle.s10.specs.Refusal.{plain}
 use Rattle.command.specs.Read.{commandsIn}
 use Rattle.state_bytes.specs.Layout.{Lists, listsOf, setupIn, stateIn, ascends, stateFits, handedBackFit}
 use Rattle.controller.specs.Calls.{CallOutcome, accepted, refused, kept, openOn, advanceOn}
@@ -63,7 +64,7 @@ answer-in l c = refl
 -- a call on lists that fit performs its schedule on what is read of them, or refuses an unknown thread
 advance-is : (l : Lists) (commands schedule : List ℕ) (o : Setup) (s : State) → handedBackFit l commands ≡ true → stateFits l ≡ true
     → setupIn (l .state) commands ≡ o → stateIn l ≡ s
-    → advanceOn l commands schedule ≡ cond (allWithin (o .workers) schedule) (accepted (listsOf o (steps o schedule s))) (refused 11 0)
+    → advanceOn l commands schedule ≡ cond (allWithin (o .workers) schedule) (accepted (listsOf o (steps o schedule s))) (refused (plain 11))
 unfolding advanceOn
 advance-is l commands schedule o s fit whole setup state = rw (fit, whole, setup, state)
 
@@ -90,7 +91,7 @@ module _ (o : Setup) (acc : Accepted o) (ts : List ℕ) (within : allWithin (o .
   -- a call on the lists of a reached state performs its schedule, or refuses an unknown thread
   call-performs : (commands : List ℕ) → o .commands ≡ commandsIn commands → length commands ≡ 16 * length (o .commands) → (schedule : List ℕ)
       → advanceOn (listsOf o (steps o ts (opened o))) commands schedule
-      ≡ cond (allWithin (o .workers) schedule) (accepted (listsOf o (steps o (ts ++ schedule) (opened o)))) (refused 11 0)
+      ≡ cond (allWithin (o .workers) schedule) (accepted (listsOf o (steps o (ts ++ schedule) (opened o)))) (refused (plain 11))
   call-performs commands same long schedule =
       let s : State = steps o ts (opened o) in
       let fo = accepted-formed o acc in
@@ -114,7 +115,7 @@ module _ (o : Setup) (acc : Accepted o) (commands : List ℕ) (same : o .command
       → Reach o (kept outcome l) (ts ++ accepts outcome (call .schedule))
   unfolding callOn kept
   call-reaches call l ts (accepted m) e handed r = accepted-reaches l m ts (call .schedule) r (rw (handed .0, handed .1) at e)
-  call-reaches call l ts (refused n place) e handed r = rw (append-nil ts) r
+  call-reaches call l ts (refused why) e handed r = rw (append-nil ts) r
 
   -- call by call
   calls-reach : (calls : List Call) (l : Lists) (ts : List ℕ) → Reach o l ts → Proper commands l calls → Reach o (listsAfter calls l) (ts ++ schedules calls)

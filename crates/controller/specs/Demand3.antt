@@ -31,7 +31,7 @@ listsAfter (call ∷ calls) l = listsAfter calls (kept (callOn call) l)
 -- "Each accepted call gets the run and lists as those before it left them": lists l, and the opening's commands
 abbrev pub ProperCall : List ℕ → Lists → Call → CallOutcome → Type 0
 ProperCall commands l call (accepted m) = (call .lists ≡ l) × (call .commands ≡ commands)
-ProperCall commands l call (refused n place) = Unit {0}
+ProperCall commands l call (refused r) = Unit {0}
 
 abbrev pub Proper : List ℕ → Lists → List Call → Type 0
 Proper commands l [] = Unit {0}
@@ -40,7 +40,7 @@ Proper commands l (call ∷ calls) = ProperCall commands l call (callOn call) ×
 -- the schedules of the accepted calls, one after the other
 abbrev pub accepts : CallOutcome → List ℕ → List ℕ
 accepts (accepted m) schedule = schedule
-accepts (refused n place) schedule = []
+accepts (refused r) schedule = []
 
 unfoldable pub schedules : List Call → List ℕ
 schedules [] = []

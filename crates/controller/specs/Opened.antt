@@ -1,25 +1,25 @@
 -- What the parts of opening promise: the outcome that an answer stands for, and the bytes of the opening state. Assumes nothing.
 use Prim.Native.Nat.{ℕ}
 use mathlib.Core.Path.{_≡_}
-use mathlib.Core.Bool.{cond}
 use mathlib.Core.List.{List}
-use lib.Dec.{eqb}
 use Rattle.model.specs.Setup.{Setup}
 use Rattle.model.specs.Step.{opened}
 use Rattle.command.specs.Read.{commandsIn}
 use Rattle.controller.specs.declared.«open_call».Opening.{Opening}
+use Rattle.controller.specs.declared.«open_call».Opening.the-variants.{Opened, Refused}
 use Rattle.state_bytes.specs.declared.Settings.{Settings}
 use Rattle.state_bytes.specs.Layout.{stateBytes, listsOf}
 use Rattle.state_bytes.specs.Written.{Sets}
-use Rattle.controller.specs.Calls.{CallOutcome, accepted, refused, openingNumber, openingPlace}
+use Rattle.controller.specs.Calls.{CallOutcome, accepted, refused, refusalFor}
 
 -- the setup of an opening's numbers and bytes
 abbrev pub setupOf : ℕ → ℕ → ℕ → List ℕ → Setup
 setupOf size workers capacity commands = record { size = size; workers = workers; capacity = capacity; commands = commandsIn commands }
 
--- what an answer says of an opening: `Opened`, that it leaves the lists of the opening state; any other, its number and place
+-- what an answer says of an opening: that it leaves the lists of the opening state, or why it is refused
 abbrev pub outcomeOf : Opening → Setup → CallOutcome
-outcomeOf r o = cond (eqb (openingNumber r) 0) (accepted (listsOf o (opened o))) (refused (openingNumber r) (openingPlace r))
+outcomeOf Opened o = accepted (listsOf o (opened o))
+outcomeOf (Refused reason) o = refused (refusalFor reason)
 
 -- bytes of the opening state, on every setup with these numbers
 abbrev pub LaysOpened : Settings → List ℕ → Type 0

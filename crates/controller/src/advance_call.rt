@@ -5,7 +5,7 @@ ghost use lib.ListN.{length};
 ghost use Rattle.model.specs.Step.{steps};
 ghost use Rattle.graph.specs.Memory.{memory};
 ghost use Rattle.state_bytes.specs.Layout.{lists, atEntry, atExit, listsOf, setupIn, stateIn, stateLength};
-ghost use Rattle.controller.specs.Calls.{refusalNumber, refusalPlace, kept, advanceNumber, advancePlace, advanceOn};
+ghost use Rattle.controller.specs.Calls.{refusalIn, kept, advanceRefusal, advanceOn};
 ghost use Rattle.controller.specs.Performed.{CountersIn, SettingsIn, CallPasses, Performs, Performed};
 use command::Seq;
 use model::Counters;
@@ -45,7 +45,7 @@ pub enum Advancing {
 impl Advancing {
     // The answer's number.
     pub fn number(self) -> u64
-        ensures { λ r. ⌜ (r ≡ advanceNumber self) × (r ≤ 12) ⌝ }
+        ensures { λ r. ⌜ (r ≡ advanceRefusal self .number) × (r ≤ 12) ⌝ }
     {
         match self {
             Advancing::Advanced => 0,
@@ -65,8 +65,7 @@ pub fn advance(
     commands: &[u8],
     schedule: &[u8],
 ) -> Advancing
-    ensures number { λ r. ⌜ advanceNumber r ≡ refusalNumber (advanceOn (atEntry state keys chutes answers) (now (commands .entry)) (now (schedule .entry))) ⌝ }
-    ensures place { λ r. ⌜ advancePlace r ≡ refusalPlace (advanceOn (atEntry state keys chutes answers) (now (commands .entry)) (now (schedule .entry))) ⌝ }
+    ensures refusal { λ r. ⌜ advanceRefusal r ≡ refusalIn (advanceOn (atEntry state keys chutes answers) (now (commands .entry)) (now (schedule .entry))) ⌝ }
     ensures left { λ r. ⌜ atExit state keys chutes answers ≡ kept (advanceOn (atEntry state keys chutes answers) (now (commands .entry)) (now (schedule .entry))) (atEntry state keys chutes answers) ⌝ }
 {
     if !lengths_fit(

@@ -5,4 +5,5 @@ mod open_call;
 pub use advance_call::Advancing;
 pub use advance_call::advance;
 pub use open_call::Opening;
+pub use open_call::Reason;
 pub use open_call::open;

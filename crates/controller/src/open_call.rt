@@ -8,7 +8,7 @@ ghost use Rattle.command.specs.Read.{listOutcome};
 ghost use Rattle.model.specs.Setup.{Setup};
 ghost use Rattle.model.specs.Graph.{firstNext};
 ghost use Rattle.state_bytes.specs.Layout.{atExit, atEntry, stateLength, lengthsFit};
-ghost use Rattle.controller.specs.Calls.{refusalNumber, refusalPlace, kept, openingNumber, openingPlace, openedWith, openOn};
+ghost use Rattle.controller.specs.Calls.{refusalIn, kept, refusalFor, openingRefusal, openedWith, openOn};
 ghost use Rattle.controller.specs.Opened.{setupOf, outcomeOf, LaysOpened};
 use command::Command;
 use command::ListReading;
@@ -20,57 +20,73 @@ use state_bytes::STATE_LENGTH;
 use state_bytes::Settings;
 use state_bytes::write_state;
 
-// What opening answers.
-pub enum Opening {
-    Opened,
+// Why an opening is refused.
+pub enum Reason {
     WrongGraphSize,
     WrongWorkers,
     WrongCapacity,
     WrongListLength,
     TooManyCommands,
     WrongLength,
-    UnknownKindAt(Seq),
-    MalformedAt(Seq),
-    WrongCheckDigitAt(Seq),
-    WrongChuteAt(Seq),
+    WrongCommand(Seq, command::Reason),
+}
+
+// What opening answers.
+pub enum Opening {
+    Opened,
+    Refused(Reason),
+}
+
+impl Reason {
+    // The refusal's number.
+    fn number(self) -> u64
+        ensures { λ r. ⌜ (r ≡ refusalFor self .number) × (r ≤ 12) ⌝ }
+    {
+        match self {
+            Reason::WrongGraphSize => 1,
+            Reason::WrongWorkers => 2,
+            Reason::WrongCapacity => 3,
+            Reason::WrongListLength => 4,
+            Reason::TooManyCommands => 5,
+            Reason::WrongLength => 6,
+            Reason::WrongCommand(_, reason) => reason.number(),
+        }
+    }
+
+    // The place of the command that was refused, 0 for none.
+    fn place(self) -> usize
+        ensures { λ r. ⌜ r ≡ refusalFor self .place ⌝ }
+    {
+        match self {
+            Reason::WrongGraphSize => 0,
+            Reason::WrongWorkers => 0,
+            Reason::WrongCapacity => 0,
+            Reason::WrongListLength => 0,
+            Reason::TooManyCommands => 0,
+            Reason::WrongLength => 0,
+            Reason::WrongCommand(seq, _) => seq.0,
+        }
+    }
 }
 
 impl Opening {
-    // The answer's number.
+    // The answer's number, 0 for opened.
     pub fn number(self) -> u64
-        ensures { λ r. ⌜ (r ≡ openingNumber self) × (r ≤ 12) ⌝ }
+        ensures { λ r. ⌜ (r ≡ openingRefusal self .number) × (r ≤ 12) ⌝ }
     {
         match self {
             Opening::Opened => 0,
-            Opening::WrongGraphSize => 1,
-            Opening::WrongWorkers => 2,
-            Opening::WrongCapacity => 3,
-            Opening::WrongListLength => 4,
-            Opening::TooManyCommands => 5,
-            Opening::WrongLength => 6,
-            Opening::UnknownKindAt(_) => 7,
-            Opening::MalformedAt(_) => 8,
-            Opening::WrongCheckDigitAt(_) => 9,
-            Opening::WrongChuteAt(_) => 10,
+            Opening::Refused(reason) => reason.number(),
         }
     }
 
     // The place of the command that was refused, 0 for none.
     pub fn place(self) -> usize
-        ensures { λ r. ⌜ r ≡ openingPlace self ⌝ }
+        ensures { λ r. ⌜ r ≡ openingRefusal self .place ⌝ }
     {
         match self {
             Opening::Opened => 0,
-            Opening::WrongGraphSize => 0,
-            Opening::WrongWorkers => 0,
-            Opening::WrongCapacity => 0,
-            Opening::WrongListLength => 0,
-            Opening::TooManyCommands => 0,
-            Opening::WrongLength => 0,
-            Opening::UnknownKindAt(seq) => seq.0,
-            Opening::MalformedAt(seq) => seq.0,
-            Opening::WrongCheckDigitAt(seq) => seq.0,
-            Opening::WrongChuteAt(seq) => seq.0,
+            Opening::Refused(reason) => reason.place(),
         }
     }
 }
@@ -95,8 +111,7 @@ pub fn open(
     workers: u64,
     capacity: u64,
 ) -> Opening
-    ensures number { λ r. ⌜ openingNumber r ≡ refusalNumber (openOn size workers capacity (now (commands .entry)) (atEntry state keys chutes answers)) ⌝ }
-    ensures place { λ r. ⌜ openingPlace r ≡ refusalPlace (openOn size workers capacity (now (commands .entry)) (atEntry state keys chutes answers)) ⌝ }
+    ensures refusal { λ r. ⌜ openingRefusal r ≡ refusalIn (openOn size workers capacity (now (commands .entry)) (atEntry state keys chutes answers)) ⌝ }
     ensures left { λ r. ⌜ atExit state keys chutes answers ≡ kept (openOn size workers capacity (now (commands .entry)) (atEntry state keys chutes answers)) (atEntry state keys chutes answers) ⌝ }
 {
     let answer = answer_for(
@@ -139,22 +154,22 @@ fn answer_for(
 {
     let count = commands.len() / Command::LENGTH;
     if !is_within(size, LARGEST_SIZE) {
-        return Opening::WrongGraphSize;
+        return Opening::Refused(Reason::WrongGraphSize);
     }
     if !is_within(workers, MOST_WORKERS) {
-        return Opening::WrongWorkers;
+        return Opening::Refused(Reason::WrongWorkers);
     }
     if !is_within(capacity, LARGEST_CAPACITY) {
-        return Opening::WrongCapacity;
+        return Opening::Refused(Reason::WrongCapacity);
     }
     if commands.len() % Command::LENGTH != 0 {
-        return Opening::WrongListLength;
+        return Opening::Refused(Reason::WrongListLength);
     }
     if count > MOST_COMMANDS {
-        return Opening::TooManyCommands;
+        return Opening::Refused(Reason::TooManyCommands);
     }
     if !lengths_fit(state, keys, chutes, answers, capacity, count) {
-        return Opening::WrongLength;
+        return Opening::Refused(Reason::WrongLength);
     }
     let reading = command::read_list(commands);
     answer_of(reading)
@@ -189,10 +204,7 @@ fn answer_of(reading: ListReading) -> Opening
 {
     match reading {
         ListReading::AllRead => Opening::Opened,
-        ListReading::UnknownKindAt(seq) => Opening::UnknownKindAt(seq),
-        ListReading::MalformedAt(seq) => Opening::MalformedAt(seq),
-        ListReading::WrongCheckDigitAt(seq) => Opening::WrongCheckDigitAt(seq),
-        ListReading::WrongChuteAt(seq) => Opening::WrongChuteAt(seq),
+        ListReading::RefusedAt(seq, reason) => Opening::Refused(Reason::WrongCommand(seq, reason)),
     }
 }
 

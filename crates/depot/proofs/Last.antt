@@ -4,6 +4,7 @@ use mathlib.Core.Path.{_≡_}
 use mathlib.Core.Bool.{Bool, true, false, cond}
 use mathlib.Core.List.{List, []}
 use native.Mathlib.Omega.{arith}
+use Rattle.s10.specs.Refusal.{Refusal, plain}
 use Rattle.model.specs.Statement.{allWithin}
 use Rattle.state_bytes.specs.Layout.{Lists, setupIn, stateFits, handedBackFit}
 use Rattle.controller.specs.Calls.{accepted, refused, openOn, advanceOn}
@@ -12,16 +13,16 @@ use Rattle.controller.proofs.AcceptedOpening.{passed}
 use Rattle.controller.proofs.Demand3.{demand-3-over-calls}
 
 -- a test that fails is the only way to its number
-only-by : (t : Bool) (l : Lists) (n place m : ℕ) → cond t (accepted l) (refused m 0) ≡ refused n place → n ≡ m
-only-by true l n place m e = let z : _≡_ {A = ℕ} 0 1 = cc in absurd (omega arith)
-only-by false l n place m e = cc
+only-by : (t : Bool) (l : Lists) (m : ℕ) (r : Refusal) → cond t (accepted l) (refused (plain m)) ≡ refused r → r ≡ plain m
+only-by true l m r e = let z : _≡_ {A = ℕ} 0 1 = cc in absurd (omega arith)
+only-by false l m r e = cc
 
 -- some schedule is accepted from what an opening leaves, and tests 6 and 12 do not look at the schedule
 pub last-is-11 : (size workers capacity : ℕ) (commands : List ℕ) (lent l : Lists) → openOn size workers capacity commands lent ≡ accepted l
-    → (schedule : List ℕ) (n place : ℕ) → advanceOn l commands schedule ≡ refused n place → n ≡ 11
+    → (schedule : List ℕ) (r : Refusal) → advanceOn l commands schedule ≡ refused r → r ≡ plain 11
 unfolding advanceOn listsAfter
-last-is-11 size workers capacity commands lent l opens schedule n place e =
+last-is-11 size workers capacity commands lent l opens schedule r e =
     let finished = demand-3-over-calls size workers capacity commands lent l opens [] tt .finish in
     let six = passed (handedBackFit l commands) 6 (finished .2) in
     let twelve = passed (stateFits l) 12 (six .1) in
-    only-by (allWithin (setupIn (l .state) commands .workers) schedule) _ n place 11 (rw (six .0, twelve .0) at e)
+    only-by (allWithin (setupIn (l .state) commands .workers) schedule) _ 11 r (rw (six .0, twelve .0) at e)

@@ -1,6 +1,6 @@
 -- Laws of a call's outcome: a refusal's number is not 0, so what is printed goes by the number and the lists left; and an opening goes by the
 -- lengths of what is lent. Assumes nothing.
-use Prim.Native.Nat.{ℕ, suc, _+_, _/_, _%_, _<_, min}
+use Prim.Native.Nat.{ℕ, _+_, _/_, _%_, _<_, min}
 use native.Mathlib.Omega.{arith}
 use mathlib.Core.Path.{_≡_, refl, ap, sym, _∙_}
 use mathlib.Core.Bool.{Bool, true, false, cond, _&&_}
@@ -9,6 +9,7 @@ use mathlib.Core.Option.{Option, none, some}
 use borrow.Author.Tests.{le-leb, lt-leb}
 use lib.ListN.{length, getD, take, drop, length-replicate}
 use lib.Dec.{eqb, leb}
+use Rattle.s10.specs.Refusal.{Refusal, plain, atPlace}
 use Rattle.s10.specs.Text.{isWellFormed, serialDigits, checkDigit}
 use Rattle.s10.specs.Outcome.{readText}
 use Rattle.s10.specs.Outcome as Identifier
@@ -18,7 +19,7 @@ use Rattle.command.specs.Read as Command
 use Rattle.model.specs.Setup.{Setup}
 use Rattle.model.specs.Statement.{allWithin}
 use Rattle.state_bytes.specs.Layout.{Lists, stateLength, setupIn, stateFits, lengthsFit, handedBackFit}
-use Rattle.controller.specs.Calls.{CallOutcome, accepted, refused, refusalNumber, kept, openedWith, openOn, advanceOn}
+use Rattle.controller.specs.Calls.{CallOutcome, accepted, refused, refusalIn, kept, openedWith, openOn, advanceOn}
 use Rattle.state_bytes.proofs.Bytes.{below-or-past}
 use Rattle.depot.specs.Program.{refusal, printed, zeros}
 
@@ -26,15 +27,15 @@ use Rattle.depot.specs.Program.{refusal, printed, zeros}
 
 pub data Numbered : CallOutcome → Type 0 where
   call-accepted : (l : Lists) → Numbered (accepted l)
-  call-refused : (n place : ℕ) → Numbered (refused (suc n) place)
+  call-refused : (r : Refusal) → 0 < r .number → Numbered (refused r)
 
 data CommandNumbered : Command.CommandOutcome → Type 0 where
   command-accepted : (command : _) → CommandNumbered (Command.accepted command)
-  command-refused : (n : ℕ) → CommandNumbered (Command.refused (suc n))
+  command-refused : (r : Refusal) → 0 < r .number → CommandNumbered (Command.refused r)
 
 data IdentifierNumbered : Identifier.TextOutcome → Type 0 where
   identifier-accepted : (key : ℕ) → IdentifierNumbered (Identifier.accepted key)
-  identifier-refused : (n : ℕ) → IdentifierNumbered (Identifier.refused (suc n))
+  identifier-refused : (r : Refusal) → 0 < r .number → IdentifierNumbered (Identifier.refused r)
 
 -- what holds of both ways out of a test holds after it
 tested : {A : Type 0} (P : A → Type 0) (t : Bool) (pass fail : A) → P pass → P fail → P (cond t pass fail)
@@ -45,18 +46,18 @@ identifier-numbered : (text : List ℕ) → IdentifierNumbered (readText text)
 unfolding readText
 identifier-numbered text =
     tested IdentifierNumbered (isWellFormed text) _ _
-    (tested IdentifierNumbered (eqb _ (checkDigit (serialDigits text))) _ _ (identifier-accepted _) (identifier-refused 8))
-    (identifier-refused 7)
+    (tested IdentifierNumbered (eqb _ (checkDigit (serialDigits text))) _ _ (identifier-accepted _) (identifier-refused _ (omega arith)))
+    (identifier-refused _ (omega arith))
 
 chute-numbered : (kind : Kind) (o : Identifier.TextOutcome) (bytes : List ℕ) → IdentifierNumbered o → CommandNumbered (withChute kind o bytes)
 unfolding withChute
 chute-numbered kind _ bytes (identifier-accepted key) =
-    tested CommandNumbered (eqb (length bytes) 2 && chuteFits kind (chuteOf bytes)) _ _ (command-accepted _) (command-refused 9)
-chute-numbered kind _ bytes (identifier-refused n) = command-refused n
+    tested CommandNumbered (eqb (length bytes) 2 && chuteFits kind (chuteOf bytes)) _ _ (command-accepted _) (command-refused _ (omega arith))
+chute-numbered kind _ bytes (identifier-refused r positive) = command-refused r positive
 
 kind-numbered : (kind : Option Kind) (o : Identifier.TextOutcome) (bytes : List ℕ) → IdentifierNumbered o → CommandNumbered (withKind kind o bytes)
 unfolding withKind
-kind-numbered none o bytes n = command-refused 6
+kind-numbered none o bytes n = command-refused (plain 7) (omega arith)
 kind-numbered (some kind) o bytes n = chute-numbered kind o bytes n
 
 command-numbered : (part : List ℕ) → CommandNumbered (readCommand part)
@@ -68,7 +69,7 @@ first-of : (place : ℕ) (o : Command.CommandOutcome) (rest : List Command.Comma
     → ((p : ℕ) → Numbered (openedWith (firstRefusal p rest) setup)) → Numbered (openedWith (firstRefusal place (o ∷ rest)) setup)
 unfolding firstRefusal openedWith
 first-of place _ rest setup (command-accepted command) later = later (place + 1)
-first-of place _ rest setup (command-refused n) later = call-refused n place
+first-of place _ rest setup (command-refused r positive) later = call-refused (atPlace place r) positive
 
 first-numbered : (place : ℕ) (parts : List (List ℕ)) (setup : Setup) → Numbered (openedWith (firstRefusal place (map readCommand parts)) setup)
 unfolding firstRefusal openedWith
@@ -83,33 +84,33 @@ open-numbered size workers capacity commands l =
     (tested Numbered (leb 1 capacity && leb capacity 4096) _ _
     (tested Numbered (eqb (length commands % 16) 0) _ _
     (tested Numbered (leb (length commands / 16) 4096) _ _
-    (tested Numbered (lengthsFit capacity (length commands / 16) l) _ _ (first-numbered 1 (partsOf commands) _) (call-refused 5 0))
-    (call-refused 4 0))
-    (call-refused 3 0))
-    (call-refused 2 0))
-    (call-refused 1 0))
-    (call-refused 0 0)
+    (tested Numbered (lengthsFit capacity (length commands / 16) l) _ _ (first-numbered 1 (partsOf commands) _) (call-refused _ (omega arith)))
+    (call-refused _ (omega arith)))
+    (call-refused _ (omega arith)))
+    (call-refused _ (omega arith)))
+    (call-refused _ (omega arith)))
+    (call-refused _ (omega arith))
 
 pub advance-numbered : (l : Lists) (commands schedule : List ℕ) → Numbered (advanceOn l commands schedule)
 unfolding advanceOn
 advance-numbered l commands schedule =
     tested Numbered (handedBackFit l commands) _ _
     (tested Numbered (stateFits l) _ _
-    (tested Numbered (allWithin (setupIn (l .state) commands .workers) schedule) _ _ (call-accepted _) (call-refused 10 0))
-    (call-refused 11 0))
-    (call-refused 5 0)
+    (tested Numbered (allWithin (setupIn (l .state) commands .workers) schedule) _ _ (call-accepted _) (call-refused _ (omega arith)))
+    (call-refused _ (omega arith)))
+    (call-refused _ (omega arith))
 
 -- ---- what is printed
 
-pub printed-refused : (text : Lists → List ℕ) (o : CallOutcome) (n : ℕ) → n ≡ refusalNumber o → (n ≡ 0 → ⊥) → printed text o ≡ refusal n
-unfolding printed refusalNumber
+pub printed-refused : (text : Lists → List ℕ) (o : CallOutcome) (n : ℕ) → n ≡ refusalIn o .number → (n ≡ 0 → ⊥) → printed text o ≡ refusal n
+unfolding printed refusalIn
 printed-refused text (accepted l) n e not-0 = absurd (not-0 e)
-printed-refused text (refused m place) n e not-0 = ap refusal (sym e)
+printed-refused text (refused r) n e not-0 = ap refusal (sym e)
 
-pub printed-accepted : (text : Lists → List ℕ) (o : CallOutcome) (l left : Lists) → Numbered o → refusalNumber o ≡ 0 → left ≡ kept o l → printed text o ≡ text left
-unfolding printed refusalNumber kept
+pub printed-accepted : (text : Lists → List ℕ) (o : CallOutcome) (l left : Lists) → Numbered o → refusalIn o .number ≡ 0 → left ≡ kept o l → printed text o ≡ text left
+unfolding printed refusalIn kept
 printed-accepted text _ l left (call-accepted m) e k = ap text (sym k)
-printed-accepted text _ l left (call-refused n place) e k = absurd (omega arith)
+printed-accepted text _ l left (call-refused r positive) e k = absurd (omega arith)
 
 -- ---- what is lent
 

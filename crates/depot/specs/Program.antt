@@ -71,7 +71,7 @@ report commands l = commandLines commands (l .answers) ++ totals (stateIn l)
 -- a refusal, or else the text of the lists that a call leaves
 unfoldable pub printed : (Lists → List ℕ) → CallOutcome → List ℕ
 printed text (accepted l) = text l
-printed text (refused n place) = refusal n
+printed text (refused r) = refusal (r .number)
 
 -- performs a schedule in opened lists
 unfoldable pub advanced : List ℕ → List ℕ → Lists → List ℕ

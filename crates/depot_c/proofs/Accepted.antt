@@ -6,18 +6,19 @@ use mathlib.Core.Bool.{_&&_}
 use mathlib.Core.List.{List, [], _∷_}
 use lib.ListN.{length}
 use lib.Dec.{eqb, leb}
+use Rattle.s10.specs.Refusal.{plain}
 use Rattle.command.specs.Read.{firstRefusal, readings, commandsIn}
 use Rattle.command.specs.Read as Command
 use Rattle.model.specs.Setup.{Setup}
 use Rattle.model.specs.Statement.{allWithin}
 use Rattle.model.specs.Proof.Serial.{cond-cases}
 use Rattle.state_bytes.specs.Layout.{Lists, lengthsFit, stateFits, handedBackFit}
-use Rattle.controller.specs.Calls.{CallOutcome, accepted, refused, refusalNumber, refusalPlace, openedWith, openOn, advanceOn}
+use Rattle.controller.specs.Calls.{CallOutcome, accepted, refused, refusalIn, openedWith, openOn, advanceOn}
 use Rattle.depot_c.specs.Boundary.{answerOf}
 
 -- an accepted call answers 0
 pub accepted-answers : (l : Lists) → answerOf (accepted l) ≡ 0
-unfolding answerOf refusalNumber refusalPlace
+unfolding answerOf refusalIn
 accepted-answers l = refl
 
 -- an outcome that answers 0 leaves lists
@@ -25,16 +26,16 @@ abbrev pub IsAccepted : CallOutcome → Type 0
 IsAccepted outcome = answerOf outcome ≡ 0 → (l : Lists) × (outcome ≡ accepted l)
 
 -- a number from 1 on is no answer 0
-refused-number : (n : ℕ) → 0 < n → IsAccepted (refused n 0)
-unfolding answerOf refusalNumber refusalPlace
+refused-number : (n : ℕ) → 0 < n → IsAccepted (refused (plain n))
+unfolding answerOf refusalIn
 refused-number n some e = absurd (omega arith)
 
 -- nor is a place from 1 on
 refused-place : (place : ℕ) (rs : List Command.CommandOutcome) (o : Setup) → 0 < place → IsAccepted (openedWith (firstRefusal place rs) o)
-unfolding firstRefusal openedWith answerOf refusalNumber refusalPlace
+unfolding firstRefusal openedWith answerOf refusalIn
 refused-place place [] o some e = (_, refl)
 refused-place place (Command.accepted command ∷ rs) o some e = refused-place (place + 1) rs o (omega arith) e
-refused-place place (Command.refused n ∷ rs) o some e = absurd (omega arith)
+refused-place place (Command.refused r ∷ rs) o some e = absurd (omega arith)
 
 -- test by test
 pub opening-accepted : (size workers capacity : ℕ) (commands : List ℕ) (l : Lists) → IsAccepted (openOn size workers capacity commands l)

@@ -8,6 +8,7 @@ use mathlib.Core.List.{List, [], _∷_}
 use lib.ListN.{length}
 use lib.Dec.{eqb, leb}
 use borrow.Author.Tests.{leb-true, eqb-true, le-leb}
+use Rattle.s10.specs.Refusal.{Refusal, plain}
 use Rattle.command.specs.Read.{firstRefusal, readings, commandsIn}
 use Rattle.command.specs.Read as Command
 use Rattle.command.proofs.Laws.{length-readings}
@@ -15,11 +16,11 @@ use Rattle.model.specs.Setup.{Setup}
 use Rattle.model.specs.Proof.Tests.{fails}
 use Rattle.state_bytes.specs.Bytes.{numberAt}
 use Rattle.state_bytes.specs.Layout.{Lists, lists, stateLength, setupIn, countIn, stateFits, lengthsFit, handedBackFit}
-use Rattle.controller.specs.Calls.{CallOutcome, accepted, refused, refusalNumber, refusalPlace, kept, openedWith, openOn, advanceOn, advancePlace}
+use Rattle.controller.specs.Calls.{CallOutcome, accepted, refused, refusalIn, kept, openedWith, openOn, advanceRefusal, advanceOn}
 use Rattle.controller.specs.declared.«advance_call».Advancing.{Advancing}
 use Rattle.controller.specs.declared.«advance_call».Advancing.the-variants.{Advanced, WrongLength, UnknownThread, WrongState}
 use Rattle.depot_c.specs.Numbers.{numbersIn, bytesIn}
-use Rattle.depot_c.specs.Boundary.{areWhole, numberLists, decoded, encoded, answerOf, left}
+use Rattle.depot_c.specs.Boundary.{areWhole, numberLists, decoded, encoded, packed, answerOf, left}
 use Rattle.state_bytes.proofs.Bytes.{Bytes}
 use Rattle.state_bytes.proofs.Tested.{each-passed}
 use Rattle.state_bytes.proofs.Passed.{InRange, state-passed}
@@ -33,25 +34,25 @@ chosen P true p q = p refl
 chosen P false p q = q refl
 
 -- choices that agree where the test is true are the same
-under : (t : Bool) (n : ℕ) {a a′ : CallOutcome} → (t ≡ true → a ≡ a′) → cond t a (refused n 0) ≡ cond t a′ (refused n 0)
+under : (t : Bool) (n : ℕ) {a a′ : CallOutcome} → (t ≡ true → a ≡ a′) → cond t a (refused (plain n)) ≡ cond t a′ (refused (plain n))
 under true n same = same refl
 under false n same = refl
 
 -- ---- places
 
 -- a refusal stands at one of the places from the first on
-place-below : (place : ℕ) (rs : List Command.CommandOutcome) (o : Setup) → 0 < place → refusalPlace (openedWith (firstRefusal place rs) o) < place + length rs
-unfolding firstRefusal openedWith refusalPlace
+place-below : (place : ℕ) (rs : List Command.CommandOutcome) (o : Setup) → 0 < place → refusalIn (openedWith (firstRefusal place rs) o) .place < place + length rs
+unfolding firstRefusal openedWith refusalIn
 place-below place [] o h = omega arith
 place-below place (Command.accepted command ∷ rs) o h = omega (arith, place-below (place + 1) rs o (omega arith))
-place-below place (Command.refused n ∷ rs) o h = omega arith
+place-below place (Command.refused r ∷ rs) o h = omega arith
 
 -- so an opening's place is at most the most commands
-pub opening-place-below : (size workers capacity : ℕ) (commands : List ℕ) (l : Lists) → refusalPlace (openOn size workers capacity commands l) ≤ 4096
-unfolding openOn refusalPlace
+pub opening-place-below : (size workers capacity : ℕ) (commands : List ℕ) (l : Lists) → refusalIn (openOn size workers capacity commands l) .place ≤ 4096
+unfolding openOn refusalIn
 opening-place-below size workers capacity commands l =
-    let P : CallOutcome → Type 0 = λ o. refusalPlace o ≤ 4096 in
-    let none : (n : ℕ) → P (refused n 0) = λ n. omega arith in
+    let P : CallOutcome → Type 0 = λ o. refusalIn o .place ≤ 4096 in
+    let none : (n : ℕ) → P (refused (plain n)) = λ n. omega arith in
     chosen P (leb 1 size && leb size 150) (λ _.
     chosen P (leb 1 workers && leb workers 64) (λ _.
     chosen P (leb 1 capacity && leb capacity 4096) (λ _.
@@ -74,7 +75,7 @@ opening-same size workers capacity commands l m same =
     under (leb 1 capacity && leb capacity 4096) 3 (λ small.
     under (eqb (length commands % 16) 0) 4 (λ _.
     under (leb (length commands / 16) 4096) 5 (λ few.
-    ap (λ (t : Bool). cond t (openedWith (firstRefusal 1 (readings commands)) (record { size = size; workers = workers; capacity = capacity; commands = commandsIn commands })) (refused 6 0))
+    ap (λ (t : Bool). cond t (openedWith (firstRefusal 1 (readings commands)) (record { size = size; workers = workers; capacity = capacity; commands = commandsIn commands })) (refused (plain 6)))
     (same (leb-true capacity 4096 (and-eq-true-iff (leb 1 capacity) (leb capacity 4096) .0 small .1)) (leb-true (length commands / 16) 4096 few)))))))
 
 -- no lists are refused, and nothing is left but what was there
@@ -112,7 +113,7 @@ long-opened size workers capacity commands b long =
     (λ small few. fails _ (λ fit. false≢true (sym long ∙ fits-room capacity (length commands / 16) b small few fit)))
 
 -- no lists are refused 6 when handed back
-pub nothing-advanced : (commands schedule : List ℕ) → advanceOn (lists [] [] [] []) commands schedule ≡ refused 6 0
+pub nothing-advanced : (commands schedule : List ℕ) → advanceOn (lists [] [] [] []) commands schedule ≡ refused (plain 6)
 unfolding advanceOn handedBackFit lengthsFit stateLength
 nothing-advanced commands schedule = refl
 
@@ -131,24 +132,24 @@ long-unfit b commands long fit =
 
 -- a handed-back list of more than 4,096 entries is refused: 12 where the state asks for so many, else 6
 pub long-advanced : (b : Lists) (commands schedule : List ℕ) → room b ≡ false
-    → advanceOn (numberLists b) commands schedule ≡ cond (handedBackFit (numberLists b) commands) (refused 12 0) (refused 6 0)
+    → advanceOn (numberLists b) commands schedule ≡ cond (handedBackFit (numberLists b) commands) (refused (plain 12)) (refused (plain 6))
 unfolding advanceOn
 long-advanced b commands schedule long = under (handedBackFit (numberLists b) commands) 6 (λ fit. rw (long-unfit b commands long fit))
 
 -- an advance names no command
-pub advance-place : (r : Advancing) → 0 ≡ advancePlace r
-advance-place Advanced = refl
-advance-place WrongLength = refl
-advance-place UnknownThread = refl
-advance-place WrongState = refl
+pub advance-packed : (r : Advancing) → advanceRefusal r .number ≡ packed (advanceRefusal r)
+advance-packed Advanced = refl
+advance-packed WrongLength = refl
+advance-packed UnknownThread = refl
+advance-packed WrongState = refl
 
 -- one of two refusals without a place
-either-answer : (t : Bool) → answerOf (cond t (refused 12 0) (refused 6 0)) ≡ cond t 12 6
-unfolding answerOf refusalNumber refusalPlace
+either-answer : (t : Bool) → answerOf (cond t (refused (plain 12)) (refused (plain 6))) ≡ cond t 12 6
+unfolding answerOf refusalIn
 either-answer true = refl
 either-answer false = refl
 
-either-left : (t : Bool) (b : Lists) → left (cond t (refused 12 0) (refused 6 0)) b ≡ b
+either-left : (t : Bool) (b : Lists) → left (cond t (refused (plain 12)) (refused (plain 6))) b ≡ b
 unfolding left
 either-left true b = refl
 either-left false b = refl
@@ -217,9 +218,9 @@ module _ (state keys chutes answers : List ℕ) where
   -- A call f on the numbers that were read.
   module _ (f : Lists → CallOutcome) {K C A : List ℕ} (read : (K ≡ numbersIn 8 keys) × (C ≡ numbersIn 2 chutes) × (A ≡ numbersIn 2 answers)) where
     -- its answer is that on the entries
-    pub answer-on : {n p : ℕ} → n ≡ refusalNumber (f (lists state K C A)) → p ≡ refusalPlace (f (lists state K C A)) → n + 256 * p ≡ answerOf (f (numberLists bytes))
+    pub answer-on : {r : Refusal} → r ≡ refusalIn (f (lists state K C A)) → packed r ≡ answerOf (f (numberLists bytes))
     unfolding answerOf
-    answer-on e g = rw (e, g, read-entries read)
+    answer-on e = rw (e, read-entries read)
 
     -- the bytes of the numbers that it leaves
     pub written-on : {s K′ C′ A′ x y z : List ℕ} → encoded (numberLists bytes) ≡ bytes
@@ -232,16 +233,16 @@ module _ (state keys chutes answers : List ℕ) where
       where
         by : (o : CallOutcome) → encoded (kept o (numberLists bytes)) ≡ left o bytes
         by (accepted l) = refl
-        by (refused n place) = whole
+        by (refused r) = whole
 
     -- a refusal leaves the bytes
     pub refused-on : {s K′ C′ A′ : List ℕ} → lists s K′ C′ A′ ≡ kept (f (lists state K C A)) (lists state K C A) → (answerOf (f (numberLists bytes)) ≡ 0 → ⊥)
         → lists s keys chutes answers ≡ left (f (numberLists bytes)) bytes
-    unfolding left kept answerOf refusalNumber refusalPlace numberLists
+    unfolding left kept answerOf refusalIn numberLists
     refused-on {s} {K′} {C′} {A′} is nonzero =
         let e : lists s K′ C′ A′ ≡ kept (f (numberLists bytes)) (numberLists bytes) = is ∙ rw (read-entries read) in
         by (f (numberLists bytes)) e nonzero
       where
         by : (o : CallOutcome) → lists s K′ C′ A′ ≡ kept o (numberLists bytes) → (answerOf o ≡ 0 → ⊥) → lists s keys chutes answers ≡ left o bytes
         by (accepted l) e nonzero = absurd (nonzero refl)
-        by (refused n place) e nonzero = ap (λ (l : Lists). lists (l .state) keys chutes answers) e
+        by (refused r) e nonzero = ap (λ (l : Lists). lists (l .state) keys chutes answers) e

@@ -5,11 +5,12 @@ use mathlib.Core.List.{List, []}
 use mathlib.Core.Path.{_≡_}
 use lib.ListN.{length}
 use lib.Dec.{eqb}
+use Rattle.s10.specs.Refusal.{Refusal, plain}
 use Rattle.s10.specs.Outcome.{readText}
 use Rattle.s10.specs.Outcome as Identifier
 use Rattle.state_bytes.specs.Bytes.{bytesOf}
 use Rattle.state_bytes.specs.Layout.{Lists, lists, stateIn}
-use Rattle.controller.specs.Calls.{CallOutcome, accepted, refused, refusalNumber, refusalPlace, openOn, advanceOn}
+use Rattle.controller.specs.Calls.{CallOutcome, accepted, refused, refusalIn, openOn, advanceOn}
 use Rattle.panel.specs.Reports.{pendingCounts, workerStatusBytes, workersIn}
 use Rattle.depot_c.specs.Numbers.{numbersIn, bytesIn}
 use Rattle.depot_c.specs.declared.Wanted.{Wanted}
@@ -36,13 +37,17 @@ encoded l = lists (l .state) (bytesIn 8 (l .keys)) (bytesIn 2 (l .chutes)) (byte
 -- ---- answers
 
 -- a refusal's number, and the command's place times 256
+abbrev pub packed : Refusal → ℕ
+packed r = r .number + 256 * r .place
+
+-- what is answered, 0 for accepted
 unfoldable pub answerOf : CallOutcome → ℕ
-answerOf o = refusalNumber o + 256 * refusalPlace o
+answerOf o = packed (refusalIn o)
 
 -- the bytes of the lists that the call leaves; a refusal leaves every byte as it was
 unfoldable pub left : CallOutcome → Lists → Lists
 left (accepted l) old = encoded l
-left (refused n place) old = old
+left (refused r) old = old
 
 -- ---- opening and advancing
 
@@ -62,22 +67,22 @@ advanceLeft b commands schedule = left (advanceOn (decoded b) commands schedule)
 
 -- ---- identifiers
 
--- the refusal of a text, 0 for accepted; its key, 0 for refused; and the key's eight bytes where it was accepted
-abbrev pub numberRead : Identifier.TextOutcome → ℕ
-numberRead (Identifier.accepted key) = 0
-numberRead (Identifier.refused n) = n
+-- the refusal of a text, number 0 for accepted; its key, 0 for refused; and the key's eight bytes where it was accepted
+abbrev pub refusalRead : Identifier.TextOutcome → Refusal
+refusalRead (Identifier.accepted key) = plain 0
+refusalRead (Identifier.refused r) = r
 
 abbrev pub keyRead : Identifier.TextOutcome → ℕ
 keyRead (Identifier.accepted key) = key
-keyRead (Identifier.refused n) = 0
+keyRead (Identifier.refused r) = 0
 
 unfoldable pub bytesRead : Identifier.TextOutcome → List ℕ → List ℕ
 bytesRead (Identifier.accepted key) old = bytesOf 8 key
-bytesRead (Identifier.refused n) old = old
+bytesRead (Identifier.refused r) old = old
 
 -- "6: 12 bytes for an identifier": the key's list has eight bytes, which is tested first
 unfoldable pub readAnswer : List ℕ → List ℕ → ℕ
-readAnswer text key = cond (eqb (length key) 8) (numberRead (readText text)) 6
+readAnswer text key = cond (eqb (length key) 8) (packed (refusalRead (readText text))) 6
 
 unfoldable pub readLeft : List ℕ → List ℕ → List ℕ
 readLeft text key = cond (eqb (length key) 8) (bytesRead (readText text) key) key

@@ -1,21 +1,20 @@
 // The two calls on identifiers.
 ghost use mathlib.Core.Path.{_≡_};
 ghost use Rattle.s10.specs.Outcome.{textOutcome, number, writeNumber, writeText};
-ghost use Rattle.depot_c.specs.Boundary.{numberRead, keyRead, readAnswer, readLeft};
+ghost use Rattle.depot_c.specs.Boundary.{packed, refusalRead, keyRead, readAnswer, readLeft};
 use crate::numbers::KEY;
 use s10::Identifier;
 use s10::Reading;
 use s10::Writing;
 use state_bytes::put_number;
 
-// The number of a reading's answer.
-fn reading_number(reading: Reading) -> u64
-    ensures { λ r. ⌜ r ≡ numberRead (textOutcome reading) ⌝ }
+// The answer to a reading.
+fn reading_answer(reading: Reading) -> u64
+    ensures { λ r. ⌜ r ≡ packed (refusalRead (textOutcome reading)) ⌝ }
 {
     match reading {
         Reading::Key(_) => 0,
-        Reading::Malformed => 8,
-        Reading::WrongCheckDigit => 9,
+        Reading::Refused(reason) => reason.number(),
     }
 }
 
@@ -25,8 +24,7 @@ fn reading_key(reading: Reading) -> u64
 {
     match reading {
         Reading::Key(key) => key,
-        Reading::Malformed => 0,
-        Reading::WrongCheckDigit => 0,
+        Reading::Refused(_) => 0,
     }
 }
 
@@ -51,7 +49,7 @@ pub extern "C" fn depot_read_identifier(text: &[u8], key: &mut [u8]) -> u64
         return 6;
     }
     let reading = Identifier::read(text);
-    let answer = reading_number(reading);
+    let answer = reading_answer(reading);
     if answer == 0 {
         put_number(key, 0, KEY, reading_key(reading));
     }

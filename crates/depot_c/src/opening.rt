@@ -1,10 +1,10 @@
 // Opening, on byte lists.
 ghost use mathlib.Core.Path.{_≡_};
 ghost use mathlib.Core.List.{[]};
-ghost use Prim.Native.Nat.{_+_, _*_, _≤_};
+ghost use Prim.Native.Nat.{_≤_};
 ghost use Rattle.state_bytes.specs.Layout.{lists, atExit, atEntry};
-ghost use Rattle.controller.specs.Calls.{openOn, openingNumber, openingPlace};
-ghost use Rattle.depot_c.specs.Boundary.{numberLists, answerOf, left, openAnswer, openLeft, Rooms};
+ghost use Rattle.controller.specs.Calls.{openOn, openingRefusal};
+ghost use Rattle.depot_c.specs.Boundary.{numberLists, packed, answerOf, left, openAnswer, openLeft, Rooms};
 use crate::lists::MOST;
 use crate::lists::are_whole;
 use crate::lists::have_room;
@@ -15,8 +15,8 @@ use controller::open;
 
 // A refusal's number and the command's place, in one number.
 fn opening_answer(opening: Opening) -> u64
-    requires { ⌜ openingPlace opening ≤ 4096 ⌝ }
-    ensures { λ r. ⌜ r ≡ openingNumber opening + 256 * openingPlace opening ⌝ }
+    requires { ⌜ openingRefusal opening .place ≤ 4096 ⌝ }
+    ensures { λ r. ⌜ r ≡ packed (openingRefusal opening) ⌝ }
 {
     opening.number() + 256 * opening.place() as u64
 }

@@ -91,10 +91,7 @@ pub fn command_at(list: &[u8], place: Seq) -> Command
     let at = end - Command::LENGTH;
     match Command::read(&list[at..end]) {
         Reading::Read(command) => command,
-        Reading::UnknownKind
-        | Reading::Malformed
-        | Reading::WrongCheckDigit
-        | Reading::WrongChute => Command {
+        Reading::Refused(_) => Command {
             kind: Kind::Read,
             key: 0,
             chute: 0,

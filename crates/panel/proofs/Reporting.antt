@@ -15,7 +15,8 @@ use Rattle.state_bytes.proofs.Passed.{lengths-passed}
 use Rattle.panel.specs.declared.Report.{Report}
 use Rattle.panel.proofs.Report.{the-type}
 use Rattle.panel.specs.declared.Report.the-variants.{Reported, WrongLength, WrongState}
-use Rattle.panel.specs.Reports.{reportOf, reportPlace, reportNumber, reportLeft}
+use Rattle.s10.specs.Refusal.{plain}
+use Rattle.panel.specs.Reports.{reportOf, reportRefusal, reportNumber, reportLeft}
 
 -- ---- the tests
 
@@ -56,7 +57,7 @@ module _ (l : Lists) (commands : List ℕ) (lent wanted : ℕ) where
       (lengths-passed l commands (both .0) .state, eqb-true lent wanted (both .1))
 
 -- no report names a command
-pub no-place : (r : Report) → reportPlace r ≡ 0
+pub no-place : (r : Report) → reportRefusal r ≡ plain (reportOf r)
 no-place Reported = refl
 no-place WrongLength = refl
 no-place WrongState = refl

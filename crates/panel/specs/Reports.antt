@@ -4,6 +4,7 @@ use mathlib.Core.Bool.{cond, _&&_}
 use mathlib.Core.List.{List, [], _∷_, _++_, map}
 use lib.ListN.{length, drop, replicate}
 use lib.Dec.{eqb, leb}
+use Rattle.s10.specs.Refusal.{Refusal, plain}
 use Rattle.node_set.specs.Members.{countBelow}
 use Rattle.model.specs.declared.Thread.{Thread}
 use Rattle.model.specs.declared.Thread.the-variants.{Idle, Loading, Searching, Holding, LookedUp, Written, Walking, Clearing}
@@ -29,11 +30,11 @@ reportOf Reported = 0
 reportOf WrongLength = 6
 reportOf WrongState = 12
 
--- "A refusal returns its number and the command's place (0 outside 7 to 10 ..)"
-abbrev pub reportPlace : Report → ℕ
-reportPlace Reported = 0
-reportPlace WrongLength = 0
-reportPlace WrongState = 0
+-- and what its refusal says: it names no command
+abbrev pub reportRefusal : Report → Refusal
+reportRefusal Reported = plain 0
+reportRefusal WrongLength = plain 6
+reportRefusal WrongState = plain 12
 
 -- the report list after the call: a refusal leaves it as it was
 unfoldable pub reportLeft {ℓ} : {A : Type ℓ} → ℕ → List A → List A → List A

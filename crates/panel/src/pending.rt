@@ -3,7 +3,8 @@ ghost use mathlib.Core.Path.{_≡_};
 ghost use lib.ListN.{length};
 ghost use Rattle.node_set.specs.Members.{countBelow};
 ghost use Rattle.state_bytes.specs.Layout.{atEntry, Lists, stateLength, stateIn};
-ghost use Rattle.panel.specs.Reports.{reportOf, reportPlace, reportNumber, reportLeft, pendingCounts};
+ghost use Rattle.s10.specs.Refusal.{plain};
+ghost use Rattle.panel.specs.Reports.{reportOf, reportRefusal, reportNumber, reportLeft, pendingCounts};
 use crate::Report;
 use crate::tested::tested;
 use node_set::Node;
@@ -55,7 +56,7 @@ pub fn pending_counts(
     counts: &mut [u8],
 ) -> Report
     ensures number { λ r. ⌜ reportOf r ≡ reportNumber (atEntry state keys chutes answers) (now (commands .entry)) (length (now (counts .entry))) 150 ⌝ }
-    ensures place { λ r. ⌜ reportPlace r ≡ 0 ⌝ }
+    ensures refusal { λ r. ⌜ reportRefusal r ≡ plain (reportOf r) ⌝ }
     ensures left { λ r. ⌜ now (counts .exit) ≡ reportLeft (reportOf r) (pendingCounts (stateIn (atEntry state keys chutes answers))) (now (counts .entry)) ⌝ }
 {
     let report = tested(

@@ -8,7 +8,8 @@ ghost use lib.ListN.{length, drop};
 ghost use Rattle.model.specs.Step.{State};
 ghost use Rattle.state_bytes.specs.Bytes.{tabulate};
 ghost use Rattle.state_bytes.specs.Layout.{atEntry, Lists, stateLength, stateIn};
-ghost use Rattle.panel.specs.Reports.{reportOf, reportPlace, reportNumber, reportLeft, statusOf, reported, stateNumber, workerStatus, workerStatusBytes, workersIn};
+ghost use Rattle.s10.specs.Refusal.{plain};
+ghost use Rattle.panel.specs.Reports.{reportOf, reportRefusal, reportNumber, reportLeft, statusOf, reported, stateNumber, workerStatus, workerStatusBytes, workersIn};
 use crate::Report;
 use crate::WorkerState;
 use crate::WorkerStatus;
@@ -126,7 +127,7 @@ pub fn worker_status(
     status: &mut [WorkerStatus],
 ) -> Report
     ensures number { λ r. ⌜ reportOf r ≡ reportNumber (atEntry state keys chutes answers) (now (commands .entry)) (length (now (status .entry))) 64 ⌝ }
-    ensures place { λ r. ⌜ reportPlace r ≡ 0 ⌝ }
+    ensures refusal { λ r. ⌜ reportRefusal r ≡ plain (reportOf r) ⌝ }
     ensures left { λ r. ⌜ now (status .exit) ≡ reportLeft (reportOf r) (workerStatus (workersIn (now (state .entry))) (stateIn (atEntry state keys chutes answers))) (now (status .entry)) ⌝ }
 {
     let report = tested(
@@ -205,7 +206,7 @@ pub fn worker_status_bytes(
     bytes: &mut [u8],
 ) -> Report
     ensures number { λ r. ⌜ reportOf r ≡ reportNumber (atEntry state keys chutes answers) (now (commands .entry)) (length (now (bytes .entry))) 128 ⌝ }
-    ensures place { λ r. ⌜ reportPlace r ≡ 0 ⌝ }
+    ensures refusal { λ r. ⌜ reportRefusal r ≡ plain (reportOf r) ⌝ }
     ensures left { λ r. ⌜ now (bytes .exit) ≡ reportLeft (reportOf r) (workerStatusBytes (workersIn (now (state .entry))) (stateIn (atEntry state keys chutes answers))) (now (bytes .entry)) ⌝ }
 {
     if bytes.len() != STATUS_BYTES {

@@ -8,6 +8,7 @@ use borrow.Author.Tests.{eqb-true, eq-eqb}
 use lib.Dec.{eqb}
 use lib.ListN.{getD}
 use Rattle.s10.specs.Text.{isWellFormed, serialDigits, checkDigit, keyOf, textOf}
+use Rattle.s10.specs.Refusal.{plain}
 use Rattle.s10.specs.Outcome.{accepted, refused, readText}
 use Rattle.s10.specs.Laws.{WrittenReadsBack, ReadWritesBack, EveryKeyHasText, KeyHasOneText, AcceptedIsAtMostLargest}
 use Rattle.s10.proofs.KeyOf.{text-of-key, key-at-most-largest}
@@ -25,7 +26,7 @@ unfolding readText
 accepted-passed text key e = cases (isWellFormed text) (eqb (getD text 10 0 - 48) (checkDigit (serialDigits text))) refl refl e
   where
     cases : (a b : Bool) → isWellFormed text ≡ a → eqb (getD text 10 0 - 48) (checkDigit (serialDigits text)) ≡ b →
-        cond a (cond b (accepted (keyOf text)) (refused 9)) (refused 8) ≡ accepted key → Accepted text key
+        cond a (cond b (accepted (keyOf text)) (refused (plain 9))) (refused (plain 8)) ≡ accepted key → Accepted text key
     cases true true p q e = record { formed = p; check = eqb-true _ _ q; read = cc }
     cases true false p q e = let z : _≡_ {A = ℕ} 0 1 = cc in absurd (omega arith)
     cases false b p q e = let z : _≡_ {A = ℕ} 0 1 = cc in absurd (omega arith)

@@ -1,4 +1,5 @@
 pub mod Text
 pub mod Parts
+pub mod Refusal
 pub mod Outcome
 pub mod Laws

@@ -6,17 +6,22 @@ ghost use lib.Dec.{leb};
 ghost use lib.ListN.{length};
 ghost use Rattle.s10.specs.Text.{isAllowed, weighted, weights, excepted, checkDigit, pair, decimalNumber, keyOf, letters, digits, largestKey, textOf};
 ghost use Rattle.s10.specs.Parts.{firstFault, Between, Serial, WellFormed, values, characters, serialText};
-ghost use Rattle.s10.specs.Outcome.{textOutcome, readText, number, writeNumber, writeText};
+ghost use Rattle.s10.specs.Outcome.{refusalFor, textOutcome, readText, number, writeNumber, writeText};
 
 // An identifier, by its key.
 pub struct Identifier(pub u64);
 
-// What reading a text finds.
-pub enum Reading {
-    Key(u64),
+// Why a text is refused.
+pub enum Reason {
     // The length, a letter or a digit is wrong.
     Malformed,
     WrongCheckDigit,
+}
+
+// What reading a text finds.
+pub enum Reading {
+    Key(u64),
+    Refused(Reason),
 }
 
 // What writing a key does.
@@ -24,6 +29,18 @@ pub enum Writing {
     Written,
     WrongLength,
     KeyTooLarge,
+}
+
+impl Reason {
+    // The refusal's number.
+    pub fn number(self) -> u64
+        ensures { λ r. ⌜ (r ≡ refusalFor self .number) × (r ≤ 12) ⌝ }
+    {
+        match self {
+            Reason::Malformed => 8,
+            Reason::WrongCheckDigit => 9,
+        }
+    }
 }
 
 impl Identifier {
@@ -52,14 +69,14 @@ impl Identifier {
         ensures { λ r. ⌜ textOutcome r ≡ readText (now (text .entry)) ⌝ }
     {
         if text.len() != Identifier::LENGTH {
-            return Reading::Malformed;
+            return Reading::Refused(Reason::Malformed);
         }
         if first_fault(text) != Identifier::LENGTH {
-            return Reading::Malformed;
+            return Reading::Refused(Reason::Malformed);
         }
         let check = check_digit(&text[Identifier::SERIAL..Identifier::CHECK]);
         if text[Identifier::CHECK] - b'0' != check {
-            return Reading::WrongCheckDigit;
+            return Reading::Refused(Reason::WrongCheckDigit);
         }
         Reading::Key(key_of(text))
     }

@@ -53,33 +53,12 @@ read-requires c κs = search needs
 enum-told : tie.Need-enum-told Inv-loop μ-loop
 enum-told c = search needs
 
-enum-told-2 : tie.Need-enum-told-2 Inv-loop μ-loop
-enum-told-2 c = search needs
+enum-known-reading : tie.Need-enum-known-reading Inv-loop μ-loop
+enum-known-reading c = search needs
 
 returns : tie.Need-returns Inv-loop μ-loop
 unfolding firstRefusal
-returns c = rw (c .enum-told2 .given .1) at (next (c .before .before))
-
-enum-told-3 : tie.Need-enum-told-3 Inv-loop μ-loop
-enum-told-3 c = search needs
-
-returns-2 : tie.Need-returns-2 Inv-loop μ-loop
-unfolding firstRefusal
-returns-2 c = rw (c .enum-told3 .given .1) at (next (c .before .before))
-
-enum-told-4 : tie.Need-enum-told-4 Inv-loop μ-loop
-enum-told-4 c = search needs
-
-returns-3 : tie.Need-returns-3 Inv-loop μ-loop
-unfolding firstRefusal
-returns-3 c = rw (c .enum-told4 .given .1) at (next (c .before .before))
-
-enum-told-5 : tie.Need-enum-told-5 Inv-loop μ-loop
-enum-told-5 c = search needs
-
-returns-4 : tie.Need-returns-4 Inv-loop μ-loop
-unfolding firstRefusal
-returns-4 c = rw (c .enum-told5 .given .1) at (next (c .before .before))
+returns c = let k = c .before in rw (k .reading .given .1) at (next (k .before .before))
 
 add-seq : tie.Need-add-seq Inv-loop μ-loop
 add-seq c = omega arith
@@ -91,9 +70,9 @@ loop-again : tie.Need-loop-again Inv-loop μ-loop
 unfolding firstRefusal
 loop-again c = (omega arith, rw (c .enum-told .given .1) at (next (c .before .before)))
 
-returns-5 : tie.Need-returns-5 Inv-loop μ-loop
+returns-2 : tie.Need-returns-2 Inv-loop μ-loop
 unfolding firstRefusal readings partsOf parts
-returns-5 c = rw (drop-of-length-le _ (c .loop-test .left)) at (c .before .loop .inv .1)
+returns-2 c = rw (drop-of-length-le _ (c .loop-test .left)) at (c .before .loop .inv .1)
 
 pub read-list-spec : {M : Type 1} → statement M
 read-list-spec =
@@ -109,15 +88,9 @@ read-list-spec =
     part-read-end
     read-requires
     enum-told
-    enum-told-2
+    enum-known-reading
     returns
-    enum-told-3
-    returns-2
-    enum-told-4
-    returns-3
-    enum-told-5
-    returns-4
     add-seq
     loop-less
     loop-again
-    returns-5)
+    returns-2)

@@ -4,6 +4,7 @@ use mathlib.Core.Bool.{cond}
 use borrow.Author.Needs.{needs}
 use borrow.Author.Tests.{eq-eqb, ne-eqb, not-true, not-false}
 use lib.ListN.{length}
+use Rattle.s10.specs.Refusal.{plain}
 use Rattle.s10.specs.Outcome as Identifier
 use Rattle.command.specs.Read.{accepted, refused, chuteOf, withChute}
 use Rattle.command.proofs.with_chute.Statement.{statement}
@@ -38,7 +39,7 @@ tested : (c : tie.After-takes) →
     let n = c .before in
     let a = entry n .args in
     withChute (a .kind) (Identifier.accepted (a .key)) (a .bytes .now)
-    ≡ cond (c .takes .result) (accepted (record { kind = a .kind; key = a .key; chute = n .number-of .result })) (refused 10)
+    ≡ cond (c .takes .result) (accepted (record { kind = a .kind; key = a .key; chute = n .number-of .result })) (refused (plain 10))
 unfolding withChute chuteOf
 tested c =
     let n = c .before in

@@ -79,11 +79,8 @@ part-with-chute-end c = search needs
 with-chute-requires : tie.Need-with-chute-requires
 with-chute-requires c κs = search needs
 
-enum-told-2 : tie.Need-enum-told-2
-enum-told-2 c = search needs
-
-enum-told-3 : tie.Need-enum-told-3
-enum-told-3 c = search needs
+enum-known-identifier-2 : tie.Need-enum-known-identifier-2
+enum-known-identifier-2 c = search needs
 
 -- the identifier is what there is of its thirteen bytes, and the chute what is left
 identified : (c : tie.After-read) →
@@ -109,11 +106,7 @@ returns-3 c =
 
 returns-4 : tie.Need-returns-4
 unfolding withChute
-returns-4 c = rw (identified (c .before .before), c .enum-told2 .given .1)
-
-returns-5 : tie.Need-returns-5
-unfolding withChute
-returns-5 c = rw (identified (c .before .before), c .enum-told3 .given .1)
+returns-4 c = let k = c .before in rw (identified (k .before .before), k .identifier2 .given .1)
 
 pub read-spec : {M : Type 1} → statement M
 read-spec =
@@ -135,8 +128,6 @@ read-spec =
     part-with-chute-start
     part-with-chute-end
     with-chute-requires
-    enum-told-2
-    enum-told-3
+    enum-known-identifier-2
     returns-3
-    returns-4
-    returns-5)
+    returns-4)

@@ -10,15 +10,6 @@ enum-told c = search needs
 enum-known-reading : tie.Need-enum-known-reading
 enum-known-reading c = search needs
 
-enum-known-reading-2 : tie.Need-enum-known-reading-2
-enum-known-reading-2 c = search needs
-
-enum-known-reading-3 : tie.Need-enum-known-reading-3
-enum-known-reading-3 c = search needs
-
-enum-known-reading-4 : tie.Need-enum-known-reading-4
-enum-known-reading-4 c = search needs
-
 returns : tie.Need-returns
 unfolding openedWith
 returns c o = rw (c .enum-told .given .1)
@@ -27,29 +18,11 @@ returns-2 : tie.Need-returns-2
 unfolding openedWith
 returns-2 c o = rw (c .before .reading .given .1)
 
-returns-3 : tie.Need-returns-3
-unfolding openedWith
-returns-3 c o = rw (c .before .reading2 .given .1)
-
-returns-4 : tie.Need-returns-4
-unfolding openedWith
-returns-4 c o = rw (c .before .reading3 .given .1)
-
-returns-5 : tie.Need-returns-5
-unfolding openedWith
-returns-5 c o = rw (c .before .reading4 .given .1)
-
 pub answer-of-spec : {M : Type 1} → statement M
 answer-of-spec =
     tie.close
     (tie.spec
     enum-told
     enum-known-reading
-    enum-known-reading-2
-    enum-known-reading-3
-    enum-known-reading-4
     returns
-    returns-2
-    returns-3
-    returns-4
-    returns-5)
+    returns-2)

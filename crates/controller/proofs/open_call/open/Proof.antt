@@ -91,14 +91,17 @@ returns c =
     let o = setupOf (a .size) (a .workers) (a .capacity) (a .commands .now) in
     let p = tests-passed told in
     let count = sym (p .answers-long) in
-    let numbers = answer-told (answer .result) o in
+    let refusal = answer-told (answer .result) o in
     let left =
     opened-lists-are o
     (state .write-opened .ensures o (record { size = refl; workers = refl; capacity = refl; count = count }))
     (keys .clear-keys .ensures ∙ as-many-zeros (p .keys-long))
     (chutes .clear-numbers .ensures ∙ as-many-zeros (p .chutes-long))
     (answers .clear-numbers2 .ensures ∙ as-many-zeros (p .answers-long)) in
-    rw (answer .ensures) (numbers .0, (numbers .1, opening-leaves o _ _ (told .enum-told .given .1) left))
+    rw (answer .ensures) (refusal, opening-leaves o _ _ (told .enum-told .given .1) left)
+
+enum-told-2 : tie.Need-enum-told-2
+enum-told-2 c = search needs
 
 same-length-5 : tie.Need-same-length-5
 same-length-5 c = search needs
@@ -115,11 +118,12 @@ same-length-8 c = search needs
 -- a refusal: no list was written
 returns-2 : tie.Need-returns-2
 returns-2 c =
-    let a = entry (c .before .before) .args in
+    let called = c .before .before in
+    let a = entry (called .before) .args in
     let o = setupOf (a .size) (a .workers) (a .capacity) (a .commands .now) in
-    let answer = c .before .answer-for in
-    let numbers = answer-told (answer .result) o in
-    rw (answer .ensures) (numbers .0, (numbers .1, sym (refusal-keeps (answer .result) o _ (c .match .keys2))))
+    let answer = called .answer-for in
+    let refusal = answer-told (answer .result) o in
+    rw (answer .ensures) (refusal, refusal-keeps o _ (c .enum-told2 .given .1))
 
 pub open-spec : {M : Type 1} → statement M
 open-spec =
@@ -135,6 +139,7 @@ open-spec =
     clear-keys-requires
     clear-numbers-requires
     clear-numbers-requires-2
+    enum-told-2
     same-length
     same-length-2
     same-length-3

@@ -1,11 +1,12 @@
 -- `depot::perform::advance_and_report` meets its contract: a number that is not 0 is printed, and else the report of the lists that are left. Assumes nothing.
-use mathlib.Core.Path.{refl, sym, _∙_}
+use mathlib.Core.Path.{refl, sym, ap, _∙_}
 use mathlib.Core.List.{[]}
 use borrow.Author.Needs.{needs}
 use Rattle.state_bytes.specs.Layout.{lists}
 use Rattle.controller.specs.Calls.{advanceOn}
 use Rattle.depot.specs.Program.{report, advanced}
 use Rattle.depot.proofs.Chain.{report-by-bytes}
+use Rattle.s10.specs.Refusal.{Refusal}
 use Rattle.depot.proofs.Outcome.{printed-refused, printed-accepted, advance-numbered}
 use Rattle.depot.proofs.perform.advance_and_report.Statement.{statement}
 use Rattle.depot.proofs.perform.advance_and_report.Tie as tie
@@ -58,7 +59,7 @@ returns c =
     let schedule = a .schedule .now in
     let lent = lists (a .state .now) (a .keys .now) (a .chutes .now) (a .answers .now) in
     let refusing = printed-refused (report commands) (advanceOn lent commands schedule) (answer .number .result)
-    (answer .number .ensures .0 ∙ call .advance .ensures .0) (test .if1 .taken) in
+    (answer .number .ensures .0 ∙ ap (λ (r : Refusal). r .number) (call .advance .ensures .0)) (test .if1 .taken) in
     rw refusing (last .put-refusal .ensures)
 
 put-report-requires : tie.Need-put-report-requires
@@ -93,8 +94,8 @@ returns-2 c =
     let state = call .advance .last .0 in
     let answers = call .advance .last .1 .1 .1 .0 in
     let left = lists state (call .advance .last .1 .0) (call .advance .last .1 .1 .0) answers in
-    let none = sym (answer .number .ensures .0 ∙ call .advance .ensures .0) ∙ test .if1 .left in
-    let accepting = printed-accepted (report commands) (advanceOn lent commands schedule) lent left (advance-numbered lent commands schedule) none (call .advance .ensures .1 .1) in
+    let none = sym (answer .number .ensures .0 ∙ ap (λ (r : Refusal). r .number) (call .advance .ensures .0)) ∙ test .if1 .left in
+    let accepting = printed-accepted (report commands) (advanceOn lent commands schedule) lent left (advance-numbered lent commands schedule) none (call .advance .ensures .1) in
     rw (accepting, report-by-bytes commands left (lists state [] [] answers) refl refl) (last .put-report .ensures)
 
 pub advance-and-report-spec : {M : Type 1} → statement M

@@ -1,9 +1,10 @@
 -- `depot::perform::open_and_advance` meets its contract: a number that is not 0 is printed, and else what the opened lists give. Assumes nothing.
-use mathlib.Core.Path.{sym, _∙_}
+use mathlib.Core.Path.{sym, ap, _∙_}
 use borrow.Author.Needs.{needs}
 use Rattle.state_bytes.specs.Layout.{lists}
 use Rattle.controller.specs.Calls.{openOn}
 use Rattle.depot.specs.Program.{advanced}
+use Rattle.s10.specs.Refusal.{Refusal}
 use Rattle.depot.proofs.Outcome.{printed-refused, printed-accepted, open-numbered}
 use Rattle.depot.proofs.perform.open_and_advance.Statement.{statement}
 use Rattle.depot.proofs.perform.open_and_advance.Tie as tie
@@ -59,7 +60,7 @@ returns c =
     let schedule = a .schedule .now in
     let lent = lists (a .state .now) (a .keys .now) (a .chutes .now) (a .answers .now) in
     let refusing = printed-refused (advanced commands schedule) (openOn (a .size) (a .workers) (a .capacity) commands lent) (answer .number .result)
-    (answer .number .ensures .0 ∙ call .«open» .ensures .0) (test .if1 .taken) in
+    (answer .number .ensures .0 ∙ ap (λ (r : Refusal). r .number) (call .«open» .ensures .0)) (test .if1 .taken) in
     rw refusing (last .put-refusal .ensures)
 
 advance-and-report-requires : tie.Need-advance-and-report-requires
@@ -91,9 +92,9 @@ returns-2 c =
     let schedule = a .schedule .now in
     let lent = lists (a .state .now) (a .keys .now) (a .chutes .now) (a .answers .now) in
     let left = lists (call .«open» .last .0) (call .«open» .last .1 .0) (call .«open» .last .1 .1 .0) (call .«open» .last .1 .1 .1 .0) in
-    let none = sym (answer .number .ensures .0 ∙ call .«open» .ensures .0) ∙ test .if1 .left in
+    let none = sym (answer .number .ensures .0 ∙ ap (λ (r : Refusal). r .number) (call .«open» .ensures .0)) ∙ test .if1 .left in
     let accepting = printed-accepted (advanced commands schedule) (openOn (a .size) (a .workers) (a .capacity) commands lent) lent left
-    (open-numbered (a .size) (a .workers) (a .capacity) commands lent) none (call .«open» .ensures .1 .1) in
+    (open-numbered (a .size) (a .workers) (a .capacity) commands lent) none (call .«open» .ensures .1) in
     rw accepting (last .advance-and-report .ensures)
 
 pub open-and-advance-spec : {M : Type 1} → statement M

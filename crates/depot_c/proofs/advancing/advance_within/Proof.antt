@@ -6,7 +6,7 @@ use lib.ListN.{length}
 use Rattle.state_bytes.specs.Layout.{Lists, lists}
 use Rattle.controller.specs.Calls.{CallOutcome, advanceOn}
 use Rattle.depot_c.specs.Boundary.{numberLists, answerOf}
-use Rattle.depot_c.proofs.Outcomes.{advance-place, entries-read-back, answer-on, written-on, refused-on}
+use Rattle.depot_c.proofs.Outcomes.{advance-packed, entries-read-back, answer-on, written-on, refused-on}
 use Rattle.depot_c.proofs.advancing.advance_within.Statement.{statement}
 use Rattle.depot_c.proofs.advancing.advance_within.Tie as tie
 
@@ -44,8 +44,8 @@ answer-is : (c : tie.After-number)
     → c .number .result ≡ answerOf (outcome (entry c) (numberLists (lists (entry c .args .state .now) (entry c .args .keys .now) (entry c .args .chutes .now) (entry c .args .answers .now))))
 answer-is c =
     let args = entry c .args in
-    c .number .ensures .0 ∙ omega arith ∙ answer-on (args .state .now) (args .keys .now) (args .chutes .now) (args .answers .now) (outcome (entry c)) (read (called c) .read-lists .ensures)
-    (called c .advance .ensures .0) (advance-place (called c .advance .result) ∙ called c .advance .ensures .1 .0)
+    c .number .ensures .0 ∙ advance-packed (called c .advance .result) ∙ answer-on (args .state .now) (args .keys .now) (args .chutes .now) (args .answers .now) (outcome (entry c)) (read (called c) .read-lists .ensures)
+    (called c .advance .ensures .0)
 
 read-lists-requires : tie.Need-read-lists-requires
 read-lists-requires c κs = search needs
@@ -102,7 +102,7 @@ returns c =
     (λ i. omega (arith, known before .slice-known4 .given i)) in (
       answer-is answer,
       written-on (args .state .now) (args .keys .now) (args .chutes .now) (args .answers .now) (outcome begin) (before .read-lists .ensures) whole
-          (called answer .advance .ensures .1 .1) (written c .write-lists .ensures),
+          (called answer .advance .ensures .1) (written c .write-lists .ensures),
     )
 
 same-length-8 : tie.Need-same-length-8
@@ -132,7 +132,7 @@ returns-2 c =
     let args = entry answer .args in (
       answer-is answer,
       refused-on (args .state .now) (args .keys .now) (args .chutes .now) (args .answers .now) (outcome (entry answer)) (read (called answer) .read-lists .ensures)
-          (called answer .advance .ensures .1 .1) (λ z. c .if1 .left (answer-is answer ∙ z)),
+          (called answer .advance .ensures .1) (λ z. c .if1 .left (answer-is answer ∙ z)),
     )
 
 pub advance-within-spec : {M : Type 1} → statement M

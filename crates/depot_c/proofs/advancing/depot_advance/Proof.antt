@@ -6,7 +6,7 @@ use lib.ListN.{length}
 use lib.Seq.{length-take-le}
 use borrow.Author.Tests.{not-true, not-false}
 use Rattle.state_bytes.specs.Layout.{lists, handedBackFit}
-use Rattle.controller.specs.Calls.{refusalNumber, refusalPlace}
+use Rattle.controller.specs.Calls.{refusalIn}
 use Rattle.depot_c.specs.Boundary.{answerOf, left}
 use Rattle.depot_c.proofs.Outcomes.{nothing-advanced, of-entries, long-answered, decoded-none, decoded-whole, whole-lengths, room-bounds}
 use borrow.Author.Needs.{needs}
@@ -37,7 +37,7 @@ are-whole-requires : tie.Need-are-whole-requires
 are-whole-requires c κs = search needs
 
 returns : tie.Need-returns
-unfolding answerOf refusalNumber refusalPlace left
+unfolding answerOf refusalIn left
 returns c =
     let args = entry (c .before) .args in
     let b = lists (args .state .now) (args .keys .now) (args .chutes .now) (args .answers .now) in

@@ -6,11 +6,12 @@ use mathlib.Core.Path.{_≡_, refl, sym, ap, _∙_}
 use mathlib.Core.List.{List}
 use Prim.Native.Nat.{ℕ}
 use Rattle.s10.specs.declared.Reading.{Reading}
-use Rattle.s10.specs.declared.Reading.the-variants.{Key, Malformed, WrongCheckDigit}
-use Rattle.s10.specs.Outcome.{textOutcome}
+use Rattle.s10.specs.declared.Reading.the-variants.{Key, Refused}
+use Rattle.s10.specs.declared.Reason.the-variants.{Malformed, WrongCheckDigit}
+use Rattle.s10.specs.Outcome.{TextOutcome, textOutcome}
 use Rattle.state_bytes.specs.Bytes.{bytesOf}
 use Rattle.state_bytes.proofs.Bytes.{bytes-length}
-use Rattle.depot_c.specs.Boundary.{numberRead, keyRead, bytesRead, readAnswer, readLeft}
+use Rattle.depot_c.specs.Boundary.{packed, refusalRead, keyRead, bytesRead, readAnswer, readLeft}
 use Rattle.state_bytes.proofs.Paste.{pasted-whole}
 use Rattle.depot_c.proofs.identifiers.depot_read_identifier.Statement.{statement}
 use Rattle.depot_c.proofs.identifiers.depot_read_identifier.Tie as tie
@@ -20,18 +21,17 @@ abbrev entry : tie.Else1 → tie.Start
 entry c = c .before .before .before
 
 -- an accepted text leaves its key
-accepted-left : (r : Reading) (old : List ℕ) → numberRead (textOutcome r) ≡ 0 → bytesRead (textOutcome r) old ≡ bytesOf 8 (keyRead (textOutcome r))
+accepted-left : (r : Reading) (old : List ℕ) → packed (refusalRead (textOutcome r)) ≡ 0 → bytesRead (textOutcome r) old ≡ bytesOf 8 (keyRead (textOutcome r))
 unfolding bytesRead
 accepted-left (Key key) old e = refl
-accepted-left Malformed old e = absurd (omega arith)
-accepted-left WrongCheckDigit old e = absurd (omega arith)
+accepted-left (Refused Malformed) old e = absurd (omega arith)
+accepted-left (Refused WrongCheckDigit) old e = absurd (omega arith)
 
 -- a refused one leaves what was there
-refused-left : (r : Reading) (old : List ℕ) → (numberRead (textOutcome r) ≡ 0 → ⊥) → bytesRead (textOutcome r) old ≡ old
+refused-left : (r : Reading) (old : List ℕ) → (packed (refusalRead (textOutcome r)) ≡ 0 → ⊥) → bytesRead (textOutcome r) old ≡ old
 unfolding bytesRead
 refused-left (Key key) old e = absurd (e refl)
-refused-left Malformed old e = refl
-refused-left WrongCheckDigit old e = refl
+refused-left (Refused reason) old e = refl
 
 returns : tie.Need-returns
 unfolding readAnswer readLeft
@@ -40,8 +40,8 @@ returns c = (rw (ne-eqb _ _ (c .if1 .taken)), rw (ne-eqb _ _ (c .if1 .taken)))
 read-requires : tie.Need-read-requires
 read-requires c κs = search needs
 
-reading-number-requires : tie.Need-reading-number-requires
-reading-number-requires c κs = search needs
+reading-answer-requires : tie.Need-reading-answer-requires
+reading-answer-requires c κs = search needs
 
 reading-key-requires : tie.Need-reading-key-requires
 reading-key-requires c κs = search needs
@@ -60,9 +60,9 @@ returns-2 c =
     let reading = number .before .read in
     let old = entry (number .before .before) .args .key .now in
     let long = number .before .before .if1 .left in
-    let zero-read = sym (number .reading-number .ensures) ∙ key .before .before .if2 .taken in
+    let zero-read = sym (number .reading-answer .ensures) ∙ key .before .before .if2 .taken in
     let put = c .before .before .put-number .ensures ∙ pasted-whole _ old (bytes-length 8 (key .reading-key .result) ∙ sym long) in (
-      rw (eq-eqb _ _ long) (number .reading-number .ensures ∙ ap numberRead (reading .ensures)),
+      rw (eq-eqb _ _ long) (number .reading-answer .ensures ∙ ap (λ (o : TextOutcome). packed (refusalRead o)) (reading .ensures)),
       rw (eq-eqb _ _ long, ← reading .ensures) (put ∙ ap (bytesOf 8) (key .reading-key .ensures) ∙ sym (accepted-left (reading .result) old zero-read)),
     )
 
@@ -71,8 +71,8 @@ unfolding readAnswer readLeft
 returns-3 c =
     let number = c .before in
     let reading = number .before .read in
-    let none = refused-left (reading .result) _ (λ e. c .if2 .left (number .reading-number .ensures ∙ e)) in (
-      rw (eq-eqb _ _ (number .before .before .if1 .left)) (number .reading-number .ensures ∙ ap numberRead (reading .ensures)),
+    let none = refused-left (reading .result) _ (λ e. c .if2 .left (number .reading-answer .ensures ∙ e)) in (
+      rw (eq-eqb _ _ (number .before .before .if1 .left)) (number .reading-answer .ensures ∙ ap (λ (o : TextOutcome). packed (refusalRead o)) (reading .ensures)),
       rw (eq-eqb _ _ (number .before .before .if1 .left), ← reading .ensures) (sym none),
     )
 
@@ -82,7 +82,7 @@ depot-read-identifier-spec =
     (tie.spec
     returns
     read-requires
-    reading-number-requires
+    reading-answer-requires
     reading-key-requires
     put-number-requires
     same-length

@@ -49,7 +49,7 @@ answer-is : (c : tie.After-opening-answer)
 answer-is c =
     let args = entry c .args in
     c .opening-answer .ensures ∙ answer-on (args .state .now) (args .keys .now) (args .chutes .now) (args .answers .now) (outcome (entry c)) (read (called c) .read-lists .ensures)
-    (called c .«open» .ensures .0) (called c .«open» .ensures .1 .0)
+    (called c .«open» .ensures .0)
 
 read-lists-requires : tie.Need-read-lists-requires
 read-lists-requires c κs = search needs
@@ -58,7 +58,7 @@ open-requires : tie.Need-open-requires
 open-requires c κs = search needs
 
 opening-answer-requires : tie.Need-opening-answer-requires
-opening-answer-requires c κs = rw (left c .«open» .ensures .1 .0) (opening-place-below _ _ _ _ _)
+opening-answer-requires c κs = rw (left c .«open» .ensures .0) (opening-place-below _ _ _ _ _)
 
 write-lists-requires : tie.Need-write-lists-requires
 write-lists-requires c κs =
@@ -106,7 +106,7 @@ returns c =
     (λ i. omega (arith, known before .slice-known4 .given i)) in (
       answer-is answer,
       written-on (args .state .now) (args .keys .now) (args .chutes .now) (args .answers .now) (outcome begin) (before .read-lists .ensures) whole
-          (called answer .«open» .ensures .1 .1) (written c .write-lists .ensures),
+          (called answer .«open» .ensures .1) (written c .write-lists .ensures),
     )
 
 same-length-8 : tie.Need-same-length-8
@@ -136,7 +136,7 @@ returns-2 c =
     let args = entry answer .args in (
       answer-is answer,
       refused-on (args .state .now) (args .keys .now) (args .chutes .now) (args .answers .now) (outcome (entry answer)) (read (called answer) .read-lists .ensures)
-          (called answer .«open» .ensures .1 .1) (λ z. c .if1 .left (answer-is answer ∙ z)),
+          (called answer .«open» .ensures .1) (λ z. c .if1 .left (answer-is answer ∙ z)),
     )
 
 pub open-within-spec : {M : Type 1} → statement M

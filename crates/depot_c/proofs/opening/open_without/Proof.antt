@@ -40,13 +40,13 @@ open-requires c κs = search needs
 opening-answer-requires : tie.Need-opening-answer-requires
 opening-answer-requires c κs =
     let call = called c in
-    rw (call .«open» .ensures .1 .0) (opening-place-below _ _ _ _ _)
+    rw (call .«open» .ensures .0) (opening-place-below _ _ _ _ _)
 
 returns : tie.Need-returns
 unfolding answerOf
 returns c =
     let call = called (c .before) in
-    c .opening-answer .ensures ∙ rw (call .«open» .ensures .0, call .«open» .ensures .1 .0)
+    c .opening-answer .ensures ∙ rw (call .«open» .ensures .0)
 
 pub open-without-spec : {M : Type 1} → statement M
 open-without-spec =

@@ -1,19 +1,11 @@
 -- `items::command_at` meets its contract: the reading of the command's own sixteen bytes, a refused one being a read of key 0. Assumes
 -- nothing.
 use Prim.Native.Nat.{_-_, _*_}
-use mathlib.Core.Logic.{⊎-elim}
-use mathlib.Core.Path.{_≡_, refl}
-use mathlib.Core.List.{[], _∷_}
+use mathlib.Core.Path.{_≡_}
 use mathlib.Core.Option.{some}
 use native.Mathlib.Omega.{arith}
 use borrow.Author.Needs.{needs}
-use denote.Enum.Declared.{tagOf}
-use types.Run.{OneOf}
-use Rattle.command.specs.declared.Kind.the-variants.{Read}
-use Rattle.command.specs.declared.Reading.{Reading}
-use Rattle.command.specs.declared.Reading.the-variants.{Read as Accepted, UnknownKind, Malformed, WrongCheckDigit, WrongChute}
 use Rattle.command.specs.Read.{commandOutcome, commandFrom, commandsIn}
-use Rattle.command.proofs.Reading.{the-type}
 use Rattle.model.specs.Setup.{commandAt}
 use Rattle.graph.proofs.Commands.{command-is}
 use Rattle.graph.proofs.items.command_at.Statement.{statement}
@@ -44,18 +36,8 @@ read-requires c κs = search needs
 enum-known-command : tie.Need-enum-known-command
 enum-known-command c = search needs
 
--- the first place is none of the others
-not-first : OneOf (1 ∷ 2 ∷ 3 ∷ 4 ∷ []) 0 → ⊥
-not-first = ⊎-elim (λ e. omega arith) (⊎-elim (λ e. omega arith) (⊎-elim (λ e. omega arith) (λ e. omega arith)))
-
--- a reading at one of the other places is no command
-refused-reads : (r : Reading) → OneOf (1 ∷ 2 ∷ 3 ∷ 4 ∷ []) (tagOf the-type r) → record { kind = Read; key = 0; chute = 0 } ≡ commandFrom (commandOutcome r)
-unfolding commandFrom
-refused-reads (Accepted c) e = absurd (not-first e)
-refused-reads UnknownKind e = refl
-refused-reads Malformed e = refl
-refused-reads WrongCheckDigit e = refl
-refused-reads WrongChute e = refl
+enum-told : tie.Need-enum-told
+enum-told c = search needs
 
 -- the reading is that of the sixteen bytes that end with the command's place
 part-read : (c : tie.After-read) →
@@ -72,8 +54,10 @@ returns : tie.Need-returns
 unfolding commandFrom
 returns c = rw (part-read (c .before .before .before), c .before .command .given .1)
 
+-- a refused reading is no command
 returns-2 : tie.Need-returns-2
-returns-2 c = rw (part-read (c .before), refused-reads (c .before .read .result) (c .match .keys2))
+unfolding commandFrom
+returns-2 c = rw (part-read (c .before .before), c .enum-told .given .1)
 
 pub command-at-spec : {M : Type 1} → statement M
 command-at-spec =
@@ -86,5 +70,6 @@ command-at-spec =
     part-read-end
     read-requires
     enum-known-command
+    enum-told
     returns
     returns-2)

@@ -47,7 +47,8 @@ use denote.Triple.Walked.{says, needs, Stays, stay-none-slice, gave-slice, walkO
 use denote.Exit.{yes}
 use Rattle.model.specs.Step.{State}
 use Rattle.state_bytes.specs.Layout.{Lists, lists, stateIn}
-use Rattle.panel.specs.Reports.{reportOf, reportPlace, reportNumber, reportLeft, workerStatus, workerStatusBytes, workersIn}
+use Rattle.s10.specs.Refusal.{plain as plain-refusal}
+use Rattle.panel.specs.Reports.{reportOf, reportRefusal, reportNumber, reportLeft, workerStatus, workerStatusBytes, workersIn}
 use Rattle.panel.specs.declared.Report.{Report}
 use Rattle.panel.specs.declared.WorkerStatus.{WorkerStatus}
 use Rattle.panel.proofs.Reporting.{made-report}
@@ -223,7 +224,7 @@ module _ {M : Type 1} (𝓤 : URA M) (H : Heap 𝓤) (A : Atoms 𝓤) (W : Given
     Number r = reportOf r ≡ reportNumber l (s₅ .now) (length ys) 64
 
     abbrev Place : Report → Type 0
-    Place r = reportPlace r ≡ 0
+    Place r = reportRefusal r ≡ plain-refusal (reportOf r)
 
     abbrev Left : Report → List WorkerStatus → Type 0
     Left r zs = zs ≡ reportLeft (reportOf r) (workerStatus (workersIn (s₁ .now)) (stateIn l)) ys

@@ -40,7 +40,8 @@ use denote.Triple.Table.{entered, cited}
 use denote.Triple.Walked.{says, Stays, stay-none-slice, gave-slice, onExit, walkOf, AllGo, goes-none-slice, goes-gave-slice, Walks, ends-at, walked, walk-meets}
 use denote.Exit.{yes}
 use Rattle.state_bytes.specs.Layout.{Lists, lists, stateIn}
-use Rattle.panel.specs.Reports.{reportOf, reportPlace, reportNumber, reportLeft, workerStatus, workersIn}
+use Rattle.s10.specs.Refusal.{plain as plain-refusal}
+use Rattle.panel.specs.Reports.{reportOf, reportRefusal, reportNumber, reportLeft, workerStatus, workersIn}
 use Rattle.panel.specs.declared.Report.{Report}
 use Rattle.panel.specs.declared.WorkerStatus.{WorkerStatus}
 use Rattle.panel.proofs.Reporting.{no-place}
@@ -163,7 +164,7 @@ module _ {M : Type 1} (𝓤 : URA M) (H : Heap 𝓤) (A : Atoms 𝓤) (W : Given
 
   -- the place and the list that it asks for
   abbrev Place : Report → Type 0
-  Place r = reportPlace r ≡ 0
+  Place r = reportRefusal r ≡ plain-refusal (reportOf r)
 
   abbrev Left : Report → List WorkerStatus → Type 0
   Left r zs = zs ≡ reportLeft (reportOf r) (workerStatus (workersIn (s₁ .now)) (stateIn l)) xs
