@@ -1,11 +1,11 @@
-//! The public calls on numbers and byte lists, as C makes them: the answer is the refusal number
-//! plus 256 times the place of the refused command, 0 where the call is accepted. A refused call
-//! writes nothing.
+//! The public calls on numbers and byte lists, as C makes them: the answer is the refusal number,
+//! 256 times the place of the refused command and 2^32 times the first faulty character of its
+//! identifier, added up; 0 where the call is accepted. A refused call writes nothing.
 
 use crate::bytes::{self, Lists, MOST_COMMANDS};
-use crate::command::{self, ListRefusal};
+use crate::command;
 use crate::identifier;
-use crate::refusal::Refusal;
+use crate::refusal::{Fault, Refusal};
 use crate::run::{Run, Settings};
 
 /// Entries of the pending counts, a byte each.
@@ -46,20 +46,7 @@ impl LentLists<'_> {
 }
 
 pub fn open(lent: &mut LentLists, commands: &[u8], settings: Asked) -> u64 {
-    let opened = open_settings(commands, settings)
-        .and_then(|settings| lengths_fit(lent, commands, settings).map(|()| settings))
-        .map_err(outside)
-        .and_then(|settings| {
-            let commands = command::read_list(commands)?;
-            Ok(Run::open(settings, commands))
-        });
-    match opened {
-        Ok(run) => {
-            lent.write(&run);
-            0
-        }
-        Err(refused) => refused.refusal.number() + 256 * refused.seq as u64,
-    }
+    answer(opened(lent, commands, settings).map(|run| lent.write(&run)))
 }
 
 pub fn advance(lent: &mut LentLists, commands: &[u8], schedule: &[u8]) -> u64 {
@@ -96,13 +83,20 @@ pub fn worker_status(lists: Lists, status: &mut [u8]) -> u64 {
 
 pub fn read_identifier(text: &[u8], key: &mut [u8]) -> u64 {
     if key.len() != bytes::KEY {
-        return Refusal::Length.number();
+        return Fault::from(Refusal::Length).answer();
     }
     answer(identifier::read(text).map(|read| key.copy_from_slice(&read.to_be_bytes())))
 }
 
 pub fn write_identifier(key: u64, text: &mut [u8]) -> u64 {
     answer(identifier::write(key, text))
+}
+
+/// The run that an opening gives, or its first refusal.
+fn opened(lent: &LentLists, commands: &[u8], settings: Asked) -> Result<Run, Fault> {
+    let settings = open_settings(commands, settings)?;
+    lengths_fit(lent, commands, settings)?;
+    Ok(Run::open(settings, command::read_list(commands)?))
 }
 
 /// Refusals 1 to 5, in order.
@@ -143,13 +137,8 @@ fn report(lists: Lists, fits: bool) -> Result<Run, Refusal> {
     bytes::read(lists)
 }
 
-/// A refusal of no command: its place is 0.
-fn outside(refusal: Refusal) -> ListRefusal {
-    ListRefusal { seq: 0, refusal }
-}
-
-fn answer(outcome: Result<(), Refusal>) -> u64 {
-    outcome.map_or_else(Refusal::number, |()| 0)
+fn answer(outcome: Result<(), impl Into<Fault>>) -> u64 {
+    outcome.map_or_else(|fault| fault.into().answer(), |()| 0)
 }
 
 #[cfg(test)]
@@ -335,11 +324,42 @@ mod tests {
         assert_eq!(caller.advance(&[]), 0);
     }
 
+    /// Document 02, A.1: the character beside the place, 0 with any refusal but 8, 9 and 13.
+    #[test]
+    fn a_refused_opening_says_place_and_character() {
+        let texts: [(&[u8; 13], u64); 4] = [
+            (b"Aa000000005AA", 8 + (2 << 32)),
+            (b"AA00000000xAA", 13 + (11 << 32)),
+            (b"AA000000004AA", 9 + (11 << 32)),
+            (b"aAx00000000AA", 8 + (1 << 32)),
+        ];
+        for (text, answer) in texts {
+            for place in [1, 2] {
+                let mut caller = Caller::new();
+                caller.commands[place * 16 - 15..][..13].copy_from_slice(text);
+                assert_eq!(caller.open(2, 1, 4), answer + 256 * place as u64);
+                caller.commands[place * 16 - 16] = 0;
+                assert_eq!(caller.open(2, 1, 4), 7 + 256 * place as u64);
+                assert_eq!(caller.open(0, 1, 4), 1);
+                assert_eq!(caller.state, vec![9; STATE]);
+            }
+        }
+    }
+
     #[test]
     fn an_identifier_is_read_into_eight_bytes() {
         let mut key = [9; 8];
         assert_eq!(read_identifier(b"AA000000014AA", &mut key[..7]), 6);
-        assert_eq!(read_identifier(b"AA000000015AA", &mut key), 9);
+        assert_eq!(read_identifier(b"AA00000001xAA", &mut key[..7]), 6);
+        let answers = [
+            (&b"AA000000015AA"[..], 9 + (11 << 32)),
+            (b"AA00000001xAA", 13 + (11 << 32)),
+            (b"AA000000014Aa", 8 + (13 << 32)),
+            (b"AA000000014A", 8),
+        ];
+        for (text, answer) in answers {
+            assert_eq!(read_identifier(text, &mut key), answer);
+        }
         assert_eq!(key, [9; 8]);
         assert_eq!(read_identifier(b"AA000000014AA", &mut key), 0);
         assert_eq!(u64::from_be_bytes(key), 676);

@@ -1,7 +1,7 @@
 //! Commands and command lists as bytes, and the dependence of two commands.
 
 use crate::identifier;
-use crate::refusal::Refusal;
+use crate::refusal::{Fault, Refusal};
 
 /// Bytes in a command: the kind, the identifier, and the chute, high byte first.
 pub const LENGTH: usize = 16;
@@ -51,36 +51,30 @@ pub struct Command {
     pub chute: u16,
 }
 
-/// The first refused command of a list: its sequence number, from 1, and why.
-#[derive(Clone, Copy, Debug, PartialEq, Eq)]
-pub struct ListRefusal {
-    pub seq: usize,
-    pub refusal: Refusal,
-}
-
-/// Reads one command, or refuses it with 7, 8, 9 or 10, tested in that order.
-pub fn read(part: &[u8; LENGTH]) -> Result<Command, Refusal> {
+/// Reads one command, or refuses it with 7, 8 or 13, 9, or 10, tested in that order. Its place,
+/// which its list gives, is 0 here.
+pub fn read(part: &[u8; LENGTH]) -> Result<Command, Fault> {
     let [kind, text @ .., high, low] = part;
     let kind = Kind::from_number(*kind).ok_or(Refusal::Kind)?;
     let key = identifier::read(text)?;
     let chute = u16::from_be_bytes([*high, *low]);
     if !kind.takes(chute) {
-        return Err(Refusal::Chute);
+        return Err(Refusal::Chute.into());
     }
     Ok(Command { kind, key, chute })
 }
 
-/// Reads a list of commands, or refuses it at its first refused command. Its length is a multiple
-/// of 16, which is tested before.
-pub fn read_list(list: &[u8]) -> Result<Vec<Command>, ListRefusal> {
+/// Reads a list of commands, or refuses it at its first refused command, with its place. Its
+/// length is a multiple of 16, which is tested before.
+pub fn read_list(list: &[u8]) -> Result<Vec<Command>, Fault> {
     let (parts, _) = list.as_chunks();
     parts
         .iter()
         .enumerate()
         .map(|(index, part)| {
-            read(part).map_err(|refusal| ListRefusal {
-                seq: index + 1,
-                refusal,
+            read(part).map_err(|fault| Fault {
+                place: index + 1,
+                ..fault
             })
         })
         .collect()
@@ -107,8 +101,13 @@ mod tests {
 
     const FIRST: &[u8] = b"AA000000005AA";
 
-    fn refused<T>(seq: usize, refusal: Refusal) -> Result<T, ListRefusal> {
-        Err(ListRefusal { seq, refusal })
+    /// A list refused with a number, a place and a character.
+    fn refused<T>(refusal: Refusal, place: usize, character: usize) -> Result<T, Fault> {
+        Err(Fault {
+            refusal,
+            place,
+            character,
+        })
     }
 
     fn command(kind: Kind, key: u64) -> Command {
@@ -124,18 +123,38 @@ mod tests {
         assert_eq!(read_list(&list), Ok(commands));
     }
 
-    /// Document 01, the examples of refusals 7 to 10.
+    /// Document 01, the examples of refusals 7 to 10, with the character of document 02's A.1.
     #[test]
     fn the_examples_of_refusal_are_refused() {
         let cases = [
-            (encode(0, FIRST, 0), Refusal::Kind),
-            (encode(3, b"Aa000000005AA", 0), Refusal::Identifier),
-            (encode(3, b"AA000000004AA", 0), Refusal::CheckDigit),
-            (encode(1, FIRST, 513), Refusal::Chute),
-            (encode(3, FIRST, 1), Refusal::Chute),
+            (encode(0, FIRST, 0), Refusal::Kind, 0),
+            (encode(3, b"Aa000000005AA", 0), Refusal::Identifier, 2),
+            (encode(3, b"AA00000000xAA", 0), Refusal::Digit, 11),
+            (encode(3, b"AA000000004AA", 0), Refusal::CheckDigit, 11),
+            (encode(1, FIRST, 513), Refusal::Chute, 0),
+            (encode(3, FIRST, 1), Refusal::Chute, 0),
         ];
-        for (part, refusal) in cases {
-            assert_eq!(read_list(&part), refused(1, refusal), "{part:?}");
+        for (part, refusal, character) in cases {
+            let expected = refused(refusal, 1, character);
+            assert_eq!(read_list(&part), expected, "{part:?}");
+        }
+    }
+
+    /// Document 01 and A.1: 7 is tested first, then 8 or 13, then 9, then 10; the character is 0
+    /// with any refusal but 8, 9 and 13.
+    #[test]
+    fn the_identifier_is_tested_between_the_kind_and_the_chute() {
+        let broken: [(&[u8; 13], Refusal, usize); 4] = [
+            (b"aAx00000000AA", Refusal::Identifier, 1),
+            (b"AAx00000000AA", Refusal::Digit, 3),
+            (b"AA000000004AA", Refusal::CheckDigit, 11),
+            (b"AA000000005Aa", Refusal::Identifier, 13),
+        ];
+        for (text, refusal, character) in broken {
+            let wrong_kind = read_list(&encode(0, text, 1));
+            assert_eq!(wrong_kind, refused(Refusal::Kind, 1, 0));
+            let wrong_chute = read_list(&encode(3, text, 1));
+            assert_eq!(wrong_chute, refused(refusal, 1, character));
         }
     }
 
@@ -156,12 +175,13 @@ mod tests {
     /// Document 01, section "Numbers of refusal": the first refused command, by its place from 1.
     #[test]
     fn a_list_is_refused_at_its_first_refused_command() {
-        let parts = [
-            encode(3, FIRST, 0),
-            encode(3, FIRST, 1),
-            encode(0, FIRST, 0),
-        ];
-        assert_eq!(read_list(&parts.concat()), refused(2, Refusal::Chute));
+        let right = encode(3, FIRST, 0);
+        let digit = encode(3, b"AAx00000000AA", 0);
+        let chute = encode(3, FIRST, 1);
+        let list = [&right[..], &chute, &digit].concat();
+        assert_eq!(read_list(&list), refused(Refusal::Chute, 2, 0));
+        let list = [&right[..], &right, &digit, &chute].concat();
+        assert_eq!(read_list(&list), refused(Refusal::Digit, 3, 3));
         assert_eq!(read_list(&[]), Ok(vec![]));
     }
 

@@ -5,7 +5,7 @@ use crate::calls::{self, Asked, LentLists};
 use crate::program;
 
 /// The compared calls; the proved code and the second program each give them. Each answers its
-/// refusal number plus 256 times the place, 0 for accepted.
+/// refusal number plus 256 times the place plus 2^32 times the character, 0 for accepted.
 pub trait Depot {
     fn open(&self, lent: &mut LentLists, commands: &[u8], settings: Asked) -> u64;
 

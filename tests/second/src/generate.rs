@@ -2,6 +2,7 @@
 //! position, at every bound and in several ways at once.
 
 mod commands;
+mod faults;
 mod identifiers;
 mod lists;
 mod pairs;
@@ -71,7 +72,7 @@ pub fn cases(seed: u64) -> Vec<(Sort, Case)> {
         (Sort::Commands, commands::cases(random)),
         (Sort::Lists, lists::cases(random)),
         (Sort::Pairs, pairs::cases(random)),
-        (Sort::Programs, programs::limits()),
+        (Sort::Programs, programs::limits(random)),
     ];
     sorts
         .into_iter()
@@ -135,24 +136,38 @@ fn every_length(base: &[u8]) -> Vec<Vec<u8>> {
 
 #[cfg(test)]
 mod tests {
+    use std::collections::BTreeMap;
+    use std::sync::LazyLock;
+
     use super::*;
     use crate::command::dependent;
     use crate::depot::Second;
     use crate::host::Host;
+    use crate::refusal::answer_words;
 
-    /// The caller after a case, and the first refusal number that it met, 0 for none.
-    fn outcome(case: &Case) -> (Host, usize) {
+    /// The caller after a case, and the first refusal that it met, 0 for none.
+    fn outcome(case: &Case) -> (Host, u64) {
         let mut host = Host::default();
         let answers: Vec<u64> = case.iter().map(|step| host.take(&Second, step)).collect();
         let refused = answers.into_iter().find(|answer| *answer != 0);
-        (host, refused.unwrap_or(0) as usize % 256)
+        (host, refused.unwrap_or(0))
     }
+
+    /// How many cases of each sort meet each answer.
+    static COUNTS: LazyLock<BTreeMap<(usize, u64), usize>> = LazyLock::new(|| {
+        let mut counts = BTreeMap::new();
+        for (sort, case) in cases(1) {
+            let met = (sort as usize, outcome(&case).1);
+            *counts.entry(met).or_default() += 1;
+        }
+        counts
+    });
 
     #[test]
     fn there_are_enough_cases_and_every_outcome_is_met_often() {
-        let mut counts = [[0; 13]; Sort::ALL.len()];
-        for (sort, case) in cases(1) {
-            counts[sort as usize][outcome(&case).1] += 1;
+        let mut counts = [[0; 14]; Sort::ALL.len()];
+        for ((sort, answer), count) in COUNTS.iter() {
+            counts[*sort][*answer as usize % 256] += count;
         }
         let check = |sort: Sort, least: usize, expected: &[usize]| {
             let counts = counts[sort as usize];
@@ -166,11 +181,35 @@ mod tests {
                 assert!(enough, "{sort:?} {number}: {counts:?}");
             }
         };
-        check(Sort::Identifiers, 40_000, &[0, 6, 8, 9]);
+        check(Sort::Identifiers, 45_000, &[0, 6, 8, 9, 13]);
         check(Sort::Keys, 20_000, &[0, 6, 12]);
-        check(Sort::Commands, 60_000, &[0, 4, 7, 8, 9, 10]);
-        check(Sort::Lists, 4_000, &[0, 4, 7, 8, 9, 10]);
+        check(Sort::Commands, 60_000, &[0, 4, 7, 8, 9, 10, 13]);
+        check(Sort::Lists, 5_000, &[0, 4, 7, 8, 9, 10, 13]);
         check(Sort::Pairs, 10_000, &[0]);
+    }
+
+    /// Each refusal of an identifier with each character that it can have: read alone, in a
+    /// command, and at every place of a list.
+    #[test]
+    fn every_character_is_met_at_every_place() {
+        let letters = [1, 2, 12, 13].map(|character| (8, character));
+        let digits = (3..=11).map(|character| (13, character));
+        let refused: Vec<(u64, u64)> = letters.into_iter().chain(digits).chain([(9, 11)]).collect();
+        let check = |sort: Sort, place: u64, least: usize| {
+            for (number, character) in &refused {
+                let answer = number + (place << 8) + (character << 32);
+                let count = COUNTS.get(&(sort as usize, answer)).unwrap_or(&0);
+                assert!(*count >= least, "{sort:?} {}", answer_words(answer));
+            }
+        };
+        check(Sort::Identifiers, 0, 400);
+        check(Sort::Commands, 1, 400);
+        for place in 1..=16 {
+            check(Sort::Lists, place, 3);
+        }
+        for place in [255, 256, 257, 4095, 4096] {
+            check(Sort::Lists, place, 1);
+        }
     }
 
     /// After a pair is loaded, record 1 is in the set of record 2 exactly if they are dependent.

@@ -2,7 +2,7 @@
 //!
 //! The text is two letters, eight serial digits, a check digit and two letters.
 
-use crate::refusal::Refusal;
+use crate::refusal::{Fault, Refusal};
 
 /// Characters in an identifier.
 pub const LENGTH: usize = 13;
@@ -17,15 +17,14 @@ const WEIGHTS: [u32; 8] = [8, 6, 4, 2, 3, 5, 9, 7];
 const PAIRS: u64 = 676;
 const SERIALS: u64 = 100_000_000;
 
-/// The key of an identifier, or refusal 8 or 9.
-pub fn read(text: &[u8]) -> Result<u64, Refusal> {
+/// The key of an identifier, or refusal 8, 13 or 9 with the first faulty character: 8 or 13 is
+/// tested first, and the character is 0 where the length is wrong.
+pub fn read(text: &[u8]) -> Result<u64, Fault> {
     let text: &[u8; LENGTH] = text.try_into().map_err(|_| Refusal::Identifier)?;
-    if !well_formed(text) {
-        return Err(Refusal::Identifier);
-    }
+    check_characters(text)?;
     let serial = number(&text[2..CHECK_DIGIT]);
     if text[CHECK_DIGIT] != check_digit(serial) {
-        return Err(Refusal::CheckDigit);
+        return Err(fault_at(CHECK_DIGIT, Refusal::CheckDigit));
     }
     let first = pair(text[0], text[1]);
     let last = pair(text[11], text[12]);
@@ -53,18 +52,31 @@ pub fn text(key: u64) -> Result<[u8; LENGTH], Refusal> {
     Ok(text)
 }
 
-fn well_formed(text: &[u8; LENGTH]) -> bool {
-    text.iter().enumerate().all(|(position, character)| {
-        if LETTERS.contains(&position) {
-            character.is_ascii_uppercase()
+/// Refusals 8 and 13: letters stand where letters belong, and digits where digits do.
+fn check_characters(text: &[u8; LENGTH]) -> Result<(), Fault> {
+    for (position, character) in text.iter().enumerate() {
+        let (in_order, refusal) = if LETTERS.contains(&position) {
+            (character.is_ascii_uppercase(), Refusal::Identifier)
         } else {
-            character.is_ascii_digit()
+            (character.is_ascii_digit(), Refusal::Digit)
+        };
+        if !in_order {
+            return Err(fault_at(position, refusal));
         }
-    })
+    }
+    Ok(())
+}
+
+/// A refusal for the character at a position, which is counted from 0.
+fn fault_at(position: usize, refusal: Refusal) -> Fault {
+    Fault {
+        character: position + 1,
+        ..refusal.into()
+    }
 }
 
 /// The check digit, as a character, of a serial below 100,000,000.
-fn check_digit(serial: u32) -> u8 {
+pub fn check_digit(serial: u32) -> u8 {
     let mut rest = serial;
     let mut sum = 0;
     for weight in WEIGHTS.iter().rev() {
@@ -95,7 +107,21 @@ fn letters(pair: u64) -> [u8; 2] {
 
 #[cfg(test)]
 mod tests {
+    use std::collections::BTreeSet;
+
     use super::*;
+    use crate::random::Random;
+
+    /// Number and character of a text: 0 and 0 where it is accepted.
+    fn outcome(text: &[u8]) -> (u64, usize) {
+        match read(text) {
+            Ok(_) => (0, 0),
+            Err(fault) => {
+                assert_eq!(fault.place, 0);
+                (fault.refusal.number(), fault.character)
+            }
+        }
+    }
 
     /// Document 01, marked case (a).
     #[test]
@@ -148,15 +174,139 @@ mod tests {
         assert_eq!(read(b"BA000000005AA"), Ok(26 * 67_600_000_000));
     }
 
-    /// Document 01, the examples of refusals 8 and 9.
+    /// Document 01, the examples of refusals 8 and 9, with document 02's A.1: the first faulty
+    /// character; the check digit is judged last.
     #[test]
-    fn form_is_tested_before_the_check_digit() {
-        assert_eq!(read(b"Aa000000005AA"), Err(Refusal::Identifier));
-        assert_eq!(read(b"AA000000004AA"), Err(Refusal::CheckDigit));
-        assert_eq!(read(b"AA000000004Aa"), Err(Refusal::Identifier));
-        assert_eq!(read(b"AA000000005A"), Err(Refusal::Identifier));
-        assert_eq!(read(b"AA000000005AAA"), Err(Refusal::Identifier));
-        assert_eq!(read(b""), Err(Refusal::Identifier));
+    fn the_first_faulty_character_is_told() {
+        assert_eq!(outcome(b"AA000000005AA"), (0, 0));
+        assert_eq!(outcome(b"Aa000000005AA"), (8, 2));
+        assert_eq!(outcome(b"aAx00000000AA"), (8, 1));
+        assert_eq!(outcome(b"AA000000004Aa"), (8, 13));
+        assert_eq!(outcome(b"AA000000004aA"), (8, 12));
+        assert_eq!(outcome(b"AAx00000000AA"), (13, 3));
+        assert_eq!(outcome(b"AA00000000xAA"), (13, 11));
+        assert_eq!(outcome(b"AA00000000xaA"), (13, 11));
+        assert_eq!(outcome(b"AA000000004AA"), (9, 11));
+    }
+
+    /// A.1: a wrong length has no character, whatever the text has.
+    #[test]
+    fn a_wrong_length_has_no_character() {
+        for length in (0..40).filter(|length| *length != LENGTH) {
+            for byte in *b"A0ax\0" {
+                assert_eq!(outcome(&vec![byte; length]), (8, 0));
+            }
+            let right = b"AA000000005AA".iter().copied().cycle();
+            let text: Vec<u8> = right.take(length).collect();
+            assert_eq!(outcome(&text), (8, 0));
+        }
+    }
+
+    /// What belongs at each position: a letter or a digit.
+    const FORM: &[u8; LENGTH] = b"LLDDDDDDDDDLL";
+
+    fn belongs(position: usize, character: u8) -> bool {
+        let range = if FORM[position] == b'L' {
+            b'A'..=b'Z'
+        } else {
+            b'0'..=b'9'
+        };
+        range.contains(&character)
+    }
+
+    /// Right texts, texts damaged at up to three positions, and some of them cut or lengthened.
+    fn texts() -> Vec<Vec<u8>> {
+        let random = &mut Random::new(13);
+        (0..20_000).map(|_| perhaps_damaged(random)).collect()
+    }
+
+    fn perhaps_damaged(random: &mut Random) -> Vec<u8> {
+        let key = random.below(LARGEST_KEY + 1);
+        let mut text = text(key).expect("the key is not too large").to_vec();
+        for _ in 0..random.below(4) {
+            let position = random.below(LENGTH as u64) as usize;
+            text[position] = random.pick(b"/09:@AZ[az\0\xff");
+        }
+        let length = random.pick(&[LENGTH, LENGTH, LENGTH, LENGTH - 1, LENGTH + 1]);
+        text.resize(length, b'A');
+        text
+    }
+
+    /// The texts above have each number, and each character that it can have.
+    #[test]
+    fn every_number_and_character_is_met() {
+        let met: BTreeSet<(u64, usize)> = texts().iter().map(|text| outcome(text)).collect();
+        let letters = [0, 1, 2, 12, 13].map(|character| (8, character));
+        let digits = (3..=11).map(|character| (13, character));
+        let mut expected = BTreeSet::from([(0, 0), (9, 11)]);
+        expected.extend(letters.into_iter().chain(digits));
+        assert_eq!(met, expected);
+    }
+
+    /// A.1: the character is 0 exactly on an accepted text and on a wrong length.
+    #[test]
+    fn the_character_is_0_exactly_on_an_accepted_text_or_a_wrong_length() {
+        for text in texts() {
+            let (number, character) = outcome(&text);
+            let wrong_length = text.len() != LENGTH;
+            assert_eq!(character == 0, number == 0 || wrong_length, "{text:?}");
+            assert!(!wrong_length || number == 8, "{text:?}");
+        }
+    }
+
+    /// A.1: what stands before the faulty character is in order, and it is not; only under 9 is
+    /// every letter and digit in order. The number goes by where it stands.
+    #[test]
+    fn the_character_is_the_first_out_of_order() {
+        for text in texts() {
+            let (number, character) = outcome(&text);
+            let in_order = |count: usize| (0..count).all(|index| belongs(index, text[index]));
+            match number {
+                0 => assert!(in_order(LENGTH), "{text:?}"),
+                9 => assert!(character == 11 && in_order(LENGTH), "{text:?}"),
+                8 if character == 0 => assert_ne!(text.len(), LENGTH),
+                _ => {
+                    assert!(in_order(character - 1) && !in_order(character), "{text:?}");
+                    let letter = [1, 2, 12, 13].contains(&character);
+                    assert_eq!(number, if letter { 8 } else { 13 }, "{text:?}");
+                }
+            }
+        }
+    }
+
+    /// A.1: under 8 and 13, what stands behind the faulty character does not matter.
+    #[test]
+    fn later_characters_change_neither_number_nor_character() {
+        let random = &mut Random::new(8);
+        for mut text in texts() {
+            let before = outcome(&text);
+            if before.1 == 0 || before.0 == 9 {
+                continue;
+            }
+            for _ in 0..10 {
+                for later in &mut text[before.1..] {
+                    *later = random.byte();
+                }
+                assert_eq!(outcome(&text), before, "{text:?}");
+            }
+        }
+    }
+
+    /// A.1: under 9 exactly one other check digit is accepted, and other letters change nothing.
+    #[test]
+    fn a_wrong_check_digit_is_mended_by_one_other_digit() {
+        for text in texts().into_iter().filter(|text| outcome(text).0 == 9) {
+            let with = |position: usize, character: u8| {
+                let mut text = text.clone();
+                text[position] = character;
+                outcome(&text)
+            };
+            let right = (b'0'..=b'9').filter(|digit| with(CHECK_DIGIT, *digit) == (0, 0));
+            assert_eq!(right.count(), 1);
+            for position in LETTERS {
+                assert!((b'A'..=b'Z').all(|letter| with(position, letter) == (9, 11)));
+            }
+        }
     }
 
     /// Document 01, the examples of refusals 6 and 12, and 6 before 12.

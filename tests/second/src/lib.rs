@@ -3,7 +3,7 @@
 //!
 //! - The second writing: `identifier`, `command` and `serial` are what a command means, `store` and
 //!   `run` the records and turns, `bytes` and `calls` the public calls on byte lists, `program` the
-//!   program, and `refusal` the numbers of refusal.
+//!   program, and `refusal` the numbers of refusal and how a call answers them.
 //! - The comparison: `depot` names the calls that are compared, `script` is the steps of one input,
 //!   `host` a caller that takes them, `play` two callers side by side, and `generate` makes the
 //!   inputs from a seed (`random`); `hex` shows them. The program `compare_depot` runs it.

@@ -4,6 +4,7 @@
 use crate::bytes::{EXECUTING, FREE, KEY, LOCKED, NEXT, NUMBER, PARTY, PARTY_BYTES, PLACE, SETS};
 use crate::depot::{Depot, Second};
 use crate::host::{GUARD, Host};
+use crate::refusal::answer_words;
 use crate::script::{List, Step};
 use crate::serial;
 
@@ -109,15 +110,10 @@ impl<'a> Play<'a> {
 }
 
 fn answers_differ(expected: u64, found: u64) -> Difference {
-    let words = |answer: u64| match (answer % 256, answer / 256) {
-        (0, 0) => "accepted".to_string(),
-        (number, 0) => format!("refused {number}"),
-        (number, place) => format!("refused {number} at place {place}"),
-    };
     format!(
-        "{}, by the second program {}",
-        words(found),
-        words(expected)
+        "{}; by the second program {}",
+        answer_words(found),
+        answer_words(expected)
     )
 }
 
@@ -175,5 +171,82 @@ fn field(offset: usize) -> String {
         LOCKED..SETS => format!("lock of record {}", offset - LOCKED),
         SETS..PARTY => format!("set of record {}", (offset - SETS) / 24),
         _ => format!("party {}", (offset - PARTY) / PARTY_BYTES),
+    }
+}
+
+#[cfg(test)]
+mod tests {
+    use super::*;
+    use crate::bytes::Lists;
+    use crate::calls::{Asked, LentLists};
+
+    /// The second program with some bits of its answers turned round.
+    struct Turned(u64);
+
+    impl Depot for Turned {
+        fn open(&self, lent: &mut LentLists, commands: &[u8], settings: Asked) -> u64 {
+            Second.open(lent, commands, settings) ^ self.0
+        }
+
+        fn advance(&self, lent: &mut LentLists, commands: &[u8], schedule: &[u8]) -> u64 {
+            Second.advance(lent, commands, schedule) ^ self.0
+        }
+
+        fn pending_counts(&self, lists: Lists, counts: &mut [u8]) -> u64 {
+            Second.pending_counts(lists, counts) ^ self.0
+        }
+
+        fn worker_status(&self, lists: Lists, status: &mut [u8]) -> u64 {
+            Second.worker_status(lists, status) ^ self.0
+        }
+
+        fn read_identifier(&self, text: &[u8], key: &mut [u8]) -> u64 {
+            Second.read_identifier(text, key) ^ self.0
+        }
+
+        fn write_identifier(&self, key: u64, text: &mut [u8]) -> u64 {
+            Second.write_identifier(key, text) ^ self.0
+        }
+
+        fn program(&self, input: &[u8]) -> Vec<u8> {
+            Second.program(input)
+        }
+    }
+
+    /// Each call once; the lists are no run, so that most are refused.
+    fn calls() -> [Step; 6] {
+        [
+            Step::Open {
+                size: 1,
+                workers: 1,
+                room: 1,
+                commands: vec![],
+            },
+            Step::Advance(vec![]),
+            Step::PendingCounts(150),
+            Step::WorkerStatus(128),
+            Step::ReadIdentifier(b"AAx00000000AA".to_vec(), 8),
+            Step::WriteIdentifier(0, 13),
+        ]
+    }
+
+    /// No bit of an answer is left out.
+    #[test]
+    fn every_bit_of_an_answer_is_compared() {
+        for call in calls() {
+            for bit in 0..64 {
+                let turned = Turned(1 << bit);
+                assert!(Play::new(&turned).take(call.clone()).is_err(), "{call}");
+            }
+            assert!(Play::new(&Turned(0)).take(call).is_ok());
+        }
+    }
+
+    #[test]
+    fn another_character_is_told() {
+        let words = Play::new(&Turned(1 << 32)).take(calls()[4].clone());
+        let expected = "step 1: refused 13, character 2; \
+                        by the second program refused 13, character 3";
+        assert_eq!(words, Err(expected.to_string()));
     }
 }

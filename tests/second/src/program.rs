@@ -59,6 +59,16 @@ mod tests {
         );
     }
 
+    /// Document 02, A.1: the number alone is printed, as before.
+    #[test]
+    fn a_faulty_identifier_prints_its_number_alone() {
+        for (position, character, number) in [(2, b'a', 8), (3, b'x', 13), (11, b'4', 9)] {
+            let mut input = EXAMPLE.to_vec();
+            input[6 + position] = character;
+            assert_eq!(output(&input), format!("refused {number}\n"));
+        }
+    }
+
     /// Document 01, "The program `depot`": the order of its tests.
     #[test]
     fn refusals_are_tested_in_order() {

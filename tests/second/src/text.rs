@@ -8,8 +8,8 @@ pub mod options;
 
 use crate::bytes::MOST_COMMANDS;
 use crate::command::{Command, Kind, LARGEST_CHUTE};
-use crate::identifier::{self, CHECK_DIGIT, LENGTH, LETTERS};
-use crate::refusal::Refusal;
+use crate::identifier::{self, CHECK_DIGIT, LENGTH};
+use crate::refusal::{Fault, Refusal};
 use input::Input;
 
 /// Longer turns may not fit on a command line.
@@ -118,15 +118,25 @@ fn read_command(words: &[&str], place: usize) -> Result<Command, String> {
     let [text, words @ ..] = words else {
         return Err(format!("{} without an identifier", kind_name(kind)));
     };
-    let key = identifier::read(text.as_bytes()).map_err(|refusal| {
-        let fault = identifier_fault(text, refusal);
-        format!(
-            "identifier `{text}`: {fault} (refusal {})",
-            refusal.number()
-        )
-    })?;
+    let key = read_identifier(text)?;
     let chute = read_chute(kind, words)?;
     Ok(Command { kind, key, chute })
+}
+
+/// Reads an identifier. Each character counts as one, also where it is more than one byte of the
+/// text: a character outside ASCII is then a faulty one, and no wrong length.
+fn read_identifier(text: &str) -> Result<u64, String> {
+    let characters: Vec<char> = text.chars().collect();
+    let bytes: Vec<u8> = characters
+        .iter()
+        .map(|character| u8::try_from(*character).unwrap_or(u8::MAX))
+        .collect();
+    identifier::read(&bytes).map_err(|fault| {
+        let shown: Vec<String> = characters.iter().map(char::to_string).collect();
+        let words = identifier_fault(&shown, fault);
+        let number = fault.refusal.number();
+        format!("identifier `{text}`: {words} (refusal {number})")
+    })
 }
 
 /// The words behind the place, if there is one; it must be the command's.
@@ -162,45 +172,27 @@ fn read_chute(kind: Kind, words: &[&str]) -> Result<u16, String> {
     }
 }
 
-/// What is wrong with an identifier that was refused.
-fn identifier_fault(text: &str, refusal: Refusal) -> String {
-    match refusal {
-        Refusal::CheckDigit => check_digit_fault(text),
-        _ => form_fault(text),
-    }
-}
-
-fn check_digit_fault(text: &str) -> String {
-    let with_digit = |digit: &char| {
-        let mut text = text.to_string();
-        text.replace_range(CHECK_DIGIT..=CHECK_DIGIT, &digit.to_string());
-        identifier::read(text.as_bytes()).is_ok()
+/// What is wrong with an identifier that was refused; its characters are given as they are shown.
+fn identifier_fault(characters: &[String], fault: Fault) -> String {
+    let number = fault.character;
+    let Some(position) = number.checked_sub(1) else {
+        return format!("{} characters, not {LENGTH}", characters.len());
     };
-    let found = &text[CHECK_DIGIT..=CHECK_DIGIT];
-    match ('0'..='9').find(with_digit) {
-        Some(right) => format!("check digit {found} should be {right}"),
-        None => format!("check digit {found} is wrong"),
+    let found = &characters[position];
+    match fault.refusal {
+        Refusal::CheckDigit => {
+            let right = right_check_digit(characters);
+            format!("character {number}, check digit {found}, should be {right}")
+        }
+        Refusal::Digit => format!("character {number} is `{found}`, not a digit"),
+        _ => format!("character {number} is `{found}`, not a letter A to Z"),
     }
 }
 
-fn form_fault(text: &str) -> String {
-    let length = text.chars().count();
-    if length != LENGTH {
-        return format!("{length} characters, not {LENGTH}");
-    }
-    for (position, found) in text.chars().enumerate() {
-        let letter = LETTERS.contains(&position);
-        if letter && !found.is_ascii_uppercase() {
-            return format!(
-                "character {} is `{found}`, not a letter A to Z",
-                position + 1
-            );
-        }
-        if !letter && !found.is_ascii_digit() {
-            return format!("character {} is `{found}`, not a digit", position + 1);
-        }
-    }
-    "a wrong form".to_string()
+/// The check digit of an identifier all of whose characters are in order.
+fn right_check_digit(characters: &[String]) -> char {
+    let serial = characters[2..CHECK_DIGIT].concat();
+    identifier::check_digit(serial.parse().expect("eight digits")).into()
 }
 
 fn is_number(word: &str) -> bool {
@@ -294,7 +286,7 @@ delete ZZ999999995ZZ\r
         ),
         (
             "read AA00000000OAA",
-            "identifier `AA00000000OAA`: character 11 is `O`, not a digit (refusal 8)",
+            "identifier `AA00000000OAA`: character 11 is `O`, not a digit (refusal 13)",
         ),
         (
             "read AA000000005A",
@@ -302,11 +294,19 @@ delete ZZ999999995ZZ\r
         ),
         (
             "read AA00000000ÄAA",
-            "identifier `AA00000000ÄAA`: character 11 is `Ä`, not a digit (refusal 8)",
+            "identifier `AA00000000ÄAA`: character 11 is `Ä`, not a digit (refusal 13)",
+        ),
+        (
+            "read aÄ0000000x5AA",
+            "identifier `aÄ0000000x5AA`: character 1 is `a`, not a letter A to Z (refusal 8)",
+        ),
+        (
+            "read AAx00000004Aa",
+            "identifier `AAx00000004Aa`: character 3 is `x`, not a digit (refusal 13)",
         ),
         (
             "read AA000000004AA",
-            "identifier `AA000000004AA`: check digit 4 should be 5 (refusal 9)",
+            "identifier `AA000000004AA`: character 11, check digit 4, should be 5 (refusal 9)",
         ),
         ("insert AA000000005AA", "insert without a chute, 1 to 512"),
         (

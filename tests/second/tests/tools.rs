@@ -62,6 +62,28 @@ fn what_is_refused_ends_with_1_and_writes_nothing() {
     }
 }
 
+/// Document 02, A.1, for a person: the line or the command, and which character is at fault.
+#[test]
+fn a_faulty_identifier_is_told_with_its_character() {
+    let list = LIST.replace("read AA0", "read AAx");
+    let (status, output, words) = run(TEXT, &SETTINGS, list.as_bytes());
+    assert_eq!((status, output), (Some(1), Vec::new()));
+    assert_eq!(
+        words,
+        "depot_text: line 2: identifier `AAx00000005AA`: character 3 is `x`, not a digit \
+         (refusal 13)\n"
+    );
+    let mut input = EXAMPLE.to_vec();
+    input[22 + 2] = 0;
+    for (program, options) in [(TEXT, &["unpack"][..]), (DRAW, &[])] {
+        let (status, output, words) = run(program, options, &input);
+        assert_eq!((status, output), (Some(1), Vec::new()));
+        let told = ": refused 8: command 2: identifier \"A\\x00000000005AA\": \
+                    character 2 is `\\x00`, not a letter A to Z\n";
+        assert!(words.ends_with(told), "{words}");
+    }
+}
+
 #[test]
 fn options_that_are_not_understood_end_with_2_and_the_usage() {
     let cases: [(&str, &[&str]); 6] = [

@@ -1,5 +1,6 @@
 //! Single commands, and commands for lists and pairs.
 
+use super::faults::{self, one_fault, two_faults, wrong_at, wrong_check_digits};
 use super::{
     Case, dealt, every_byte_everywhere, every_length, random_key, repeat, text, with_byte,
 };
@@ -17,12 +18,21 @@ const TEXT: usize = 1;
 /// Where the chute stands in a command.
 const CHUTE: usize = 14;
 
-/// Sets of faults are 0 to 15, one bit for each fault; 0 is no fault.
-const FAULT_SETS: u8 = 16;
+/// Sets of faults are 0 to 31, one bit for each fault; 0 is no fault.
+const FAULT_SETS: u8 = 32;
 const WRONG_KIND: u8 = 1;
-const WRONG_CHARACTER: u8 = 2;
-const WRONG_CHECK_DIGIT: u8 = 4;
-const WRONG_CHUTE: u8 = 8;
+const WRONG_LETTER: u8 = 2;
+const WRONG_DIGIT: u8 = 4;
+const WRONG_CHECK_DIGIT: u8 = 8;
+const WRONG_CHUTE: u8 = 16;
+/// The faults, each alone; the middle three are the identifier's.
+pub const FAULTS: [u8; 5] = [
+    WRONG_KIND,
+    WRONG_LETTER,
+    WRONG_DIGIT,
+    WRONG_CHECK_DIGIT,
+    WRONG_CHUTE,
+];
 
 pub fn cases(random: &mut Random) -> Vec<Case> {
     let bases = Kind::ALL.map(|kind| command(random, kind));
@@ -38,7 +48,12 @@ pub fn cases(random: &mut Random) -> Vec<Case> {
             .flat_map(|base| every_small_chute(base))
             .collect(),
         repeat(10, random, every_kind_and_chute).concat(),
-        repeat(500, random, every_fault_set).concat(),
+        repeat(250, random, every_fault_set).concat(),
+        with_texts(random, two_faults),
+        with_texts(random, every_identifier_fault)
+            .iter()
+            .flat_map(|command| wrong_around(command))
+            .collect(),
         repeat(20, random, |random| every_length(&random_command(random))).concat(),
         repeat(1_000, random, |random| random.bytes(LENGTH)),
     ];
@@ -72,10 +87,14 @@ pub fn with_key(random: &mut Random, kind: Kind, key: u64) -> Vec<u8> {
     encode(kind.number(), &text(key), chute)
 }
 
-/// A command that is right, or has any set of faults.
+/// A command that is right, or has one fault or any set of them.
 pub fn perhaps_wrong(random: &mut Random) -> Vec<u8> {
-    let faults = random.below(2) * random.below(FAULT_SETS.into());
-    with_faults(random, faults as u8)
+    let faults = match random.below(4) {
+        0 => random.pick(&FAULTS),
+        1 => random.below(FAULT_SETS.into()) as u8,
+        _ => 0,
+    };
+    with_faults(random, faults)
 }
 
 /// A command with these faults.
@@ -89,9 +108,11 @@ pub fn with_faults(random: &mut Random, faults: u8) -> Vec<u8> {
         let digit = &mut bytes[TEXT + CHECK_DIGIT];
         *digit = b'0' + (*digit - b'0' + 1 + random.below(9) as u8) % 10;
     }
-    if faults & WRONG_CHARACTER != 0 {
-        let (position, character) = wrong_character(random);
-        bytes[TEXT + position] = character;
+    if faults & WRONG_DIGIT != 0 {
+        damage(random, &mut bytes, |position| !LETTERS.contains(&position));
+    }
+    if faults & WRONG_LETTER != 0 {
+        damage(random, &mut bytes, |position| LETTERS.contains(&position));
     }
     if faults & WRONG_KIND != 0 {
         bytes[0] = random.pick(&[0, 5, 6, 255]);
@@ -107,15 +128,46 @@ fn wrong_chutes(kind: u8) -> &'static [u16] {
     }
 }
 
-/// A position in an identifier, and a character that is wrong there.
-fn wrong_character(random: &mut Random) -> (usize, u8) {
-    let position = random.below(identifier::LENGTH as u64) as usize;
-    let wrong = if LETTERS.contains(&position) {
-        b"@[az09"
-    } else {
-        b"/:AZaz"
-    };
-    (position, random.pick(wrong))
+/// Puts a wrong character into the identifier of a command, at one of these positions.
+fn damage(random: &mut Random, command: &mut [u8], at: fn(usize) -> bool) {
+    let positions: Vec<usize> = (0..identifier::LENGTH)
+        .filter(|position| at(*position))
+        .collect();
+    let position = random.pick(&positions);
+    command[TEXT + position] = random.pick(wrong_at(position));
+}
+
+/// Right commands, each with one of the texts that are made of a right one.
+fn with_texts(random: &mut Random, texts: fn(&[u8]) -> Vec<Vec<u8>>) -> Vec<Vec<u8>> {
+    texts(&text(random_key(random)))
+        .iter()
+        .map(|text| with_text(&random_command(random), text))
+        .collect()
+}
+
+/// A right command with its identifier broken, once for each refusal and character that there is.
+pub fn each_character(random: &mut Random, command: &[u8]) -> Vec<Vec<u8>> {
+    faults::each_character(random, &command[TEXT..CHUTE])
+        .iter()
+        .map(|text| with_text(command, text))
+        .collect()
+}
+
+/// A command with another identifier.
+fn with_text(command: &[u8], text: &[u8]) -> Vec<u8> {
+    [&command[..TEXT], text, &command[CHUTE..]].concat()
+}
+
+/// A right text with each single fault, the check digit's among them.
+fn every_identifier_fault(text: &[u8]) -> Vec<Vec<u8>> {
+    [one_fault(text), wrong_check_digits(text)].concat()
+}
+
+/// A command whose kind is wrong besides, its chute, and both.
+fn wrong_around(command: &[u8]) -> [Vec<u8>; 3] {
+    let mut chute = command.to_vec();
+    chute[CHUTE] = 0xff;
+    [with_byte(command, 0, 0), with_byte(&chute, 0, 0), chute]
 }
 
 /// `base` with each chute from 0 to 1,024.

@@ -1,5 +1,6 @@
 //! Texts that are read and keys that are written.
 
+use super::faults::{one_fault, two_faults};
 use super::{
     Case, LONGEST, every_byte_everywhere, every_length, random_key, repeat, text, with_byte,
 };
@@ -8,14 +9,18 @@ use crate::identifier::{CHECK_DIGIT, LARGEST_KEY, LENGTH};
 use crate::random::Random;
 use crate::script::Step;
 
-/// Texts of document 01, right and wrong, and one with the serial of a published example.
-const NAMED: [&[u8; LENGTH]; 6] = [
+/// Texts of document 01, right and wrong, one with the serial of a published example, and ones
+/// that tell refusals 8, 9 and 13 apart.
+const NAMED: [&[u8; LENGTH]; 9] = [
     b"AA000000005AA",
     b"ZZ999999995ZZ",
     b"AA123456785AA",
     b"RR473124829GB",
     b"Aa000000005AA",
     b"AA000000004AA",
+    b"AA00000000xAA",
+    b"AAx00000000AA",
+    b"aAx00000000AA",
 ];
 
 /// Keys at the ends, and where a digit or a letter carries into the next.
@@ -38,6 +43,9 @@ const KEYS: [u64; 16] = [
     u64::MAX,
 ];
 
+/// Faulty texts are cut and lengthened to each length below this one.
+const SHORT: usize = 21;
+
 pub fn read_cases(random: &mut Random) -> Vec<Case> {
     let bases = bases(random);
     let named = [NAMED.map(|text| text.to_vec()).to_vec(), bases.clone()].concat();
@@ -54,6 +62,11 @@ pub fn read_cases(random: &mut Random) -> Vec<Case> {
         bases.iter().flat_map(|base| every_length(base)).collect(),
         repeat(500, random, every_check_digit).concat(),
         repeat(4_000, random, twice_damaged),
+        two_faults(&random_text(random)),
+        one_fault(&random_text(random))
+            .iter()
+            .flat_map(|text| every_length(text).into_iter().take(SHORT))
+            .collect(),
         repeat(1_000, random, |random| random.bytes(LENGTH)),
     ];
     let texts = texts.concat().into_iter();

@@ -1,10 +1,15 @@
 //! Lists of commands.
 
-use super::commands::{perhaps_wrong, random_command, with_faults};
+use super::commands::{FAULTS, each_character, perhaps_wrong, random_command, with_faults};
 use super::{Case, opening, repeat};
 use crate::bytes::MOST_COMMANDS;
 use crate::command::{LENGTH, encode};
 use crate::random::Random;
+
+/// Commands in a list that has a fault at each place.
+const EVERYWHERE: usize = 16;
+/// Commands in a list that has two faults at each two places.
+const TWICE: usize = 6;
 
 pub fn cases(random: &mut Random) -> Vec<Case> {
     let lists = [
@@ -14,7 +19,10 @@ pub fn cases(random: &mut Random) -> Vec<Case> {
         repeat(300, random, list_with_tail),
         named_at_both_ends(),
         repeat(20, random, one_fault_everywhere).concat(),
+        repeat(3, random, broken_everywhere).concat(),
+        two_refused(random),
         long_lists(random),
+        broken_far(random),
     ];
     lists.concat().into_iter().map(opening).collect()
 }
@@ -72,13 +80,54 @@ fn list_with_tail(random: &mut Random) -> Vec<u8> {
 
 /// One list of 16 right commands, with a fault put into one command of it, for each of them.
 fn one_fault_everywhere(random: &mut Random) -> Vec<Vec<u8>> {
-    let list = right_commands(random, 16);
-    (0..16)
+    let list = right_commands(random, EVERYWHERE);
+    (0..EVERYWHERE)
         .map(|index| {
-            let faults = 1 << random.below(4);
-            with_command(&list, index, &with_faults(random, faults))
+            let fault = random.pick(&FAULTS);
+            with_command(&list, index, &with_faults(random, fault))
         })
         .collect()
+}
+
+/// One list of 16 right commands, with one identifier of it broken in every way that is told
+/// apart, for each of them.
+fn broken_everywhere(random: &mut Random) -> Vec<Vec<u8>> {
+    let list = right_commands(random, EVERYWHERE);
+    (0..EVERYWHERE)
+        .flat_map(|index| broken_at(random, &list, index))
+        .collect()
+}
+
+/// The same at places whose number ends a byte or begins one, and at the last.
+fn broken_far(random: &mut Random) -> Vec<Vec<u8>> {
+    let list = right_commands(random, MOST_COMMANDS);
+    [255, 256, 257, 4095, 4096]
+        .into_iter()
+        .flat_map(|place| broken_at(random, &list, place - 1))
+        .collect()
+}
+
+fn broken_at(random: &mut Random, list: &[u8], index: usize) -> Vec<Vec<u8>> {
+    let right = &list[index * LENGTH..][..LENGTH];
+    each_character(random, right)
+        .iter()
+        .map(|broken| with_command(list, index, broken))
+        .collect()
+}
+
+/// One list of 6 right commands with each two faults put into each two of them; the first counts.
+fn two_refused(random: &mut Random) -> Vec<Vec<u8>> {
+    let list = right_commands(random, TWICE);
+    let indexes = (0..TWICE).flat_map(|later| (0..later).map(move |first| (first, later)));
+    let faults = FAULTS.map(|fault| FAULTS.map(|other| (fault, other)));
+    let mut lists = Vec::new();
+    for (first, later) in indexes {
+        for (fault, other) in faults.as_flattened() {
+            let once = with_command(&list, first, &with_faults(random, *fault));
+            lists.push(with_command(&once, later, &with_faults(random, *other)));
+        }
+    }
+    lists
 }
 
 fn with_command(list: &[u8], index: usize, command: &[u8]) -> Vec<u8> {

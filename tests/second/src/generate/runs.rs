@@ -253,15 +253,18 @@ mod tests {
         for index in (0..limits::COUNT).chain(FIXED..FIXED + 1000) {
             play(1, index, &mut Play::new(&depot)).expect("the second program is itself");
         }
-        for case in programs::limits() {
+        for case in programs::limits(&mut Random::new(1)) {
             let played = Play::new(&depot).take_all(case);
             played.expect("the second program is itself");
         }
-        assert_eq!(depot.met("open"), [0, 1, 2, 3, 4, 5, 6, 7, 8, 9, 10]);
+        assert_eq!(depot.met("open"), [0, 1, 2, 3, 4, 5, 6, 7, 8, 9, 10, 13]);
         assert_eq!(depot.met("advance"), [0, 6, 11, 12]);
         assert_eq!(depot.met("pending_counts"), [0, 6, 12]);
         assert_eq!(depot.met("worker_status"), [0, 6, 12]);
-        assert_eq!(depot.met("program"), [0, 1, 2, 3, 4, 5, 7, 8, 9, 10, 11]);
+        assert_eq!(
+            depot.met("program"),
+            [0, 1, 2, 3, 4, 5, 7, 8, 9, 10, 11, 13]
+        );
     }
 
     /// Each answer that there is, sets in each of their words, full chains, and more than half of

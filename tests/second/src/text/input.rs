@@ -4,9 +4,9 @@
 use std::fmt;
 
 use crate::bytes::{self, MOST_ROOM, MOST_SIZE, MOST_WORKERS};
-use crate::command::{self, Command, LENGTH, ListRefusal};
+use crate::command::{self, Command, LENGTH};
 use crate::identifier;
-use crate::refusal::Refusal;
+use crate::refusal::{Fault, Refusal};
 use crate::run::Settings;
 
 /// The longest input.
@@ -133,19 +133,21 @@ pub fn check_length(length: usize) -> Result<(), Refused> {
     Ok(())
 }
 
-fn list_fault(list: &[u8], fault: ListRefusal) -> Refused {
-    let part = &list[(fault.seq - 1) * LENGTH..][..LENGTH];
-    let text = String::from_utf8_lossy(&part[1..=identifier::LENGTH]);
+/// What is wrong with the refused command of a list.
+fn list_fault(list: &[u8], fault: Fault) -> Refused {
+    let part = &list[(fault.place - 1) * LENGTH..][..LENGTH];
     let chute = u16::from_be_bytes([part[14], part[15]]);
     let words = match fault.refusal {
         Refusal::Kind => format!("kind {} is not 1 to 4", part[0]),
         Refusal::Chute => format!("chute {chute} is wrong for kind {}", part[0]),
-        refusal => format!(
-            "identifier {text:?}: {}",
-            super::identifier_fault(&text, refusal)
-        ),
+        _ => {
+            let shown = |byte: &u8| byte.escape_ascii().to_string();
+            let characters: Vec<String> = part[1..=identifier::LENGTH].iter().map(shown).collect();
+            let words = super::identifier_fault(&characters, fault);
+            format!("identifier \"{}\": {words}", characters.concat())
+        }
     };
-    refused(fault.refusal, format!("command {}: {words}", fault.seq))
+    refused(fault.refusal, format!("command {}: {words}", fault.place))
 }
 
 fn refused(refusal: Refusal, words: String) -> Refused {
@@ -189,8 +191,20 @@ mod tests {
         ),
         (
             17,
+            b'x',
+            "refused 13: command 1: identifier \"AA00000000xAA\": character 11 is `x`, not a digit",
+        ),
+        (
+            30,
+            0xc4,
+            "refused 13: command 2: identifier \"AA00000\\xc4005AA\": \
+             character 8 is `\\xc4`, not a digit",
+        ),
+        (
+            17,
             b'4',
-            "refused 9: command 1: identifier \"AA000000004AA\": check digit 4 should be 5",
+            "refused 9: command 1: identifier \"AA000000004AA\": \
+             character 11, check digit 4, should be 5",
         ),
         (
             20,

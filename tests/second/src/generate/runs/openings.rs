@@ -8,6 +8,7 @@ use crate::generate::{random_key, repeat};
 use crate::identifier::LARGEST_KEY;
 use crate::play::{Difference, Play};
 use crate::random::Random;
+use crate::refusal::answer_words;
 use crate::run::Settings;
 use crate::script::Step;
 use crate::text::input;
@@ -129,7 +130,10 @@ impl Opening {
     pub fn open(self, play: &mut Play) -> Result<(), Difference> {
         match play.take_all(self.steps())? {
             0 => Ok(()),
-            answer => Err(format!("both sides refuse a right opening: {answer}")),
+            answer => Err(format!(
+                "a right opening, on both sides: {}",
+                answer_words(answer)
+            )),
         }
     }
 

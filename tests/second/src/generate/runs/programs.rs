@@ -4,7 +4,7 @@ use super::limits::{example, with_example_settings};
 use super::openings::{Opening, commands};
 use super::schedules;
 use crate::command::{LENGTH, encode};
-use crate::generate::commands::perhaps_wrong;
+use crate::generate::commands::{FAULTS, each_character, perhaps_wrong, with_faults};
 use crate::generate::{Case, with_byte};
 use crate::play::{Difference, Play};
 use crate::random::Random;
@@ -12,8 +12,7 @@ use crate::script::Step;
 use crate::text::input::{EXAMPLE, HEADER, LONGEST};
 
 /// Document 01's example of the program, cut at every byte, and inputs at every limit.
-pub fn limits() -> Vec<Case> {
-    const FIRST: &[u8; 13] = b"AA000000005AA";
+pub fn limits(random: &mut Random) -> Vec<Case> {
     let mut inputs: Vec<Vec<u8>> = (0..=EXAMPLE.len())
         .map(|end| EXAMPLE[..end].to_vec())
         .collect();
@@ -28,20 +27,36 @@ pub fn limits() -> Vec<Case> {
         long.resize(length, 1);
         inputs.extend([with_byte(&long, HEADER, 0), long]);
     }
-    let wrong = [
-        encode(0, FIRST, 0),
-        encode(3, b"Aa000000005AA", 0),
-        encode(3, b"AA000000004AA", 0),
-        encode(1, FIRST, 513),
-        encode(3, FIRST, 1),
-    ];
-    for command in wrong {
-        let (commands, schedule) = example();
-        inputs.push(with_example_settings([commands, command].concat()).input(schedule));
-    }
+    inputs.extend(wrong_lists(random));
     inputs.push([&EXAMPLE[..], &[2]].concat());
     let steps = inputs.into_iter().map(Step::Program);
     steps.map(|step| vec![step]).collect()
+}
+
+/// The example with other lists: three commands with a wrong one at each place, and two wrong ones.
+fn wrong_lists(random: &mut Random) -> Vec<Vec<u8>> {
+    const FIRST: &[u8; 13] = b"AA000000005AA";
+    let right = encode(3, FIRST, 0);
+    let mut wrong = vec![
+        encode(0, FIRST, 0),
+        encode(1, FIRST, 513),
+        encode(3, FIRST, 1),
+    ];
+    wrong.extend(each_character(random, &right));
+    let mut lists = Vec::new();
+    for command in &wrong {
+        lists.push([command, &right, &right].map(Vec::as_slice).concat());
+        lists.push([&right, command, &right].map(Vec::as_slice).concat());
+        lists.push([&right, &right, command].map(Vec::as_slice).concat());
+    }
+    for fault in FAULTS {
+        for other in FAULTS {
+            lists.push([with_faults(random, fault), with_faults(random, other)].concat());
+        }
+    }
+    let (_, schedule) = example();
+    let inputs = lists.into_iter().map(with_example_settings);
+    inputs.map(|opening| opening.input(schedule)).collect()
 }
 
 pub fn play(random: &mut Random, play: &mut Play) -> Result<(), Difference> {
