@@ -36,7 +36,8 @@ static void must_accept(const char *call, uint64_t answer)
 {
     if (answer == 0)
         return;
-    printf("%s: refused %u, place %lu\n", call, depot_number(answer), (unsigned long)depot_place(answer));
+    printf("%s: refused %u, place %lu, character %u\n", call, depot_number(answer), (unsigned long)depot_place(answer),
+           depot_character(answer));
     exit(EXIT_FAILURE);
 }
 

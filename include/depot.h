@@ -42,9 +42,12 @@ extern "C" {
  *
  * Answers and refusals
  *
- * Each call returns 0 for accepted, else the number of a refusal plus 256 times the place of the command refused (place 0: none;
- * only depot_open names one). The bits from 32 on are kept free: take an answer apart by depot_number and depot_place.
- * A refusal leaves every byte of every list as it was.
+ * Each call returns 0 for accepted, else the number of a refusal (bits 0 to 7), the place of the command refused (from bit 8 on;
+ * 0 for none, and only depot_open names one) and the first faulty character of its identifier (bits 32 to 39). Take an answer
+ * apart by depot_number, depot_place and depot_character; the bits from 40 on are kept free. A refusal leaves every byte of every
+ * list as it was.
+ * The character counts from 1 at the left, up to 13. With refusals 8 and 13 it is the first that is no letter or no digit where
+ * one must stand, and 0 where the identifier's length is wrong; with 9 it is 11, the check digit; with any other refusal 0.
  *
  * Threads of the host, and stack
  *
@@ -86,12 +89,13 @@ enum depot_refusal {
     DEPOT_TOO_MANY_COMMANDS = 5, /* over 4,096 */
     DEPOT_WRONG_LENGTH = 6,      /* another list of a wrong length */
     DEPOT_UNKNOWN_KIND = 7,      /* kind not 1 to 4 */
-    DEPOT_MALFORMED = 8,         /* identifier: length, letter or digit wrong */
-    DEPOT_WRONG_CHECK_DIGIT = 9, /* identifier: check digit wrong */
+    DEPOT_MALFORMED = 8,         /* identifier: length wrong, or the first faulty character is at 1, 2, 12 or 13: no letter */
+    DEPOT_WRONG_CHECK_DIGIT = 9, /* identifier: every letter and digit in order, check digit wrong */
     DEPOT_WRONG_CHUTE = 10,      /* insert, update: not 1 to 512; delete, read: not 0 */
     DEPOT_UNKNOWN_THREAD = 11,   /* party above the worker count */
     DEPOT_WRONG_STATE = 12,      /* a handed-back run that breaks its layout, docs/STATE-LAYOUT.md */
-    DEPOT_KEY_TOO_LARGE = 12     /* the same number, of depot_write_identifier: key above DEPOT_LARGEST_KEY */
+    DEPOT_KEY_TOO_LARGE = 12,    /* the same number, of depot_write_identifier: key above DEPOT_LARGEST_KEY */
+    DEPOT_WRONG_DIGIT = 13       /* identifier: the first faulty character is at 3 to 11: no digit; tested in 8's place */
 };
 
 /* Kinds of command. */
@@ -130,6 +134,12 @@ static inline uint32_t depot_place(uint64_t answer)
     return (uint32_t)(answer >> 8 & 0xffffffu);
 }
 
+/* The first faulty character of the identifier that a call refused, 1 to 13, 0 for none. */
+static inline unsigned depot_character(uint64_t answer)
+{
+    return (unsigned)(answer >> 32 & 255u);
+}
+
 /* The two-byte number of an entry, from 0, of a list of chutes or answers. */
 static inline unsigned depot_short_at(const uint8_t *list, size_t entry)
 {
@@ -150,8 +160,9 @@ static inline uint64_t depot_key_at(const uint8_t *keys, size_t entry)
  * answers are set to 0. Their contents before do not matter.
  *
  * Writes state, keys, chutes, answers; reads commands. size is the graph size, capacity the room.
- * Refuses 1 to 6 in this order, then each command in order for 7 to 10, with its place. 6: state is not 4,715 bytes long, keys
- * not 8 × capacity, chutes not 2 × capacity, or answers not 2 × the number of commands.
+ * Refuses 1 to 6 in this order, then each command in order for 7, 8 or 13, 9 and 10, with its place, and with the character for
+ * 8, 9 and 13. 6: state is not 4,715 bytes long, keys not 8 × capacity, chutes not 2 × capacity, or answers not 2 × the number of
+ * commands.
  *
  *     uint8_t state[DEPOT_STATE_LENGTH], keys[8 * 4], chutes[2 * 4], answers[2 * 1];
  *     const uint8_t commands[16] = {DEPOT_INSERT, 'A', 'A', '0', '0', '0', '0', '0', '0', '0', '0', '5', 'A', 'A', 0, 7};
@@ -223,12 +234,15 @@ uint64_t depot_worker_status(const uint8_t *state, size_t state_length, const ui
 
 /* Reads an identifier of 13 characters (without an ending 0) and writes its key, 8 bytes.
  *
- * Refuses 6 (key is not 8 bytes long), then 8 (length, letter or digit of text wrong), then 9 (check digit wrong).
+ * Refuses 6 (key is not 8 bytes long), then 8 (text is not 13 bytes long), then 8 or 13 at the first faulty character from the
+ * left (8: letters stand at 1, 2, 12 and 13; 13: digits at 3 to 11), then 9 (check digit wrong, character 11).
  *
  *     uint8_t key[DEPOT_KEY_LENGTH];
  *     uint64_t answer = depot_read_identifier((const uint8_t *)"RR473124829GB", DEPOT_IDENTIFIER_LENGTH, key, sizeof key);
  *     if (answer == 0)
- *         printf("key %llu\n", (unsigned long long)depot_key_at(key, 0)); */
+ *         printf("key %llu\n", (unsigned long long)depot_key_at(key, 0));
+ *     else
+ *         printf("refused %u, character %u\n", depot_number(answer), depot_character(answer)); */
 uint64_t depot_read_identifier(const uint8_t *text, size_t text_length, uint8_t *key, size_t key_length);
 
 /* Writes the identifier of a key, 13 characters without an ending 0.

@@ -299,15 +299,16 @@ static void test_settings(void)
     free_all(&l);
 }
 
-/* Refusals 7 to 10 with the place of the command, first and last. */
+/* Refusals 7 to 10 and 13 with place and character, of the first and the last command. */
 static void test_places(void)
 {
     static const struct {
         size_t offset;
         uint8_t value;
-        unsigned wanted;
-    } cases[] = {{0, 0, 7},  {0, 5, 7},    {0, 255, 7}, {2, 'a', 8}, {3, ':', 8},
-                 {13, 0, 8}, {11, '4', 9}, {14, 2, 10}, {15, 0, 10}};
+        unsigned wanted, character;
+    } cases[] = {{0, 0, 7, 0},     {0, 5, 7, 0},      {0, 255, 7, 0},  {1, '0', 8, 1},   {2, 'a', 8, 2},
+                 {3, ':', 13, 3},  {10, 'A', 13, 10}, {11, 0, 13, 11}, {12, '9', 8, 12}, {13, 0, 8, 13},
+                 {11, '4', 9, 11}, {14, 2, 10, 0},    {15, 0, 10, 0}};
     const struct settings s = {1, 1, 1};
     struct lists l = opened(DEPOT_MOST_COMMANDS, s, 0);
     for (size_t i = 0; i < sizeof cases / sizeof *cases; i++)
@@ -318,6 +319,7 @@ static void test_places(void)
             answer = call(OPEN, &l, s);
             check(depot_number(answer) == cases[i].wanted, "depot_open", "number", (unsigned long)answer);
             check(depot_place(answer) == place, "depot_open", "place", (unsigned long)answer);
+            check(depot_character(answer) == cases[i].character, "depot_open", "character", (unsigned long)answer);
             *b = old;
         }
     free_all(&l);
@@ -426,6 +428,12 @@ static void test_changed_bytes(struct settings s, size_t count, size_t turns)
     free_all(&base);
 }
 
+/* What an identifier call answers that refuses at a character. */
+static uint64_t at(unsigned character, unsigned number)
+{
+    return (uint64_t)character << 32 | number;
+}
+
 static void read_as(const char *text, size_t length, size_t key_length, uint64_t wanted, uint64_t wanted_key)
 {
     struct list t = make(length), key = make(key_length), old = copy(key, key_length);
@@ -460,8 +468,12 @@ static void test_identifiers(void)
 {
     read_as("AA000000005AA", 13, 8, 0, 0);
     read_as("ZZ999999995ZZ", 13, 8, 0, DEPOT_LARGEST_KEY);
-    read_as("Aa000000005AA", 13, 8, DEPOT_MALFORMED, 0);
-    read_as("AA000000004AA", 13, 8, DEPOT_WRONG_CHECK_DIGIT, 0);
+    read_as("Aa000000005AA", 13, 8, at(2, DEPOT_MALFORMED), 0);
+    read_as("AA00000000xAA", 13, 8, at(11, DEPOT_WRONG_DIGIT), 0);
+    read_as("AA000000004AA", 13, 8, at(11, DEPOT_WRONG_CHECK_DIGIT), 0);
+    read_as("AAx00000000AA", 13, 8, at(3, DEPOT_WRONG_DIGIT), 0);
+    read_as("aAx00000000AA", 13, 8, at(1, DEPOT_MALFORMED), 0);
+    read_as("AA000000004Aa", 13, 8, at(13, DEPOT_MALFORMED), 0);
     read_as("AA000000005A", 12, 8, DEPOT_MALFORMED, 0);
     read_as("AA000000005AAA", 14, 8, DEPOT_MALFORMED, 0);
     read_as("", 0, 8, DEPOT_MALFORMED, 0);

@@ -1,6 +1,6 @@
 -- The laws of `specs/Laws.antt`. Assumes nothing.
 use Prim.Native.Nat.{ℕ, zero, suc, _+_, _/_, _≤_, _<_}
-use mathlib.Core.Path.{_≡_, refl, sym, ap, subst}
+use mathlib.Core.Path.{_≡_, refl, sym, ap, subst, _∙_}
 use mathlib.Core.Bool.{Bool, true, false, cond, _&&_, or-comm, and-eq-true-iff}
 use mathlib.Core.List.{List, [], _∷_, map}
 use mathlib.Core.Option.{Option, none, some}
@@ -18,7 +18,7 @@ use Rattle.command.specs.declared.Kind.the-variants.{Insert, Delete, Rea
 use Rattle.command.specs.declared.Command.{Command}
 use Rattle.command.specs.Read.{CommandOutcome, accepted, refused, kindOf, chuteFits, chuteOf, withKind, withChute, readCommand, parts, partsOf, readings, allAccepted, listRefused, firstRefusal, commandFrom, commandsIn}
 use Rattle.command.specs.Dependent.{isInsertOrDelete, isUpdate, areDependent}
-use Rattle.command.specs.Laws.{DependenceIsSymmetric, KindOfItsNumber, AcceptedChuteFits, AcceptedChuteIsAtMostLast, AcceptedKeyIsAtMostLargest, AllAccepted, NoRefusalIsAllAccepted, RefusedBeginsInside}
+use Rattle.command.specs.Laws.{DependenceIsSymmetric, KindOfItsNumber, AcceptedChuteFits, AcceptedChuteIsAtMostLast, AcceptedKeyIsAtMostLargest, CharacterIsTheIdentifiers, AllAccepted, NoRefusalIsAllAccepted, RefusedBeginsInside}
 
 -- equality goes both ways
 eqb-comm : (m n : ℕ) → eqb m n ≡ eqb n m
@@ -101,6 +101,23 @@ list-key-is-at-most-largest list i command = each (partsOf list) i
     each [] i e = let z : _≡_ {A = ℕ} 0 1 = cc in absurd (omega arith)
     each (part ∷ ps) zero e = let same : commandFrom (readCommand part) ≡ command = cc in rw (← same) (read part (readCommand part) refl)
     each (part ∷ ps) (suc i) e = each ps i e
+
+-- the kind's and the chute's name none
+pub character-is-the-identifiers : CharacterIsTheIdentifiers
+unfolding readCommand withKind withChute
+character-is-the-identifiers part r e named = cases (kindOf (getD part 0 0)) (readText (take 13 (drop 1 part))) refl e
+  where
+    plain-not : (n : ℕ) → plain n ≡ r → ⊥
+    plain-not n e = named (sym (ap (λ (x : Refusal). x .character) e))
+
+    chosen : (b : Bool) (command : Command) → cond b (accepted command) (refused (plain 10)) ≡ refused r → ⊥
+    chosen true command e = let z : _≡_ {A = ℕ} 0 1 = cc in omega arith
+    chosen false command e = plain-not 10 cc
+
+    cases : (k : Option Kind) (o : Identifier.TextOutcome) → readText (take 13 (drop 1 part)) ≡ o → withKind k o (drop 14 part) ≡ refused r → readText (take 13 (drop 1 part)) ≡ Identifier.refused r
+    cases (some kind) (Identifier.accepted key) is e = absurd (chosen (eqb (length (drop 14 part)) 2 && chuteFits kind (chuteOf (drop 14 part))) (record { kind = kind; key = key; chute = chuteOf (drop 14 part) }) e)
+    cases (some kind) (Identifier.refused s) is e = let same : s ≡ r = cc in is ∙ ap Identifier.refused same
+    cases none o is e = absurd (plain-not 7 cc)
 
 -- the search ends at the first that is not
 pub no-refusal-is-all-accepted : NoRefusalIsAllAccepted

@@ -4,9 +4,11 @@ use mathlib.Core.Path.{_≡_}
 use mathlib.Core.Bool.{true}
 use mathlib.Core.List.{List, [], _∷_}
 use mathlib.Core.Option.{some}
-use lib.ListN.{length}
+use lib.ListN.{length, take, drop}
 use Rattle.s10.specs.Refusal.{Refusal}
 use Rattle.s10.specs.Text.{largestKey}
+use Rattle.s10.specs.Outcome.{readText}
+use Rattle.s10.specs.Outcome as Identifier
 use Rattle.command.specs.declared.Kind.{Kind}
 use Rattle.command.specs.declared.Command.{Command}
 use Rattle.command.specs.Read.{CommandOutcome, accepted, refused, kindOf, kindNumber, chuteFits, readCommand, readings, allAccepted, listRefused, firstRefusal}
@@ -31,6 +33,10 @@ AcceptedChuteIsAtMostLast = (part : List ℕ) (command : Command) → readComman
 -- An accepted command's key is at most the largest.
 abbrev pub AcceptedKeyIsAtMostLargest : Type 0
 AcceptedKeyIsAtMostLargest = (part : List ℕ) (command : Command) → readCommand part ≡ accepted command → command .key ≤ largestKey
+
+-- "0 with any refusal but 8, 9 and 13": a refusal that names a character is the identifier's own.
+abbrev pub CharacterIsTheIdentifiers : Type 0
+CharacterIsTheIdentifiers = (part : List ℕ) (r : Refusal) → readCommand part ≡ refused r → (r .character ≡ 0 → ⊥) → readText (take 13 (drop 1 part)) ≡ Identifier.refused r
 
 -- every reading is accepted
 abbrev pub AllAccepted : List CommandOutcome → Type 0

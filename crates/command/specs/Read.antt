@@ -62,7 +62,7 @@ chuteFits Update chute = leb 1 chute && leb chute 512
 unfoldable pub chuteOf : List ℕ → ℕ
 chuteOf bytes = 256 * getD bytes 0 0 + getD bytes 1 0
 
--- what follows the identifier's outcome: its refusal, or refusal 10, "chute wrong for the kind", or the command
+-- what follows the identifier's outcome: its refusal, whose character is passed on, or refusal 10, "chute wrong for the kind", or the command
 unfoldable pub withChute : Kind → Identifier.TextOutcome → List ℕ → CommandOutcome
 unfolding chuteFits chuteOf
 withChute kind (Identifier.accepted key) bytes =
@@ -75,7 +75,7 @@ unfolding withChute
 withKind none identifier bytes = refused (plain 7)
 withKind (some kind) identifier bytes = withChute kind identifier bytes
 
--- "A command is 16 bytes: kind, identifier, chute"; refusals 7, 8, 9 and 10 in this order. A part that ends early or late lacks what
+-- "A command is 16 bytes: kind, identifier, chute"; refusals 7, 8 or 13, 9 and 10 in this order. A part that ends early or late lacks what
 -- would stand there: no kind is 7, a short identifier is 8, a chute of other than two bytes is 10.
 unfoldable pub readCommand : List ℕ → CommandOutcome
 unfolding kindOf withKind
@@ -99,7 +99,7 @@ pub data ListOutcome : Type 0 where
   allAccepted : ListOutcome
   listRefused : Refusal → ListOutcome
 
--- "then each command in order for 7 to 10": the first refusal, the first reading being that of a place
+-- "then each command in order for 7 to 10", 13 among them: the first refusal, the first reading being that of a place
 unfoldable pub firstRefusal : ℕ → List CommandOutcome → ListOutcome
 firstRefusal place [] = allAccepted
 firstRefusal place (accepted command ∷ rest) = firstRefusal (place + 1) rest

@@ -52,12 +52,23 @@ pub enum ListReading {
 impl Reason {
     // The refusal's number.
     pub fn number(self) -> u64
-        ensures { λ r. ⌜ (r ≡ refusalFor self .number) × (r ≤ 12) ⌝ }
+        ensures { λ r. ⌜ (r ≡ refusalFor self .number) × (r ≤ 13) ⌝ }
     {
         match self {
             Reason::UnknownKind => 7,
             Reason::WrongIdentifier(reason) => reason.number(),
             Reason::WrongChute => 10,
+        }
+    }
+
+    // The identifier's first faulty character, 0 for none.
+    pub fn character(self) -> u8
+        ensures { λ r. ⌜ r ≡ refusalFor self .character ⌝ }
+    {
+        match self {
+            Reason::UnknownKind => 0,
+            Reason::WrongIdentifier(reason) => reason.character(),
+            Reason::WrongChute => 0,
         }
     }
 }

@@ -1,4 +1,4 @@
--- What the calls answer and leave, in the numbers of document 01, "Numbers of refusal". Assumes nothing.
+-- What the calls answer and leave, in the numbers of document 01, "Numbers of refusal", and document 02, A.1. Assumes nothing.
 use Prim.Native.Nat.{ℕ, _/_, _%_}
 use mathlib.Core.Bool.{cond, _&&_}
 use mathlib.Core.List.{List}
@@ -23,7 +23,7 @@ pub data CallOutcome : Type 0 where
   accepted : Lists → CallOutcome
   refused : Refusal → CallOutcome
 
--- "A refusal returns its number and the command's place ..": number 0 for accepted
+-- "A refusal returns its number and the command's place ..", and A.1's character: all 0 for accepted
 unfoldable pub refusalIn : CallOutcome → Refusal
 refusalIn (accepted l) = plain 0
 refusalIn (refused r) = r
@@ -54,7 +54,7 @@ unfoldable pub openedWith : ListOutcome → Setup → CallOutcome
 openedWith allAccepted o = accepted (listsOf o (opened o))
 openedWith (listRefused r) o = refused r
 
--- "Opening tests 1 to 6 in order, then each command in order for 7 to 10."
+-- "Opening tests 1 to 6 in order, then each command in order for 7 to 10", 13 "in 8's place and before 9".
 unfoldable pub openOn : ℕ → ℕ → ℕ → List ℕ → Lists → CallOutcome
 openOn size workers capacity commands l =
     cond (leb 1 size && leb size 150) (cond (leb 1 workers && leb workers 64) (cond (leb 1 capacity && leb capacity 4096)

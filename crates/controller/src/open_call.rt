@@ -40,7 +40,7 @@ pub enum Opening {
 impl Reason {
     // The refusal's number.
     fn number(self) -> u64
-        ensures { λ r. ⌜ (r ≡ refusalFor self .number) × (r ≤ 12) ⌝ }
+        ensures { λ r. ⌜ (r ≡ refusalFor self .number) × (r ≤ 13) ⌝ }
     {
         match self {
             Reason::WrongGraphSize => 1,
@@ -67,12 +67,27 @@ impl Reason {
             Reason::WrongCommand(seq, _) => seq.0,
         }
     }
+
+    // The first faulty character of its identifier, 0 for none.
+    fn character(self) -> u8
+        ensures { λ r. ⌜ r ≡ refusalFor self .character ⌝ }
+    {
+        match self {
+            Reason::WrongGraphSize => 0,
+            Reason::WrongWorkers => 0,
+            Reason::WrongCapacity => 0,
+            Reason::WrongListLength => 0,
+            Reason::TooManyCommands => 0,
+            Reason::WrongLength => 0,
+            Reason::WrongCommand(_, reason) => reason.character(),
+        }
+    }
 }
 
 impl Opening {
     // The answer's number, 0 for opened.
     pub fn number(self) -> u64
-        ensures { λ r. ⌜ (r ≡ openingRefusal self .number) × (r ≤ 12) ⌝ }
+        ensures { λ r. ⌜ (r ≡ openingRefusal self .number) × (r ≤ 13) ⌝ }
     {
         match self {
             Opening::Opened => 0,
@@ -87,6 +102,16 @@ impl Opening {
         match self {
             Opening::Opened => 0,
             Opening::Refused(reason) => reason.place(),
+        }
+    }
+
+    // The first faulty character of its identifier, 0 for none.
+    pub fn character(self) -> u8
+        ensures { λ r. ⌜ r ≡ openingRefusal self .character ⌝ }
+    {
+        match self {
+            Opening::Opened => 0,
+            Opening::Refused(reason) => reason.character(),
         }
     }
 }
@@ -139,7 +164,7 @@ pub fn open(
     answer
 }
 
-// Tests 1 to 6 in the order of document 01, then each command for 7 to 10: the first refusal, or `Opened`.
+// Tests 1 to 6 in the order of document 01, then each command for 7, 8 or 13, 9 and 10: the first refusal, or `Opened`.
 fn answer_for(
     state: &[u8],
     keys: &[u64],

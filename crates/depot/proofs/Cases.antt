@@ -5,7 +5,7 @@ use native.Mathlib.Omega.{arith}
 use mathlib.Core.Path.{_≡_, refl}
 use mathlib.Core.Bool.{true}
 use mathlib.Core.List.{List}
-use Rattle.s10.specs.Text.{isWellFormed, checkDigit, keyOf, largestKey, digits}
+use Rattle.s10.specs.Text.{firstFault, checkDigit, keyOf, largestKey, digits}
 use Rattle.s10.specs.Outcome.{readText}
 use Rattle.command.specs.Read.{firstRefusal, readings, commandFrom, commandsIn}
 use Rattle.command.specs.Dependent.{areDependent}
@@ -30,11 +30,11 @@ abbrev Accepts : List ℕ → Type 0
 Accepts i = (opening i ≡ accepted (listsOf (inputSetup i) (opened (inputSetup i)))) × (allWithin (workersOf i) (scheduleOf i) ≡ true)
 
 accepts-20 : Accepts (stopped 20)
-unfolding input numberAt openOn openedWith firstRefusal readings readText isWellFormed checkDigit keyOf zeros lengthsFit stateLength allWithin
+unfolding input numberAt openOn openedWith firstRefusal readings readText firstFault checkDigit keyOf zeros lengthsFit stateLength allWithin
 accepts-20 = (refl, refl)
 
 accepts-9 : Accepts (stopped 9)
-unfolding input numberAt openOn openedWith firstRefusal readings readText isWellFormed checkDigit keyOf zeros lengthsFit stateLength allWithin
+unfolding input numberAt openOn openedWith firstRefusal readings readText firstFault checkDigit keyOf zeros lengthsFit stateLength allWithin
 accepts-9 = (refl, refl)
 
 -- and the others
@@ -47,7 +47,7 @@ unfolding input numberAt
 stopped-passes = record { short = omega arith; whole = omega arith; lists = _; opens = accepts-9 .0; named = accepts-9 .1 }
 
 pub marked : Marked
-unfolding checkDigit digits readText isWellFormed keyOf largestKey areDependent command serve full writtenInFull writeKind layOut input numberAt steps opened upd noneBelow lookUp insert readings commandsIn commandFrom tabulate fields commandLines commandLine decimal decimalWithin totals chainFrom
+unfolding checkDigit digits readText firstFault keyOf largestKey areDependent command serve full writtenInFull writeKind layOut input numberAt steps opened upd noneBelow lookUp insert readings commandsIn commandFrom tabulate fields commandLines commandLine decimal decimalWithin totals chainFrom
 marked = record {
   a = refl;
   b = refl;

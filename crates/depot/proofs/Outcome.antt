@@ -10,8 +10,8 @@ use borrow.Author.Tests.{le-leb, lt-leb}
 use lib.ListN.{length, getD, take, drop, length-replicate}
 use lib.Dec.{eqb, leb}
 use Rattle.s10.specs.Refusal.{Refusal, plain, atPlace}
-use Rattle.s10.specs.Text.{isWellFormed, serialDigits, checkDigit}
-use Rattle.s10.specs.Outcome.{readText}
+use Rattle.s10.specs.Text.{asksDigit, firstFault, serialDigits, checkDigit}
+use Rattle.s10.specs.Outcome.{faultAt, readText}
 use Rattle.s10.specs.Outcome as Identifier
 use Rattle.command.specs.declared.Kind.{Kind}
 use Rattle.command.specs.Read.{firstRefusal, partsOf, readings, readCommand, withKind, withChute, kindOf, chuteFits, chuteOf}
@@ -43,10 +43,12 @@ tested P true pass fail p q = p
 tested P false pass fail p q = q
 
 identifier-numbered : (text : List ℕ) → IdentifierNumbered (readText text)
-unfolding readText
+unfolding readText faultAt
 identifier-numbered text =
-    tested IdentifierNumbered (isWellFormed text) _ _
+    tested IdentifierNumbered (eqb (length text) 13) _ _
+    (tested IdentifierNumbered (eqb (firstFault 0 text) 13) _ _
     (tested IdentifierNumbered (eqb _ (checkDigit (serialDigits text))) _ _ (identifier-accepted _) (identifier-refused _ (omega arith)))
+    (identifier-refused (faultAt (firstFault 0 text)) (tested (λ (n : ℕ). 0 < n) (asksDigit (firstFault 0 text)) 13 8 (omega arith) (omega arith))))
     (identifier-refused _ (omega arith))
 
 chute-numbered : (kind : Kind) (o : Identifier.TextOutcome) (bytes : List ℕ) → IdentifierNumbered o → CommandNumbered (withChute kind o bytes)

@@ -44,7 +44,7 @@ nameOf (some kind) = kindName kind
 
 -- ---- lines
 
--- "A refusal prints `refused` and the number."
+-- "A refusal prints `refused` and the number.": place and character are not printed
 unfoldable pub refusal : ℕ → List ℕ
 refusal n = ascii "refused " ++ decimal n ++ newline
 

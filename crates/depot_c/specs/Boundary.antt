@@ -5,8 +5,8 @@ use mathlib.Core.List.{List, []}
 use mathlib.Core.Path.{_≡_}
 use lib.ListN.{length}
 use lib.Dec.{eqb}
-use Rattle.s10.specs.Refusal.{Refusal, plain}
-use Rattle.s10.specs.Outcome.{readText}
+use Rattle.s10.specs.Refusal.{Refusal}
+use Rattle.s10.specs.Outcome.{readText, refusalRead}
 use Rattle.s10.specs.Outcome as Identifier
 use Rattle.state_bytes.specs.Bytes.{bytesOf}
 use Rattle.state_bytes.specs.Layout.{Lists, lists, stateIn}
@@ -36,9 +36,9 @@ encoded l = lists (l .state) (bytesIn 8 (l .keys)) (bytesIn 2 (l .chutes)) (byte
 
 -- ---- answers
 
--- a refusal's number, and the command's place times 256
+-- a refusal in one number: its number in bits 0 to 7, the command's place from bit 8 on, the character in bits 32 to 39
 abbrev pub packed : Refusal → ℕ
-packed r = r .number + 256 * r .place
+packed r = r .number + 256 * r .place + 4_294_967_296 * r .character
 
 -- what is answered, 0 for accepted
 unfoldable pub answerOf : CallOutcome → ℕ
@@ -67,11 +67,7 @@ advanceLeft b commands schedule = left (advanceOn (decoded b) commands schedule)
 
 -- ---- identifiers
 
--- the refusal of a text, number 0 for accepted; its key, 0 for refused; and the key's eight bytes where it was accepted
-abbrev pub refusalRead : Identifier.TextOutcome → Refusal
-refusalRead (Identifier.accepted key) = plain 0
-refusalRead (Identifier.refused r) = r
-
+-- the key of a text, 0 for refused, and the key's eight bytes where it was accepted
 abbrev pub keyRead : Identifier.TextOutcome → ℕ
 keyRead (Identifier.accepted key) = key
 keyRead (Identifier.refused r) = 0

@@ -1,7 +1,8 @@
 // The two calls on identifiers.
 ghost use mathlib.Core.Path.{_≡_};
-ghost use Rattle.s10.specs.Outcome.{textOutcome, number, writeNumber, writeText};
-ghost use Rattle.depot_c.specs.Boundary.{packed, refusalRead, keyRead, readAnswer, readLeft};
+ghost use Rattle.s10.specs.Outcome.{textOutcome, refusalRead, number, writeNumber, writeText};
+ghost use Rattle.depot_c.specs.Boundary.{packed, keyRead, readAnswer, readLeft};
+use crate::answer::packed;
 use crate::numbers::KEY;
 use s10::Identifier;
 use s10::Reading;
@@ -14,7 +15,7 @@ fn reading_answer(reading: Reading) -> u64
 {
     match reading {
         Reading::Key(_) => 0,
-        Reading::Refused(reason) => reason.number(),
+        Reading::Refused(reason) => packed(reason.number(), 0, reason.character()),
     }
 }
 

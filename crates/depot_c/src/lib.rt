@@ -1,5 +1,6 @@
 // The depot's calls for C: numbers and byte lists in, the proved call, bytes out.
 mod advancing;
+mod answer;
 mod identifiers;
 mod lists;
 mod numbers;

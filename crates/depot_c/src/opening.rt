@@ -5,6 +5,7 @@ ghost use Prim.Native.Nat.{_≤_};
 ghost use Rattle.state_bytes.specs.Layout.{lists, atExit, atEntry};
 ghost use Rattle.controller.specs.Calls.{openOn, openingRefusal};
 ghost use Rattle.depot_c.specs.Boundary.{numberLists, packed, answerOf, left, openAnswer, openLeft, Rooms};
+use crate::answer::packed;
 use crate::lists::MOST;
 use crate::lists::are_whole;
 use crate::lists::have_room;
@@ -13,12 +14,12 @@ use crate::lists::write_lists;
 use controller::Opening;
 use controller::open;
 
-// A refusal's number and the command's place, in one number.
+// The answer to an opening.
 fn opening_answer(opening: Opening) -> u64
     requires { ⌜ openingRefusal opening .place ≤ 4096 ⌝ }
     ensures { λ r. ⌜ r ≡ packed (openingRefusal opening) ⌝ }
 {
-    opening.number() + 256 * opening.place() as u64
+    packed(opening.number(), opening.place(), opening.character())
 }
 
 // The answer where the lists cannot be those of an accepted opening.

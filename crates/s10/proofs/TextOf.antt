@@ -9,8 +9,8 @@ use borrow.Author.Tests.{eq-eqb}
 use lib.Dec.{leb}
 use lib.ListN.{length, getD, take, length-append}
 use lib.Seq.{take-at, getD-at, getD-append-add}
-use Rattle.s10.specs.Text.{isAllowed, allAllowed, isWellFormed, serialDigits, checkDigit, decimalNumber, keyOf, letters, digits, textOf, largestKey}
-use Rattle.s10.specs.Parts.{characters, serialText}
+use Rattle.s10.specs.Text.{isAllowed, serialDigits, checkDigit, decimalNumber, keyOf, letters, digits, textOf, largestKey}
+use Rattle.s10.specs.Parts.{allAllowed, isWellFormed, characters, serialText}
 use Rattle.s10.proofs.Decimal.{AllBelow, tail-below, nil-below, cons-below, length-digits, digits-below, decimal-digits}
 use Rattle.s10.proofs.Values.{values-characters, characters-serial}
 use Rattle.s10.proofs.Weighted.{check-digit-below}
@@ -112,7 +112,7 @@ module _ (key : ℕ) where
       omega arith
 
   -- two, nine and two
-  length-text : length (textOf key) ≡ 13
+  pub length-text : length (textOf key) ≡ 13
   unfolding letters
   length-text = rw text-of-parts (simp (length-append, length-serial))
 

@@ -8,8 +8,8 @@ use borrow.Author.Tests.{eqb-true, leb-true, le-leb}
 use lib.Dec.{eqb, leb}
 use lib.ListN.{length, getD, take, drop, length-take, length-drop}
 use lib.Seq.{getD-take, getD-drop}
-use Rattle.s10.specs.Text.{isAllowed, allAllowed, isWellFormed}
-use Rattle.s10.specs.Parts.{Between, Serial, WellFormed}
+use Rattle.s10.specs.Text.{asksDigit, isAllowed}
+use Rattle.s10.specs.Parts.{allAllowed, isWellFormed, Between, Serial, WellFormed}
 use Rattle.s10.proofs.Fault.{allowed-at}
 
 -- a character that passes the two tests lies between
@@ -24,7 +24,7 @@ is-within low high c w = rw (le-leb low c (w .0), le-leb c high (w .1))
 
 -- at positions 2 to 10 a digit is asked
 pub digit-asked : (i c : ℕ) → Between 2 10 i → isAllowed i c ≡ (leb 48 c && leb c 57)
-unfolding isAllowed
+unfolding asksDigit isAllowed
 digit-asked i c w = rw (is-within 2 10 i w)
 
 module _ (text : List ℕ) (ok : isWellFormed text ≡ true) where

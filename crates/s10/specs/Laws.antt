@@ -1,10 +1,13 @@
--- What reading and writing identifiers are to each other, for every text and every key. Statements only: `proofs/Laws.antt` proves them.
--- Assumes nothing.
-use Prim.Native.Nat.{ℕ, _≤_}
+-- What reading and writing identifiers are to each other, and what the character that a reading names tells, for every text and every key.
+-- Statements only: `proofs/Laws.antt` proves them. Assumes nothing.
+use Prim.Native.Nat.{ℕ, _+_, _≤_, _<_}
 use mathlib.Core.Path.{_≡_}
+use mathlib.Core.Bool.{true, false}
 use mathlib.Core.List.{List}
-use Rattle.s10.specs.Text.{largestKey, textOf}
-use Rattle.s10.specs.Outcome.{accepted, readText}
+use lib.ListN.{length, getD}
+use Rattle.s10.specs.Refusal.{Refusal}
+use Rattle.s10.specs.Text.{isAllowed, largestKey, textOf}
+use Rattle.s10.specs.Outcome.{accepted, refused, readText, refusalRead}
 
 -- Reading what was written gives the key.
 abbrev pub WrittenReadsBack : Type 0
@@ -25,3 +28,31 @@ KeyHasOneText = (text other : List ℕ) (key : ℕ) → readText text ≡ accept
 -- An accepted key is at most the largest.
 abbrev pub AcceptedIsAtMostLargest : Type 0
 AcceptedIsAtMostLargest = (text : List ℕ) (key : ℕ) → readText text ≡ accepted key → key ≤ largestKey
+
+-- ---- the first faulty character
+
+-- the character that a reading names
+abbrev pub characterOf : List ℕ → ℕ
+characterOf text = refusalRead (readText text) .character
+
+-- It is 0 exactly on an accepted text and on a wrong length.
+abbrev pub CharacterZero : Type 0
+CharacterZero =
+    ((text : List ℕ) → characterOf text ≡ 0 → length text ≡ 13 → (key : ℕ) × (readText text ≡ accepted key))
+    × ((text : List ℕ) (key : ℕ) → readText text ≡ accepted key → characterOf text ≡ 0)
+    × ((text : List ℕ) → (length text ≡ 13 → ⊥) → characterOf text ≡ 0)
+
+-- All characters before it are in order; it counts from 1, positions from 0.
+abbrev pub BeforeIsInOrder : Type 0
+BeforeIsInOrder = (text : List ℕ) (i : ℕ) → i + 1 < characterOf text → isAllowed i (getD text i 0) ≡ true
+
+-- It is one of the thirteen, and out of order where it does not name a wrong check digit.
+abbrev pub NamedIsFaulty : Type 0
+NamedIsFaulty =
+    (text : List ℕ) (i : ℕ) → characterOf text ≡ i + 1 → (i < 13) × ((refusalRead (readText text) .number ≡ 9 → ⊥) → isAllowed i (getD text i 0) ≡ false)
+
+-- Under 8 and 13, changing only characters after it changes neither number nor character.
+abbrev pub LaterChangesNothing : Type 0
+LaterChangesNothing =
+    (text other : List ℕ) (r : Refusal) → readText text ≡ refused r → (r .number ≡ 9 → ⊥) → length other ≡ length text
+    → ((i : ℕ) → i < r .character → getD other i 0 ≡ getD text i 0) → readText other ≡ refused r

@@ -1,16 +1,22 @@
 -- The parts of a text that the contracts of the helper functions speak of. Assumes nothing.
 use Prim.Native.Nat.{ℕ, _+_, _-_, _≤_, _<_}
 use mathlib.Core.Path.{_≡_}
-use mathlib.Core.Bool.{cond}
+use mathlib.Core.Bool.{Bool, true, _&&_}
 use mathlib.Core.List.{List, [], _∷_, _++_, map}
 use lib.ListN.{length, getD, take, drop}
+use lib.Dec.{eqb}
 use Rattle.s10.specs.Text.{isAllowed, digits, checkDigit}
 
--- the position of the first character that is not allowed, from position i on, or the position after the last
-unfoldable pub firstFault : ℕ → List ℕ → ℕ
+-- every character, from position i on
+unfoldable pub allAllowed : ℕ → List ℕ → Bool
 unfolding isAllowed
-firstFault i [] = i
-firstFault i (c ∷ text) = cond (isAllowed i c) (firstFault (i + 1) text) i
+allAllowed i [] = true
+allAllowed i (c ∷ text) = isAllowed i c && allAllowed (i + 1) text
+
+-- thirteen characters, each in order
+unfoldable pub isWellFormed : List ℕ → Bool
+unfolding allAllowed
+isWellFormed text = eqb (length text) 13 && allAllowed 0 text
 
 -- c lies from low to high
 abbrev pub Between : ℕ → ℕ → ℕ → Type 0

@@ -1,9 +1,9 @@
 -- The identifier of document 01, "Identifier": its text, as a list of ASCII codes, and its key. Each definition quotes its sentence.
 -- Assumes nothing.
 use Prim.Native.Nat.{ℕ, zero, suc, _+_, _-_, _*_, _/_, _%_, _^_}
-use mathlib.Core.Bool.{Bool, true, cond, _&&_}
+use mathlib.Core.Bool.{Bool, cond, _&&_}
 use mathlib.Core.List.{List, [], _∷_, _++_, map}
-use lib.ListN.{length, getD, take, drop}
+use lib.ListN.{getD, take, drop}
 use lib.Dec.{eqb, leb}
 
 -- "letters A to Z"
@@ -13,21 +13,20 @@ isLetter c = leb 65 c && leb c 90
 unfoldable pub isDigit : ℕ → Bool
 isDigit c = leb 48 c && leb c 57
 
--- "two letters A to Z, eight serial digits, a check digit, two letters A to Z": what may stand at a position, counted from 0
+-- "two letters A to Z, eight serial digits, a check digit, two letters A to Z": where a digit stands, positions counted from 0
+unfoldable pub asksDigit : ℕ → Bool
+asksDigit i = leb 2 i && leb i 10
+
+-- and what may stand at a position
 unfoldable pub isAllowed : ℕ → ℕ → Bool
-unfolding isLetter isDigit
-isAllowed i c = cond (leb 2 i && leb i 10) (isDigit c) (isLetter c)
+unfolding isLetter isDigit asksDigit
+isAllowed i c = cond (asksDigit i) (isDigit c) (isLetter c)
 
--- every character, from position i on
-unfoldable pub allAllowed : ℕ → List ℕ → Bool
+-- "the first faulty character from the left": its position, from position i on, or the position after the last
+unfoldable pub firstFault : ℕ → List ℕ → ℕ
 unfolding isAllowed
-allAllowed i [] = true
-allAllowed i (c ∷ text) = isAllowed i c && allAllowed (i + 1) text
-
--- "Thirteen ASCII characters"
-unfoldable pub isWellFormed : List ℕ → Bool
-unfolding allAllowed
-isWellFormed text = eqb (length text) 13 && allAllowed 0 text
+firstFault i [] = i
+firstFault i (c ∷ text) = cond (isAllowed i c) (firstFault (i + 1) text) i
 
 -- the eight serial digits as numbers
 unfoldable pub serialDigits : List ℕ → List ℕ

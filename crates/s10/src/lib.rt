@@ -4,17 +4,21 @@ ghost use Prim.Native.Nat.{_+_, _-_, _*_, _%_, _≤_, _<_};
 ghost use mathlib.Core.Bool.{_&&_};
 ghost use lib.Dec.{leb};
 ghost use lib.ListN.{length};
-ghost use Rattle.s10.specs.Text.{isAllowed, weighted, weights, excepted, checkDigit, pair, decimalNumber, keyOf, letters, digits, largestKey, textOf};
-ghost use Rattle.s10.specs.Parts.{firstFault, Between, Serial, WellFormed, values, characters, serialText};
-ghost use Rattle.s10.specs.Outcome.{refusalFor, textOutcome, readText, number, writeNumber, writeText};
+ghost use Rattle.s10.specs.Text.{asksDigit, isAllowed, firstFault, weighted, weights, excepted, checkDigit, pair, decimalNumber, keyOf, letters, digits, largestKey, textOf};
+ghost use Rattle.s10.specs.Parts.{Between, Serial, WellFormed, values, characters, serialText};
+ghost use Rattle.s10.specs.Outcome.{refusalFor, faultAt, textOutcome, readText, number, writeNumber, writeText};
 
 // An identifier, by its key.
 pub struct Identifier(pub u64);
 
-// Why a text is refused.
+// A character's place in a text, from 1.
+pub struct Character(pub u8);
+
+// Why a text is refused; a wrong letter or digit is the first faulty character.
 pub enum Reason {
-    // The length, a letter or a digit is wrong.
-    Malformed,
+    WrongLength,
+    WrongLetter(Character),
+    WrongDigit(Character),
     WrongCheckDigit,
 }
 
@@ -34,11 +38,25 @@ pub enum Writing {
 impl Reason {
     // The refusal's number.
     pub fn number(self) -> u64
-        ensures { λ r. ⌜ (r ≡ refusalFor self .number) × (r ≤ 12) ⌝ }
+        ensures { λ r. ⌜ (r ≡ refusalFor self .number) × (r ≤ 13) ⌝ }
     {
         match self {
-            Reason::Malformed => 8,
+            Reason::WrongLength => 8,
+            Reason::WrongLetter(_) => 8,
+            Reason::WrongDigit(_) => 13,
             Reason::WrongCheckDigit => 9,
+        }
+    }
+
+    // The first faulty character, 0 for none.
+    pub fn character(self) -> u8
+        ensures { λ r. ⌜ r ≡ refusalFor self .character ⌝ }
+    {
+        match self {
+            Reason::WrongLength => 0,
+            Reason::WrongLetter(character) => character.0,
+            Reason::WrongDigit(character) => character.0,
+            Reason::WrongCheckDigit => Identifier::CHECK as u8 + 1,
         }
     }
 }
@@ -69,10 +87,11 @@ impl Identifier {
         ensures { λ r. ⌜ textOutcome r ≡ readText (now (text .entry)) ⌝ }
     {
         if text.len() != Identifier::LENGTH {
-            return Reading::Refused(Reason::Malformed);
+            return Reading::Refused(Reason::WrongLength);
         }
-        if first_fault(text) != Identifier::LENGTH {
-            return Reading::Refused(Reason::Malformed);
+        let fault = first_fault(text);
+        if fault != Identifier::LENGTH {
+            return Reading::Refused(reason_at(fault));
         }
         let check = check_digit(&text[Identifier::SERIAL..Identifier::CHECK]);
         if text[Identifier::CHECK] - b'0' != check {
@@ -104,11 +123,18 @@ fn is_between(low: u8, c: u8, high: u8) -> bool
     low <= c && c <= high
 }
 
+// Whether a digit stands at a position; else a letter does.
+fn asks_digit(i: usize) -> bool
+    ensures { λ r. ⌜ r ≡ asksDigit i ⌝ }
+{
+    Identifier::SERIAL <= i && i <= Identifier::CHECK
+}
+
 // Whether a character may stand at a position.
 fn is_allowed(i: usize, c: u8) -> bool
     ensures { λ r. ⌜ r ≡ isAllowed i c ⌝ }
 {
-    if Identifier::SERIAL <= i && i <= Identifier::CHECK {
+    if asks_digit(i) {
         is_between(b'0', c, b'9')
     } else {
         is_between(b'A', c, b'Z')
@@ -127,6 +153,19 @@ fn first_fault(text: &[u8]) -> usize
         i += 1;
     }
     i
+}
+
+// Why a text is refused whose first faulty character stands at a position.
+fn reason_at(i: usize) -> Reason
+    requires { ⌜ i < 13 ⌝ }
+    ensures { λ r. ⌜ refusalFor r ≡ faultAt i ⌝ }
+{
+    let character = Character(i as u8 + 1);
+    if asks_digit(i) {
+        Reason::WrongDigit(character)
+    } else {
+        Reason::WrongLetter(character)
+    }
 }
 
 // The eight digits, each times its weight, added.

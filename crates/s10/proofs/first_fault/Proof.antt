@@ -5,7 +5,7 @@ use native.Mathlib.Omega.{arith}
 use borrow.Author.Needs.{needs}
 use borrow.Author.Tests.{not-true, not-false}
 use lib.ListN.{length, drop, drop-of-length-le}
-use Rattle.s10.specs.Parts.{firstFault}
+use Rattle.s10.specs.Text.{firstFault}
 use Rattle.s10.proofs.Fault.{fault-step}
 use Rattle.s10.proofs.first_fault.Statement.{statement}
 use Rattle.s10.proofs.first_fault.Tie as tie

@@ -7,11 +7,11 @@ use mathlib.Core.List.{List}
 use Prim.Native.Nat.{ℕ}
 use Rattle.s10.specs.declared.Reading.{Reading}
 use Rattle.s10.specs.declared.Reading.the-variants.{Key, Refused}
-use Rattle.s10.specs.declared.Reason.the-variants.{Malformed, WrongCheckDigit}
-use Rattle.s10.specs.Outcome.{TextOutcome, textOutcome}
+use Rattle.s10.specs.declared.Reason.the-variants.{WrongLength, WrongLetter, WrongDigit, WrongCheckDigit}
+use Rattle.s10.specs.Outcome.{TextOutcome, textOutcome, refusalRead}
 use Rattle.state_bytes.specs.Bytes.{bytesOf}
 use Rattle.state_bytes.proofs.Bytes.{bytes-length}
-use Rattle.depot_c.specs.Boundary.{packed, refusalRead, keyRead, bytesRead, readAnswer, readLeft}
+use Rattle.depot_c.specs.Boundary.{packed, keyRead, bytesRead, readAnswer, readLeft}
 use Rattle.state_bytes.proofs.Paste.{pasted-whole}
 use Rattle.depot_c.proofs.identifiers.depot_read_identifier.Statement.{statement}
 use Rattle.depot_c.proofs.identifiers.depot_read_identifier.Tie as tie
@@ -24,7 +24,9 @@ entry c = c .before .before .before
 accepted-left : (r : Reading) (old : List ℕ) → packed (refusalRead (textOutcome r)) ≡ 0 → bytesRead (textOutcome r) old ≡ bytesOf 8 (keyRead (textOutcome r))
 unfolding bytesRead
 accepted-left (Key key) old e = refl
-accepted-left (Refused Malformed) old e = absurd (omega arith)
+accepted-left (Refused WrongLength) old e = absurd (omega arith)
+accepted-left (Refused (WrongLetter character)) old e = absurd (omega arith)
+accepted-left (Refused (WrongDigit character)) old e = absurd (omega arith)
 accepted-left (Refused WrongCheckDigit) old e = absurd (omega arith)
 
 -- a refused one leaves what was there

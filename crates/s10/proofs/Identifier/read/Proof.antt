@@ -1,15 +1,16 @@
 -- `Identifier::read` meets its contract: the tests come in the definition's order, and each answer is the definition's there. Assumes nothing.
 use Prim.Native.Nat.{_-_}
-use mathlib.Core.Path.{_≡_}
+use mathlib.Core.Path.{_≡_, _∙_}
 use mathlib.Core.Bool.{true}
 use native.Mathlib.Omega.{arith}
-use borrow.Author.Tests.{eq-eqb, ne-eqb}
+use borrow.Author.Tests.{eqb-true, eq-eqb, ne-eqb}
 use borrow.Author.Needs.{needs}
 use lib.ListN.{length, getD}
-use Rattle.s10.specs.Text.{isWellFormed, serialDigits, checkDigit}
-use Rattle.s10.specs.Parts.{firstFault, WellFormed}
+use lib.Dec.{eqb}
+use Rattle.s10.specs.Text.{firstFault, serialDigits, checkDigit}
+use Rattle.s10.specs.Parts.{WellFormed}
 use Rattle.s10.specs.Outcome.{readText}
-use Rattle.s10.proofs.Fault.{fault-well-formed}
+use Rattle.s10.proofs.Fault.{fault-within, fault-well-formed}
 use Rattle.s10.proofs.WellFormed.{well-formed}
 use Rattle.s10.proofs.Identifier.read.Statement.{statement}
 use Rattle.s10.proofs.Identifier.read.Tie as tie
@@ -22,29 +23,36 @@ entry c = c .before .before .before
 abbrev tested : tie.After-shared-slice-known2 → tie.Else2
 tested c = c .before .before .before
 
--- a text of another length is not well-formed
+-- a text of another length
 returns : tie.Need-returns
-unfolding readText isWellFormed
+unfolding readText
 returns c = rw (ne-eqb (length (c .before .before .args .text .now)) 13 (omega arith))
 
 first-fault-requires : tie.Need-first-fault-requires
 first-fault-requires c κs = search needs
 
--- nor is one with a fault
+-- a fault is found before the end
+reason-at-requires : tie.Need-reason-at-requires
+reason-at-requires c κs = omega (arith, fault-within 0 (entry (c .before) .args .text .now))
+
+-- one with a fault
 returns-2 : tie.Need-returns-2
 unfolding readText
 returns-2 c =
-    let s = entry (c .before) in
-    rw (fault-well-formed (s .args .text .now) (omega arith), ne-eqb (firstFault 0 (s .args .text .now)) 13 (omega arith))
+    let f = c .before .before in
+    let text = entry f .args .text .now in
+    rw (eq-eqb (length text) 13 (omega arith), ne-eqb (firstFault 0 text) 13 (omega arith), c .reason-at .ensures, f .first-fault .ensures)
 
--- past both tests it is
-passed : (c : tie.Else2) → isWellFormed (entry (c .before) .args .text .now) ≡ true
+-- past both tests there is none
+passed : (c : tie.Else2) → let text = entry (c .before) .args .text .now in (eqb (length text) 13 ≡ true) × (eqb (firstFault 0 text) 13 ≡ true)
 passed c =
-    let s = entry (c .before) in
-    rw (fault-well-formed (s .args .text .now) (omega arith)) (eq-eqb (firstFault 0 (s .args .text .now)) 13 (omega arith))
+    let text = entry (c .before) .args .text .now in
+    (eq-eqb (length text) 13 (omega arith), eq-eqb (firstFault 0 text) 13 (omega arith))
 
 parts : (c : tie.Else2) → WellFormed (entry (c .before) .args .text .now)
-parts c = well-formed _ (passed c)
+parts c =
+    let text = entry (c .before) .args .text .now in
+    well-formed _ (fault-well-formed text (eqb-true (length text) 13 (passed c .0)) ∙ passed c .1)
 
 sub-check-digit : tie.Need-sub-check-digit
 sub-check-digit c = search needs
@@ -69,7 +77,7 @@ unfolding readText serialDigits
 returns-3 c =
     let e = tested (c .before) in
     let text = entry (e .before) .args .text .now in
-    rw (passed e, ne-eqb (getD text 10 0 - 48) (checkDigit (serialDigits text)) (omega arith))
+    rw (passed e .0, passed e .1, ne-eqb (getD text 10 0 - 48) (checkDigit (serialDigits text)) (omega arith))
 
 key-of-requires : tie.Need-key-of-requires
 key-of-requires c κs = parts (tested (c .before))
@@ -79,7 +87,7 @@ unfolding readText serialDigits
 returns-4 c =
     let e = tested (c .before .before) in
     let text = entry (e .before) .args .text .now in
-    rw (passed e, eq-eqb (getD text 10 0 - 48) (checkDigit (serialDigits text)) (omega arith), c .key-of .ensures)
+    rw (passed e .0, passed e .1, eq-eqb (getD text 10 0 - 48) (checkDigit (serialDigits text)) (omega arith), c .key-of .ensures)
 
 pub read-spec : {M : Type 1} → statement M
 read-spec =
@@ -87,6 +95,7 @@ read-spec =
     (tie.spec
     returns
     first-fault-requires
+    reason-at-requires
     returns-2
     sub-check-digit
     part-check-digit-start
