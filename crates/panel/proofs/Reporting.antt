@@ -1,7 +1,7 @@
 -- What a report answers and leaves, by its tests. Assumes nothing.
 use Prim.Native.Nat.{ℕ}
 use native.Mathlib.Omega.{arith}
-use mathlib.Core.Path.{_≡_, refl, _∙_}
+use mathlib.Core.Path.{_≡_, refl, ap, _∙_}
 use mathlib.Core.Bool.{Bool, true, false, cond, _&&_, and-false, and-eq-true-iff}
 use mathlib.Core.List.{List, [], _∷_}
 use mathlib.Core.Logic.{⊎-elim}
@@ -15,7 +15,7 @@ use Rattle.state_bytes.proofs.Passed.{lengths-passed}
 use Rattle.panel.specs.declared.Report.{Report}
 use Rattle.panel.proofs.Report.{the-type}
 use Rattle.panel.specs.declared.Report.the-variants.{Reported, WrongLength, WrongState}
-use Rattle.s10.specs.Refusal.{plain}
+use Rattle.s10.specs.Refusal.{Refusal, plain}
 use Rattle.panel.specs.Reports.{reportOf, reportRefusal, reportNumber, reportLeft}
 
 -- ---- the tests
@@ -56,11 +56,14 @@ module _ (l : Lists) (commands : List ℕ) (lent wanted : ℕ) where
       let both = and-eq-true-iff (handedBackFit l commands) (eqb lent wanted) .0 (not-six (handedBackFit l commands && eqb lent wanted) (cond (stateFits l) 0 12) e) in
       (lengths-passed l commands (both .0) .state, eqb-true lent wanted (both .1))
 
--- no report names a command
-pub no-place : (r : Report) → reportRefusal r ≡ plain (reportOf r)
-no-place Reported = refl
-no-place WrongLength = refl
-no-place WrongState = refl
+-- an answer's number is all that it says
+pub refusal-told : {n : ℕ} (r : Report) → reportOf r ≡ n → reportRefusal r ≡ plain n
+refusal-told Reported e = ap plain e
+refusal-told WrongLength e = ap plain e
+refusal-told WrongState e = ap plain e
+
+pub number-told : {n : ℕ} (r : Report) → reportRefusal r ≡ plain n → reportOf r ≡ n
+number-told r e = ap (λ (x : Refusal). x .number) e
 
 -- ---- what is left
 

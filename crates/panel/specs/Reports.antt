@@ -24,17 +24,14 @@ use Rattle.panel.specs.declared.WorkerState.the-variants as worker
 unfoldable pub reportNumber : Lists → List ℕ → ℕ → ℕ → ℕ
 reportNumber l commands lent wanted = cond (handedBackFit l commands && eqb lent wanted) (cond (stateFits l) 0 12) 6
 
--- the document's number for each answer
-abbrev pub reportOf : Report → ℕ
-reportOf Reported = 0
-reportOf WrongLength = 6
-reportOf WrongState = 12
-
--- and what its refusal says: it names no command
+-- the document's values for each answer, and its number
 abbrev pub reportRefusal : Report → Refusal
 reportRefusal Reported = plain 0
 reportRefusal WrongLength = plain 6
 reportRefusal WrongState = plain 12
+
+abbrev pub reportOf : Report → ℕ
+reportOf r = reportRefusal r .number
 
 -- the report list after the call: a refusal leaves it as it was
 unfoldable pub reportLeft {ℓ} : {A : Type ℓ} → ℕ → List A → List A → List A

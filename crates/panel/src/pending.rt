@@ -55,8 +55,7 @@ pub fn pending_counts(
     commands: &[u8],
     counts: &mut [u8],
 ) -> Report
-    ensures number { λ r. ⌜ reportOf r ≡ reportNumber (atEntry state keys chutes answers) (now (commands .entry)) (length (now (counts .entry))) 150 ⌝ }
-    ensures refusal { λ r. ⌜ reportRefusal r ≡ plain (reportOf r) ⌝ }
+    ensures refusal { λ r. ⌜ reportRefusal r ≡ plain (reportNumber (atEntry state keys chutes answers) (now (commands .entry)) (length (now (counts .entry))) 150) ⌝ }
     ensures left { λ r. ⌜ now (counts .exit) ≡ reportLeft (reportOf r) (pendingCounts (stateIn (atEntry state keys chutes answers))) (now (counts .entry)) ⌝ }
 {
     let report = tested(

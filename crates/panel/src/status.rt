@@ -126,8 +126,7 @@ pub fn worker_status(
     commands: &[u8],
     status: &mut [WorkerStatus],
 ) -> Report
-    ensures number { λ r. ⌜ reportOf r ≡ reportNumber (atEntry state keys chutes answers) (now (commands .entry)) (length (now (status .entry))) 64 ⌝ }
-    ensures refusal { λ r. ⌜ reportRefusal r ≡ plain (reportOf r) ⌝ }
+    ensures refusal { λ r. ⌜ reportRefusal r ≡ plain (reportNumber (atEntry state keys chutes answers) (now (commands .entry)) (length (now (status .entry))) 64) ⌝ }
     ensures left { λ r. ⌜ now (status .exit) ≡ reportLeft (reportOf r) (workerStatus (workersIn (now (state .entry))) (stateIn (atEntry state keys chutes answers))) (now (status .entry)) ⌝ }
 {
     let report = tested(
@@ -205,8 +204,7 @@ pub fn worker_status_bytes(
     commands: &[u8],
     bytes: &mut [u8],
 ) -> Report
-    ensures number { λ r. ⌜ reportOf r ≡ reportNumber (atEntry state keys chutes answers) (now (commands .entry)) (length (now (bytes .entry))) 128 ⌝ }
-    ensures refusal { λ r. ⌜ reportRefusal r ≡ plain (reportOf r) ⌝ }
+    ensures refusal { λ r. ⌜ reportRefusal r ≡ plain (reportNumber (atEntry state keys chutes answers) (now (commands .entry)) (length (now (bytes .entry))) 128) ⌝ }
     ensures left { λ r. ⌜ now (bytes .exit) ≡ reportLeft (reportOf r) (workerStatusBytes (workersIn (now (state .entry))) (stateIn (atEntry state keys chutes answers))) (now (bytes .entry)) ⌝ }
 {
     if bytes.len() != STATUS_BYTES {

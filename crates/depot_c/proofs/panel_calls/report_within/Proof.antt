@@ -2,6 +2,7 @@
 use borrow.Author.Needs.{needs}
 use Rattle.depot_c.specs.declared.Wanted.the-variants.{PendingCounts, WorkerStatus}
 use Rattle.depot_c.proofs.Reporting.{report-on}
+use Rattle.panel.proofs.Reporting.{number-told}
 use Rattle.depot_c.proofs.panel_calls.report_within.Statement.{statement}
 use Rattle.depot_c.proofs.panel_calls.report_within.Tie as tie
 
@@ -62,7 +63,7 @@ returns c =
     let args = entry read .args in
     rw (told .enum-told .given .1)
     (report-on PendingCounts (args .state .now) (args .keys .now) (args .chutes .now) (args .answers .now) (args .commands .now) (args .out .now)
-    (read .read-lists .ensures) (c .report-answer .ensures) (call .pending-counts .ensures .0, call .pending-counts .ensures .1 .1))
+    (read .read-lists .ensures) (c .report-answer .ensures) (number-told (call .pending-counts .result) (call .pending-counts .ensures .0), call .pending-counts .ensures .1))
 
 same-length-5 : tie.Need-same-length-5
 same-length-5 c = search needs
@@ -84,7 +85,7 @@ returns-2 c =
     let args = entry read .args in
     rw (told .enum-told2 .given .1)
     (report-on WorkerStatus (args .state .now) (args .keys .now) (args .chutes .now) (args .answers .now) (args .commands .now) (args .out .now)
-    (read .read-lists .ensures) (c .report-answer2 .ensures) (call .worker-status-bytes .ensures .0, call .worker-status-bytes .ensures .1 .1))
+    (read .read-lists .ensures) (c .report-answer2 .ensures) (number-told (call .worker-status-bytes .result) (call .worker-status-bytes .ensures .0), call .worker-status-bytes .ensures .1))
 
 pub report-within-spec : {M : Type 1} → statement M
 report-within-spec =

@@ -4,7 +4,7 @@ use mathlib.Core.Path.{_≡_, refl, sym, ap, _∙_}
 use lib.ListN.{length}
 use Rattle.state_bytes.specs.Layout.{Lists, lists}
 use Rattle.panel.specs.Reports.{reportOf, reportNumber}
-use Rattle.panel.proofs.Reporting.{passed-lengths, no-place, left-report, left-old}
+use Rattle.panel.proofs.Reporting.{passed-lengths, refusal-told, left-report, left-old}
 use Rattle.panel.proofs.pending.pending_counts.Statement.{statement}
 use Rattle.panel.proofs.pending.pending_counts.Tie as tie
 
@@ -41,10 +41,10 @@ returns : tie.Need-returns
 returns c =
     let told = reported c in
     let called = told .before .before in
-    (number-is called, (no-place (called .tested .result), c .before .before .write-counts .ensures (given (entry called)) refl ∙ left-report (called .tested .result) _ (entry called .args .counts .now) (told .enum-told .given .1)))
+    (refusal-told (called .tested .result) (number-is called), c .before .before .write-counts .ensures (given (entry called)) refl ∙ left-report (called .tested .result) _ (entry called .args .counts .now) (told .enum-told .given .1))
 
 returns-2 : tie.Need-returns-2
-returns-2 c = (number-is (c .before), (no-place (c .before .tested .result), left-old (c .before .tested .result) _ (entry (c .before) .args .counts .now) (c .match .keys2)))
+returns-2 c = (refusal-told (c .before .tested .result) (number-is (c .before)), left-old (c .before .tested .result) _ (entry (c .before) .args .counts .now) (c .match .keys2))
 
 pub pending-counts-spec : {M : Type 1} → statement M
 pending-counts-spec = tie.close (tie.spec tested-requires enum-told write-counts-requires same-length returns returns-2)

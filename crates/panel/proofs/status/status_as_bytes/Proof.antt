@@ -51,7 +51,7 @@ use Rattle.s10.specs.Refusal.{plain as plain-refusal}
 use Rattle.panel.specs.Reports.{reportOf, reportRefusal, reportNumber, reportLeft, workerStatus, workerStatusBytes, workersIn}
 use Rattle.panel.specs.declared.Report.{Report}
 use Rattle.panel.specs.declared.WorkerStatus.{WorkerStatus}
-use Rattle.panel.proofs.Reporting.{made-report}
+use Rattle.panel.proofs.Reporting.{number-told, made-report}
 use Rattle.panel.proofs.InLocal.{Entries, entriesTy, entriesVal, local-in, local-out}
 use Rattle.panel.proofs.WorkerStatus as S
 use Rattle.panel.proofs.WorkerStatus.Laws as S′
@@ -220,11 +220,8 @@ module _ {M : Type 1} (𝓤 : URA M) (H : Heap 𝓤) (A : Atoms 𝓤) (W : Given
     goes-worker = qed W (Tokens ∷ ‵ Owned ∷ []) ∵ join ! $ frame ! $ done !
 
     -- what it says of the answer r, and of the entries at zs
-    abbrev Number : Report → Type 0
-    Number r = reportOf r ≡ reportNumber l (s₅ .now) (length ys) 64
-
-    abbrev Place : Report → Type 0
-    Place r = reportRefusal r ≡ plain-refusal (reportOf r)
+    abbrev Told : Report → Type 0
+    Told r = reportRefusal r ≡ plain-refusal (reportNumber l (s₅ .now) (length ys) 64)
 
     abbrev Left : Report → List WorkerStatus → Type 0
     Left r zs = zs ≡ reportLeft (reportOf r) (workerStatus (workersIn (s₁ .now)) (stateIn l)) ys
@@ -284,8 +281,8 @@ module _ {M : Type 1} (𝓤 : URA M) (H : Heap 𝓤) (A : Atoms 𝓤) (W : Given
         use1 W (later (some (λ (r : Report). (Tokens β δ ys l₇ ⊛ ‵ (P.the-row .own r (u ∷ []))) ⊛ raw (ensured 𝓤 H A worker.ended (worker.clauses 𝓤 H A at-mem run) (lent β δ ys l₇) (given β δ ys l₇) tt r)))) (id⊢ 𝓤 _) $ await ! tt $ pick ! (λ r.
         -- what `worker_status` ensures, at some last entries
         split ! $ move ! (1 ∷ []) $ use1 W (some (λ (ws : Lasts). ‵ (lasts worker.ended (lent β δ ys l₇) (given β δ ys l₇) ws)
-        ⊛ raw (fact 𝓤 (Number β δ ys l₇ r)) ⊛ raw (fact 𝓤 (Place β δ ys l₇ r)) ⊛ raw (fact 𝓤 (Left β δ ys l₇ r (lastOf ws))))) (id⊢ 𝓤 _) $ pick ! (λ ws.
-        split ! $ move ! (1 ∷ []) $ split ! $ heard ! (Number β δ ys l₇ r) (λ number. split ! $ drop ! $ heard ! (Left β δ ys l₇ r (lastOf ws)) (λ left.
+        ⊛ raw (fact 𝓤 (Told β δ ys l₇ r)) ⊛ raw (fact 𝓤 (Left β δ ys l₇ r (lastOf ws))))) (id⊢ 𝓤 _) $ pick ! (λ ws.
+        split ! $ move ! (1 ∷ []) $ split ! $ heard ! (Told β δ ys l₇ r) (λ told. heard ! (Left β δ ys l₇ r (lastOf ws)) (λ left.
         fsplit ! $ move ! (1 ∷ []) $ fsplit ! $ move ! (1 ∷ []) $ fsplit ! $ move ! (1 ∷ []) $ fsplit ! $ move ! (1 ∷ []) $ fsplit ! $ move ! (1 ∷ []) $ fsplit ! $ fsplit ! $ move ! (1 ∷ []) $ feqL ! (λ kept.
         move ! (1 ∷ []) $ drop ! $ move ! (1 ∷ []) $ drop ! $ move ! (1 ∷ []) $ drop ! $ move ! (1 ∷ []) $ drop ! $ move ! (1 ∷ []) $ drop ! $ move ! (1 ∷ []) $ drop ! $
         -- [the last entries; the tokens and the answer; what the five lists own; the lender's part; _14; …]
@@ -315,7 +312,7 @@ module _ {M : Type 1} (𝓤 : URA M) (H : Heap 𝓤) (A : Atoms 𝓤) (W : Given
         move ! (43 ∷ 44 ∷ []) $ free1 ! $ move ! (41 ∷ 42 ∷ []) $ free1 ! $ move ! (39 ∷ 40 ∷ []) $ free1 ! $ move ! (37 ∷ 38 ∷ []) $ free1 ! $ move ! (35 ∷ 36 ∷ []) $ free1 ! $ move ! (33 ∷ 34 ∷ []) $ free1 ! $ move ! (31 ∷ 32 ∷ []) $ free1 ! $ move ! (4 ∷ 30 ∷ []) $ free1 ! $
         move ! (27 ∷ 28 ∷ []) $ free1 ! $ move ! (25 ∷ 26 ∷ []) $ free1 ! $ move ! (23 ∷ 24 ∷ []) $ free1 ! $ move ! (21 ∷ 22 ∷ []) $ free1 ! $ move ! (19 ∷ 20 ∷ []) $ free1 ! $ move ! (17 ∷ 18 ∷ []) $ free1 ! $ move ! (15 ∷ 16 ∷ []) $ free1 ! $ free0 ! $
         keep ! (1 ∷ 9 ∷ 8 ∷ 7 ∷ 6 ∷ 5 ∷ 10 ∷ 11 ∷ 12 ∷ 13 ∷ 14 ∷ 2 ∷ 3 ∷ []) $
-        by ! (exits r u (cs .1 .1 .0) (number ∙ ap (λ (n : ℕ). reportNumber l (s₅ .now) n 64) count, wrote (workersIn (s₁ .now)) (stateIn l) (made-report (reportOf r) (workerStatus (workersIn (s₁ .now)) (stateIn l)) ys (lastOf ws) left)) long))))))))))))))))))))))))))))))))))))
+        by ! (exits r u (cs .1 .1 .0) (number-told r told ∙ ap (λ (n : ℕ). reportNumber l (s₅ .now) n 64) count, wrote (workersIn (s₁ .now)) (stateIn l) (made-report (reportOf r) (workerStatus (workersIn (s₁ .now)) (stateIn l)) ys (lastOf ws) left)) long))))))))))))))))))))))))))))))))))))
 
 module _ {M : Type 1} (𝓤 : URA M) (H : Heap 𝓤) (A : Atoms 𝓤) (W : Given 𝓤 H A) (at-mem : Memory → SProp 𝓤) (run : Routine → Fun 𝓤) (𝓣 : Tables 𝓤 H)
     (known-new : Triple 𝓤 (𝓣 .C #panel·status·new-status) (New 𝓤 H A at-mem run)) (known-worker : Triple 𝓤 (𝓣 .C #panel·status·worker-status) (Worker 𝓤 H A at-mem run)) (known-write : Triple 𝓤 (𝓣 .C #panel·status·write-reported) (Write 𝓤 H A at-mem run)) where

@@ -44,7 +44,7 @@ use Rattle.s10.specs.Refusal.{plain as plain-refusal}
 use Rattle.panel.specs.Reports.{reportOf, reportRefusal, reportNumber, reportLeft, workerStatus, workersIn}
 use Rattle.panel.specs.declared.Report.{Report}
 use Rattle.panel.specs.declared.WorkerStatus.{WorkerStatus}
-use Rattle.panel.proofs.Reporting.{no-place}
+use Rattle.panel.proofs.Reporting.{refusal-told}
 use Rattle.panel.proofs.Entries.{Wrote, Asked, Count, asks, leaves}
 use Rattle.panel.proofs.WorkerStatus as S
 use Rattle.panel.proofs.Report as P
@@ -162,9 +162,9 @@ module _ {M : Type 1} (𝓤 : URA M) (H : Heap 𝓤) (A : Atoms 𝓤) (W : Given
   abbrev Number : Report → Type 0
   Number r = reportOf r ≡ reportNumber l (s₅ .now) n₆ 64
 
-  -- the place and the list that it asks for
-  abbrev Place : Report → Type 0
-  Place r = reportRefusal r ≡ plain-refusal (reportOf r)
+  -- what the contract says of the answer and of the list
+  abbrev Told : Report → Type 0
+  Told r = reportRefusal r ≡ plain-refusal (reportNumber l (s₅ .now) n₆ 64)
 
   abbrev Left : Report → List WorkerStatus → Type 0
   Left r zs = zs ≡ reportLeft (reportOf r) (workerStatus (workersIn (s₁ .now)) (stateIn l)) xs
@@ -178,11 +178,10 @@ module _ {M : Type 1} (𝓤 : URA M) (H : Heap 𝓤) (A : Atoms 𝓤) (W : Given
       → ent 𝓤 (⋆ 𝓤 H A ((‵ (flft κ₁ q₁) ⊛ ‵ (flft κ₆ q₆) ⊛ ‵ ftrue) ∷ (‵ (flft κ₂ q₂) ⊛ ‵ ftrue) ∷ ‵ (flft κ₃ q₃) ∷ ‵ (flft κ₄ q₄) ∷ ‵ (flft κ₅ q₅) ∷ ‵ O₁ ∷ ‵ O₂ ∷ ‵ O₃ ∷ ‵ O₄ ∷ ‵ O₅ ∷ ‵ (finally S.the-row γ zs) ∷ ‵ (P.the-row .own r (w ∷ [])) ∷ [])) (Post w)
   exits r w c zs number count wrote long =
       qed W ((‵ (flft κ₁ q₁) ⊛ ‵ (flft κ₆ q₆) ⊛ ‵ ftrue) ∷ (‵ (flft κ₂ q₂) ⊛ ‵ ftrue) ∷ ‵ (flft κ₃ q₃) ∷ ‵ (flft κ₄ q₄) ∷ ‵ (flft κ₅ q₅) ∷ ‵ O₁ ∷ ‵ O₂ ∷ ‵ O₃ ∷ ‵ O₄ ∷ ‵ O₅ ∷ ‵ (finally S.the-row γ zs) ∷ ‵ (P.the-row .own r (w ∷ [])) ∷ []) ∵
-      suffices ! (sep 𝓤 (sep 𝓤 (sep 𝓤 (Had r w zs) (fact 𝓤 (Number r))) (fact 𝓤 (Place r))) (fact 𝓤 (Left r zs)))
-      (via 𝓤 (sep 𝓤 (sep 𝓤 (Had r w zs) (fact 𝓤 (Number r))) (sep 𝓤 (fact 𝓤 (Place r)) (fact 𝓤 (Left r zs)))) (assoc∗ 𝓤 (sep 𝓤 (Had r w zs) (fact 𝓤 (Number r))) (fact 𝓤 (Place r)) (fact 𝓤 (Left r zs)))
-      (via 𝓤 (sep 𝓤 (Had r w zs) (sep 𝓤 (fact 𝓤 (Number r)) (sep 𝓤 (fact 𝓤 (Place r)) (fact 𝓤 (Left r zs))))) (assoc∗ 𝓤 (Had r w zs) (fact 𝓤 (Number r)) (sep 𝓤 (fact 𝓤 (Place r)) (fact 𝓤 (Left r zs))))
-      (ends-at 𝓤 H A f.ended stayed (f.clauses 𝓤 H A at-mem run) W bound w r (tt, (tt, (tt, (tt, (tt, (zs, tt)))))) (tt, (tt, (tt, (tt, (tt, (long, tt))))))))) $
-      says ! (leaves l (s₅ .now) xs r c zs number count wrote) $ says ! (no-place r) $ says ! number $
+      suffices ! (sep 𝓤 (sep 𝓤 (Had r w zs) (fact 𝓤 (Told r))) (fact 𝓤 (Left r zs)))
+      (via 𝓤 (sep 𝓤 (Had r w zs) (sep 𝓤 (fact 𝓤 (Told r)) (fact 𝓤 (Left r zs)))) (assoc∗ 𝓤 (Had r w zs) (fact 𝓤 (Told r)) (fact 𝓤 (Left r zs)))
+      (ends-at 𝓤 H A f.ended stayed (f.clauses 𝓤 H A at-mem run) W bound w r (tt, (tt, (tt, (tt, (tt, (zs, tt)))))) (tt, (tt, (tt, (tt, (tt, (long, tt)))))))) $
+      says ! (leaves l (s₅ .now) xs r c zs number count wrote) $ says ! (refusal-told r number) $
       -- the tokens in their order
       split ! $ move ! (2 ∷ []) $ split ! $ move ! (6 ∷ 3 ∷ []) $ join ! $ move ! (5 ∷ 0 ∷ []) $ join ! $ move ! (4 ∷ 0 ∷ []) $ join ! $ move ! (1 ∷ 0 ∷ []) $ join ! $ move ! (2 ∷ 0 ∷ []) $ join ! $ frame ! $
       -- [true; what the five lists own; the last list; the answer]

@@ -1,11 +1,12 @@
 -- `panel::status::worker_status_bytes` meets its contract: a byte list of another length is refused, and the tests of the others are those of the
 -- report in structs. Assumes nothing.
 use borrow.Author.Needs.{needs}
-use mathlib.Core.Path.{refl, _∙_}
+use mathlib.Core.Path.{refl, ap, _∙_}
 use lib.ListN.{length}
 use Rattle.state_bytes.specs.Layout.{Lists, lists}
+use Rattle.s10.specs.Refusal.{plain}
 use Rattle.panel.specs.Reports.{reportLeft}
-use Rattle.panel.proofs.Reporting.{refuses-report, as-wanted, no-place}
+use Rattle.panel.proofs.Reporting.{refuses-report, as-wanted, refusal-told}
 use Rattle.panel.proofs.status.worker_status_bytes.Statement.{statement}
 use Rattle.panel.proofs.status.worker_status_bytes.Tie as tie
 
@@ -21,7 +22,7 @@ returns : tie.Need-returns
 unfolding reportLeft
 returns c =
     let start = entry (c .before) in
-    (refuses-report (given start) (start .args .commands .now) (length (start .args .bytes .now)) 128 (c .if1 .taken), (refl, refl))
+    (ap plain (refuses-report (given start) (start .args .commands .now) (length (start .args .bytes .now)) 128 (c .if1 .taken)), refl)
 
 status-as-bytes-requires : tie.Need-status-as-bytes-requires
 status-as-bytes-requires c κs = search needs
@@ -35,7 +36,7 @@ returns-2 c =
     let else1 = call .before .before in
     let start = entry (else1 .before) in
     let number = call .status-as-bytes .ensures .0 ∙ as-wanted (given start) (start .args .commands .now) (length (start .args .bytes .now)) 128 (else1 .if1 .left) in
-    (number, (no-place (call .status-as-bytes .result), call .status-as-bytes .ensures .1))
+    (refusal-told (call .status-as-bytes .result) number, call .status-as-bytes .ensures .1)
 
 pub worker-status-bytes-spec : {M : Type 1} → statement M
 worker-status-bytes-spec =
