@@ -183,11 +183,21 @@ fn weighted_sum(digits: &[u8]) -> u64
     sum
 }
 
+// The remainder by 11 of a weighted sum, without dividing: 11 * 373 is 4096 and 7 more, too little to change the quotient of a sum up to 396.
+fn remainder_by_11(sum: u64) -> u64
+    requires { ⌜ sum ≤ 396 ⌝ }
+    ensures { λ r. ⌜ r ≡ sum % 11 ⌝ }
+{
+    let quotient = (sum * 373) >> 12;
+    sum - 11 * quotient
+}
+
 // The check digit of a weighted sum: 11 less the remainder by 11, with 10 and 11 replaced.
 fn check_of(sum: u64) -> u64
+    requires { ⌜ sum ≤ 396 ⌝ }
     ensures { λ r. ⌜ r ≡ excepted (11 - sum % 11) ⌝ }
 {
-    match 11 - sum % 11 {
+    match 11 - remainder_by_11(sum) {
         10 => 0,
         11 => 5,
         c => c,

@@ -7,20 +7,23 @@ use Rattle.s10.proofs.check_of.Tie as tie
 use Rattle.s10.proofs.check_of.Reads as reads
 use Rattle.s10.proofs.check_of.Lts as lts
 
+remainder-by-11-requires : tie.Need-remainder-by-11-requires
+remainder-by-11-requires c κs = search needs
+
 sub-match : tie.Need-sub-match
 sub-match c = search needs
 
 returns : tie.Need-returns
 unfolding excepted
-returns c = simp (c .match .keys1)
+returns c = rw (← (c .before .remainder-by-11 .ensures)) (simp (c .match .keys1))
 
 returns-2 : tie.Need-returns-2
 unfolding excepted
-returns-2 c = simp (c .match .keys2)
+returns-2 c = rw (← (c .before .remainder-by-11 .ensures)) (simp (c .match .keys2))
 
 returns-3 : tie.Need-returns-3
 unfolding excepted
-returns-3 c = simp (ne-eqb _ _ (c .match .rest .0 .1), ne-eqb _ _ (c .match .rest .1))
+returns-3 c = rw (← (c .before .remainder-by-11 .ensures)) (simp (ne-eqb _ _ (c .match .rest .0 .1), ne-eqb _ _ (c .match .rest .1)))
 
 pub check-of-spec : {M : Type 1} → statement M
-check-of-spec = tie.close (tie.spec sub-match returns returns-2 returns-3)
+check-of-spec = tie.close (tie.spec remainder-by-11-requires sub-match returns returns-2 returns-3)
