@@ -64,7 +64,7 @@ impl Reason {
 impl Identifier {
     pub const LENGTH: usize = 13;
 
-    pub const WEIGHTS: [u64; 8] = [8, 6, 4, 2, 3, 5, 9, 7];
+    pub const WEIGHTS: [u16; 8] = [8, 6, 4, 2, 3, 5, 9, 7];
 
     pub const LARGEST_KEY: u64 = 45_697_599_999_999;
 
@@ -169,7 +169,7 @@ fn reason_at(i: usize) -> Reason
 }
 
 // The eight digits, each times its weight, added.
-fn weighted_sum(digits: &[u8]) -> u64
+fn weighted_sum(digits: &[u8]) -> u16
     requires { ⌜ Serial (now digits) ⌝ }
     ensures { λ r. ⌜ r ≡ weighted weights (values (now (digits .entry))) ⌝ }
     ensures { λ r. ⌜ r ≤ 396 ⌝ }
@@ -177,23 +177,24 @@ fn weighted_sum(digits: &[u8]) -> u64
     let mut sum = 0;
     let mut k = 0;
     while k < Identifier::WEIGHTS.len() {
-        sum += Identifier::WEIGHTS[k] * (digits[k] - b'0') as u64;
+        sum += Identifier::WEIGHTS[k] * (digits[k] - b'0') as u16;
         k += 1;
     }
     sum
 }
 
-// The remainder by 11 of a weighted sum, without dividing: 11 * 373 is 4096 and 7 more, too little to change the quotient of a sum up to 396.
-fn remainder_by_11(sum: u64) -> u64
+// The remainder by 11 of a weighted sum, without dividing, in 16 bits. 11 * 93 is 1024 less 1, so that a quotient, 36 at the most, lacks at
+// most 36; these are added.
+fn remainder_by_11(sum: u16) -> u16
     requires { ⌜ sum ≤ 396 ⌝ }
     ensures { λ r. ⌜ r ≡ sum % 11 ⌝ }
 {
-    let quotient = (sum * 373) >> 12;
+    let quotient = (sum * 93 + 36) >> 10;
     sum - 11 * quotient
 }
 
 // The check digit of a weighted sum: 11 less the remainder by 11, with 10 and 11 replaced.
-fn check_of(sum: u64) -> u64
+fn check_of(sum: u16) -> u16
     requires { ⌜ sum ≤ 396 ⌝ }
     ensures { λ r. ⌜ r ≡ excepted (11 - sum % 11) ⌝ }
 {

@@ -7,6 +7,7 @@ mod identifiers;
 mod lists;
 mod pairs;
 pub mod runs;
+mod sums;
 
 use crate::identifier::{self, LARGEST_KEY};
 use crate::random::Random;
@@ -76,6 +77,7 @@ pub fn cases(seed: u64) -> Vec<(Sort, Case)> {
     ];
     sorts
         .into_iter()
+        .chain(sums::cases(random))
         .flat_map(|(sort, cases)| cases.into_iter().map(move |case| (sort, case)))
         .collect()
 }

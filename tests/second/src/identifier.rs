@@ -12,10 +12,12 @@ pub const CHECK_DIGIT: usize = 10;
 pub const LETTERS: [usize; 4] = [0, 1, 11, 12];
 /// The key of ZZ999999995ZZ.
 pub const LARGEST_KEY: u64 = 45_697_599_999_999;
-
-const WEIGHTS: [u32; 8] = [8, 6, 4, 2, 3, 5, 9, 7];
-const PAIRS: u64 = 676;
-const SERIALS: u64 = 100_000_000;
+/// What the digits of the serial are multiplied by.
+pub const WEIGHTS: [u32; 8] = [8, 6, 4, 2, 3, 5, 9, 7];
+/// How many pairs of letters there are.
+pub const PAIRS: u64 = 676;
+/// How many serials there are.
+pub const SERIALS: u64 = 100_000_000;
 
 /// The key of an identifier, or refusal 8, 13 or 9 with the first faulty character: 8 or 13 is
 /// tested first, and the character is 0 where the length is wrong.

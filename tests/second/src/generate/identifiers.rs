@@ -60,7 +60,10 @@ pub fn read_cases(random: &mut Random) -> Vec<Case> {
             .flat_map(|base| every_byte_everywhere(base))
             .collect(),
         bases.iter().flat_map(|base| every_length(base)).collect(),
-        repeat(500, random, every_check_digit).concat(),
+        repeat(500, random, random_text)
+            .iter()
+            .flat_map(|text| every_check_digit(text))
+            .collect(),
         repeat(4_000, random, twice_damaged),
         two_faults(&random_text(random)),
         one_fault(&random_text(random))
@@ -86,12 +89,12 @@ pub fn write_cases(random: &mut Random) -> Vec<Case> {
 }
 
 /// Reads a text into a list of this length.
-fn read(text: Vec<u8>, length: usize) -> Case {
+pub fn read(text: Vec<u8>, length: usize) -> Case {
     vec![Step::ReadIdentifier(text, length)]
 }
 
 /// Writes a key into a list of this length.
-fn write(key: u64, length: usize) -> Case {
+pub fn write(key: u64, length: usize) -> Case {
     vec![Step::WriteIdentifier(key, length)]
 }
 
@@ -108,10 +111,10 @@ fn random_text(random: &mut Random) -> Vec<u8> {
     text(random_key(random))
 }
 
-fn every_check_digit(random: &mut Random) -> Vec<Vec<u8>> {
-    let base = random_text(random);
+/// A text with each of the ten check digits, from 0 on.
+pub fn every_check_digit(text: &[u8]) -> Vec<Vec<u8>> {
     (b'0'..=b'9')
-        .map(|digit| with_byte(&base, CHECK_DIGIT, digit))
+        .map(|digit| with_byte(text, CHECK_DIGIT, digit))
         .collect()
 }
 
