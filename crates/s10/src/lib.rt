@@ -183,8 +183,8 @@ fn weighted_sum(digits: &[u8]) -> u16
     sum
 }
 
-// The remainder by 11 of a weighted sum, without dividing, in 16 bits. 11 * 93 is 1024 less 1, so that a quotient, 36 at the most, lacks at
-// most 36; these are added.
+// The remainder by 11 of a weighted sum, without dividing. 11 * 93 is 1024 less 1, so the product lacks 1 for each 11 in the sum: at most 36,
+// which are added.
 fn remainder_by_11(sum: u16) -> u16
     requires { ⌜ sum ≤ 396 ⌝ }
     ensures { λ r. ⌜ r ≡ sum % 11 ⌝ }

@@ -4,8 +4,6 @@ use borrow.Author.Tests.{ne-eqb}
 use Rattle.s10.specs.Text.{excepted}
 use Rattle.s10.proofs.check_of.Statement.{statement}
 use Rattle.s10.proofs.check_of.Tie as tie
-use Rattle.s10.proofs.check_of.Reads as reads
-use Rattle.s10.proofs.check_of.Lts as lts
 
 remainder-by-11-requires : tie.Need-remainder-by-11-requires
 remainder-by-11-requires c κs = search needs

@@ -4,8 +4,6 @@ use native.Mathlib.Omega.{arith}
 use borrow.Author.Needs.{needs}
 use Rattle.s10.proofs.remainder_by_11.Statement.{statement}
 use Rattle.s10.proofs.remainder_by_11.Tie as tie
-use Rattle.s10.proofs.remainder_by_11.Reads as reads
-use Rattle.s10.proofs.remainder_by_11.Lts as lts
 
 mul-quotient : tie.Need-mul-quotient
 mul-quotient c = search needs
