@@ -68,7 +68,7 @@ key-fits commands zero c at = absurd (none-some none refl at)
 key-fits commands (suc i) c at = omega (arith, list-key-is-at-most-largest commands i c at)
 
 module _ (o : Setup) (acc : Accepted o) (commands : List ℕ) (same : o .commands ≡ commandsIn commands) (long : length commands ≡ 16 * length (o .commands)) where
-  -- the numbers of a reached state's lists fit: each key is a command's or 0, and an answer is at most 1003
+  -- the numbers of a reached state's lists fit: each key is a command's or 0, and an answer is a number of two bytes
   state-bounded : (ts : List ℕ) → allWithin (o .workers) ts ≡ true → Bounded (listsOf o (steps o ts (opened o)))
   state-bounded ts within =
       let s : State = steps o ts (opened o) in

@@ -1,5 +1,5 @@
--- Bounds of what schedules reach: each key of the store is a command's or 0, and each answer is at most 1003. Assumes nothing.
-use Prim.Native.Nat.{ℕ, zero, suc, _-_, _≤_}
+-- Bounds of what schedules reach: each key of the store is a command's or 0, and each answer is a number of two bytes. Assumes nothing.
+use Prim.Native.Nat.{ℕ, zero, suc, _-_, _<_}
 use native.Mathlib.Omega.{arith}
 use mathlib.Core.Path.{_≡_, refl}
 use mathlib.Core.Bool.{Bool, true}
@@ -48,36 +48,36 @@ keys-each P capacity es = laid-each P (capacity - length es) es
 
 -- ---- answers
 
--- every chute is at most the largest answer
+-- every chute is a number of two bytes
 abbrev ChutesFit : List Entry → Type 0
-ChutesFit es = All (λ (e : Entry). e .chute ≤ 1003) es
+ChutesFit es = All (λ (e : Entry). e .chute < 65536) es
 
 -- the chute of a key is an entry's, or 0
-chuteAt-fits : (key : ℕ) (es : List Entry) → ChutesFit es → chuteAt key es ≤ 1003
+chuteAt-fits : (key : ℕ) (es : List Entry) → ChutesFit es → chuteAt key es < 65536
 unfolding chuteAt
 chuteAt-fits key [] h = omega arith
-chuteAt-fits key (e ∷ es) h = cond-cases (λ (n : ℕ). n ≤ 1003) (eqb (e .key) key) (λ _. h .0) (λ _. chuteAt-fits key es (h .1))
+chuteAt-fits key (e ∷ es) h = cond-cases (λ (n : ℕ). n < 65536) (eqb (e .key) key) (λ _. h .0) (λ _. chuteAt-fits key es (h .1))
 
--- an answer is a chute found, or 1000 to 1003
-answer-fits : (k : Kind) (capacity key chute : ℕ) (es : List Entry) → ChutesFit es → serveKind k capacity key chute es .answer ≤ 1003
+-- an answer is a chute found, or one of the few numbers from 1000 on
+answer-fits : (k : Kind) (capacity key chute : ℕ) (es : List Entry) → ChutesFit es → serveKind k capacity key chute es .answer < 65536
 unfolding serveKind
 answer-fits Insert capacity key chute es h =
-    cond-cases (λ (s : Served). s .answer ≤ 1003) (present key es) (λ _. omega arith)
-    (λ _. cond-cases (λ (s : Served). s .answer ≤ 1003) (leb capacity (length es)) (λ _. omega arith) (λ _. omega arith))
-answer-fits Delete capacity key chute es h = cond-cases (λ (s : Served). s .answer ≤ 1003) (present key es) (λ _. omega arith) (λ _. omega arith)
-answer-fits Read capacity key chute es h = cond-cases (λ (s : Served). s .answer ≤ 1003) (present key es) (λ _. chuteAt-fits key es h) (λ _. omega arith)
-answer-fits Update capacity key chute es h = cond-cases (λ (s : Served). s .answer ≤ 1003) (present key es) (λ _. omega arith) (λ _. omega arith)
+    cond-cases (λ (s : Served). s .answer < 65536) (present key es) (λ _. omega arith)
+    (λ _. cond-cases (λ (s : Served). s .answer < 65536) (leb capacity (length es)) (λ _. omega arith) (λ _. omega arith))
+answer-fits Delete capacity key chute es h = cond-cases (λ (s : Served). s .answer < 65536) (present key es) (λ _. omega arith) (λ _. omega arith)
+answer-fits Read capacity key chute es h = cond-cases (λ (s : Served). s .answer < 65536) (present key es) (λ _. chuteAt-fits key es h) (λ _. omega arith)
+answer-fits Update capacity key chute es h = cond-cases (λ (s : Served). s .answer < 65536) (present key es) (λ _. omega arith) (λ _. omega arith)
 
 answers-fit : (capacity : ℕ) (cs : List Command) (es : List Entry) (n : ℕ) → ChutesFit es
-    → ((j : ℕ) (c : Command) → getElem? cs j ≡ some c → c .chute ≤ 1003) → getD (answersAfter capacity cs es) n 0 ≤ 1003
+    → ((j : ℕ) (c : Command) → getElem? cs j ≡ some c → c .chute < 65536) → getD (answersAfter capacity cs es) n 0 < 65536
 unfolding answersAfter serve
 answers-fit capacity [] es n h fit = omega arith
 answers-fit capacity (c ∷ cs) es zero h fit = answer-fits (c .kind) capacity (c .key) (c .chute) es h
 answers-fit capacity (c ∷ cs) es (suc n) h fit =
-    answers-fit capacity cs (serve capacity c es .entries) n (serve-each (λ (e : Entry). e .chute ≤ 1003) capacity c es (fit 0 c refl) h) (λ j. fit (suc j))
+    answers-fit capacity cs (serve capacity c es .entries) n (serve-each (λ (e : Entry). e .chute < 65536) capacity c es (fit 0 c refl) h) (λ j. fit (suc j))
 
--- the serial run's answers are at most 1003, since a chute that fits its kind is at most 512
-pub serial-fits : (o : Setup) → Accepted o → (c : ℕ) → serialAnswer o c ≤ 1003
+-- the serial run's answers are such, since a chute that fits its kind is at most 512
+pub serial-fits : (o : Setup) → Accepted o → (c : ℕ) → serialAnswer o c < 65536
 unfolding serialAnswer serialAnswers commandAt
 serial-fits o acc zero = omega arith
 serial-fits o acc (suc n) =
@@ -93,7 +93,7 @@ module _ (o : Setup) (acc : Accepted o) (ts : List ℕ) (within : allWithin (o .
       rw (table-at-any-moment o acc ts within) (keys-each P (o .capacity) _ none (entries-each (λ (e : Entry). P (e .key)) o _ own) i)
 
   -- each answer is 0 or the serial run's
-  pub reached-answers : EachCommand o (λ c. steps o ts (opened o) .service .answers c ≤ 1003)
+  pub reached-answers : EachCommand o (λ c. steps o ts (opened o) .service .answers c < 65536)
   reached-answers c low high =
       rw (demand-3 o acc ts within .answer c low high)
-      (cond-cases (λ (n : ℕ). n ≤ 1003) (wrote o c ts (opened o)) (λ _. serial-fits o acc c) (λ _. omega arith))
+      (cond-cases (λ (n : ℕ). n < 65536) (wrote o c ts (opened o)) (λ _. serial-fits o acc c) (λ _. omega arith))
