@@ -105,9 +105,9 @@ enum depot_kind { DEPOT_INSERT = 1, DEPOT_DELETE = 2, DEPOT_READ = 3, DEPOT_UPDA
 enum depot_answer {
     DEPOT_NOT_YET = 0,
     DEPOT_DONE = 1000,
-    DEPOT_ALREADY_PRESENT = 1001, /* insert */
-    DEPOT_NO_SUCH_ITEM = 1002,    /* delete, read, update */
-    DEPOT_STORE_FULL = 1003       /* insert */
+    DEPOT_NO_SUCH_ITEM = 1002,   /* delete, read, update */
+    DEPOT_STORE_FULL = 1003,     /* insert of an absent item: no place left */
+    DEPOT_ANNOUNCED_AGAIN = 1004 /* insert of a present item, also in a full store: it has the new chute */
 };
 
 /* States of a party. The loader is idle or loading, a worker anything but loading. */

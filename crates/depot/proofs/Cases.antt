@@ -20,7 +20,7 @@ use Rattle.model.specs.Statement.{allWithin}
 use Rattle.state_bytes.specs.Bytes.{numberAt, tabulate, fields}
 use Rattle.state_bytes.specs.Layout.{listsOf, stateLength, lengthsFit}
 use Rattle.controller.specs.Calls.{accepted, openedWith, openOn}
-use Rattle.depot.specs.Cases.{command, full, writtenInFull, input, stopped, Marked}
+use Rattle.depot.specs.Cases.{command, full, corrected, writtenInFull, input, stopped, Marked}
 use Rattle.depot.specs.Program.{decimalWithin, decimal, zeros, commandLine, commandLines, totals, workersOf, scheduleOf, opening}
 use Rattle.depot.specs.Reached.{inputSetup, InputPasses}
 use Rattle.depot.proofs.Reached.{prints-reached}
@@ -47,7 +47,7 @@ unfolding input numberAt
 stopped-passes = record { short = omega arith; whole = omega arith; lists = _; opens = accepts-9 .0; named = accepts-9 .1 }
 
 pub marked : Marked
-unfolding checkDigit digits readText firstFault keyOf largestKey areDependent command serve full writtenInFull writeKind layOut input numberAt steps opened upd noneBelow lookUp insert readings commandsIn commandFrom tabulate fields commandLines commandLine decimal decimalWithin totals chainFrom
+unfolding checkDigit digits readText firstFault keyOf largestKey areDependent command serve full corrected writtenInFull writeKind layOut input numberAt steps opened upd noneBelow lookUp insert readings commandsIn commandFrom tabulate fields commandLines commandLine decimal decimalWithin totals chainFrom
 marked = record {
   a = refl;
   b = refl;

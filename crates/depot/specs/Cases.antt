@@ -12,7 +12,7 @@ use Rattle.command.specs.declared.Kind.{Kind}
 use Rattle.command.specs.declared.Kind.the-variants.{Insert, Read, Update}
 use Rattle.command.specs.declared.Command.{Command}
 use Rattle.command.specs.Dependent.{areDependent}
-use Rattle.model.specs.Serial.{Entry, serve}
+use Rattle.model.specs.Serial.{Entry, served, serve}
 use Rattle.model.specs.Store.{layOut, lookUp}
 use Rattle.model.specs.Service.{Write, write, writeKind}
 use Rattle.depot.specs.Text.{ascii}
@@ -24,6 +24,10 @@ command kind key chute = record { kind = kind; key = key; chute = chute }
 -- a full store: room for one entry, item 1 with chute 9
 unfoldable pub full : List Entry
 full = record { key = 1; chute = 9 } ∷ []
+
+-- the same with another chute
+unfoldable pub corrected : List Entry
+corrected = record { key = 1; chute = 7 } ∷ []
 
 -- what the steps write for a command in that store, after looking its key up
 unfoldable pub writtenInFull : Command → Write
@@ -55,10 +59,11 @@ pub record Marked : Type 0 where
   pub g : areDependent (command Update 1 7) (command Read 1 0) ≡ true
   -- "so are an insert and a read of another key"
   pub h : areDependent (command Insert 1 7) (command Read 2 0) ≡ true
-  -- "insert of a present item into a full store: 1001": in the serial run, and as the steps write it
-  pub i : (serve 1 (command Insert 1 7) full .answer ≡ 1001) × (writtenInFull (command Insert 1 7) ≡ write 1001 (layOut 1 full))
+  -- "insert of a present item into a full store": "becomes 1004, with the chute changed even in a full store" (02, A.7), in the serial run and as
+  -- the steps write it
+  pub i : (serve 1 (command Insert 1 7) full ≡ served 1004 corrected) × (writtenInFull (command Insert 1 7) ≡ write 1004 (layOut 1 corrected))
   -- "of an absent one: 1003"
-  pub j : (serve 1 (command Insert 2 7) full .answer ≡ 1003) × (writtenInFull (command Insert 2 7) ≡ write 1003 (layOut 1 full))
+  pub j : (serve 1 (command Insert 2 7) full ≡ served 1003 full) × (writtenInFull (command Insert 2 7) ≡ write 1003 (layOut 1 full))
   -- "the run above": "Output, whole"
   pub k : output input ≡ ascii "1 insert AA000000005AA 1000\n2 read AA000000005AA 7\nstore 1 chain 0\n"
   -- "the same stopped after 9 turns: answers 1000 and 0, store 1, chain 2"

@@ -30,7 +30,7 @@ pub struct Written {
     pub used: usize,
 }
 
-// The answer of an insert after its lookup, with the store changed where there is room.
+// The answer of an insert after its lookup: an item that was found gets the chute, else the store is changed where there is room.
 fn serve_insert(
     key: u64,
     chute: u16,
@@ -42,7 +42,8 @@ fn serve_insert(
     ensures { λ r. ⌜ writeKind Insert (length (now (keys .entry))) key chute found (storeOf (now (keys .entry)) (now (chutes .entry)) used) ≡ writing (r .answer) (storeOf (now (keys .exit)) (now (chutes .exit)) (r .used)) ⌝ }
 {
     if found != 0 {
-        return Written { answer: 1001, used };
+        store::replace(keys, chutes, used, key, chute);
+        return Written { answer: 1004, used };
     }
     if keys.len() <= used {
         return Written { answer: 1003, used };

@@ -5,6 +5,7 @@ pub mod Commute
 pub mod Serial
 pub mod Store
 pub mod Write
+pub mod InOrder
 pub mod Service
 pub mod Consistent
 pub mod Chain

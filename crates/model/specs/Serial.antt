@@ -49,9 +49,10 @@ served answer entries = record { answer = answer; entries = entries }
 -- one command of the kind, with its key and chute
 unfoldable pub serveKind : Kind → ℕ → ℕ → ℕ → List Entry → Served
 unfolding present chuteAt putIn takeOut setChute
--- "Insert: key present, 1001; else as many entries as the room, 1003; else the entry is put in where its key belongs, 1000."
+-- "An insert of a present item sets its chute and answers 1004" (02, A.7); "else as many entries as the room, 1003; else the entry is put in
+-- where its key belongs, 1000."
 serveKind Insert capacity key chute es =
-    cond (present key es) (served 1001 es) (cond (leb capacity (length es)) (served 1003 es) (served 1000 (putIn (record { key = key; chute = chute }) es)))
+    cond (present key es) (served 1004 (setChute key chute es)) (cond (leb capacity (length es)) (served 1003 es) (served 1000 (putIn (record { key = key; chute = chute }) es)))
 -- "Delete: key absent, 1002; else its entry is taken out, 1000."
 serveKind Delete capacity key chute es = cond (present key es) (served 1000 (takeOut key es)) (served 1002 es)
 -- "Read: absent, 1002; else its chute."

@@ -35,11 +35,12 @@ pub record Write : Type 0 where
 abbrev pub write : ℕ → Store → Write
 write answer st = record { answer = answer; store = st }
 
--- what a command answers and writes, after its lookup: "1 to 512 the chute read; 1000 done; 1001 insert, already present (tested before
--- full); 1002 delete, read or update, no such item; 1003 insert, store full. Answers 1001 to 1003 change no store entry."
+-- what a command answers and writes, after its lookup: "1 to 512 the chute read; 1000 done"; "an insert of a present item sets its chute
+-- and answers 1004" (02, A.7), "tested before full; 1002 delete, read or update, no such item; 1003 insert, store full": these two "change no
+-- store entry"
 unfoldable pub writeKind : Kind → ℕ → ℕ → ℕ → ℕ → Store → Write
 writeKind Insert capacity key chute found st =
-    cond (eqb found 0) (cond (leb capacity (st .used)) (write 1003 st) (write 1000 (insert key chute st))) (write 1001 st)
+    cond (eqb found 0) (cond (leb capacity (st .used)) (write 1003 st) (write 1000 (insert key chute st))) (write 1004 (replace key chute st))
 writeKind Delete capacity key chute found st = cond (eqb found 0) (write 1002 st) (write 1000 (remove key st))
 writeKind Read capacity key chute found st = cond (eqb found 0) (write 1002 st) (write found st)
 writeKind Update capacity key chute found st = cond (eqb found 0) (write 1002 st) (write 1000 (replace key chute st))

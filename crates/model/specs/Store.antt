@@ -61,15 +61,6 @@ shiftUp p n v l = take p l ++ (v ∷ take (n - p) (drop p l)) ++ drop (n + 1) l
 unfoldable pub shiftDown : ℕ → ℕ → List ℕ → List ℕ
 shiftDown p n l = take p l ++ take (n - (p + 1)) (drop (p + 1) l) ++ (0 ∷ drop n l)
 
--- a new key and its chute; nothing changes where the key is held or no place is left
-unfoldable pub insert : ℕ → ℕ → Store → Store
-unfolding holds shiftUp
-insert key chute st = cond (holds key st || leb (room st) (inUse st)) st (record {
-  keys = shiftUp (keyPlace key st) (inUse st) key (st .keys);
-  chutes = shiftUp (keyPlace key st) (inUse st) chute (st .chutes);
-  used = inUse st + 1;
-})
-
 -- a key and its chute are gone; nothing changes where the key is not held
 unfoldable pub remove : ℕ → Store → Store
 unfolding holds shiftDown
@@ -87,3 +78,12 @@ replace key chute st = cond (holds key st) (record {
   chutes = set (st .chutes) (keyPlace key st) chute;
   used = st .used;
 }) st
+
+-- a key and its chute: a key that is held gets the chute, and nothing changes where it is not and no place is left
+unfoldable pub insert : ℕ → ℕ → Store → Store
+unfolding replace shiftUp
+insert key chute st = cond (holds key st) (replace key chute st) (cond (leb (room st) (inUse st)) st (record {
+  keys = shiftUp (keyPlace key st) (inUse st) key (st .keys);
+  chutes = shiftUp (keyPlace key st) (inUse st) chute (st .chutes);
+  used = inUse st + 1;
+}))

@@ -4,7 +4,7 @@ use native.Mathlib.Omega.{arith}
 use mathlib.Core.Bool.{Bool, true, false, cond, _&&_, _||_}
 use mathlib.Core.Path.{_≡_, sym, ap, _∙_}
 use mathlib.Core.List.{List}
-use borrow.Author.Tests.{leb-false}
+use borrow.Author.Tests.{le-leb, lt-leb}
 use lib.ListN.{length, getD, set}
 use lib.Dec.{ltb, leb, eqb}
 use Rattle.model.specs.Store.{Store, inUse, halve, keyPlace, holds, lookUp, insert, remove, replace, shiftUp, shiftDown}
@@ -46,19 +46,20 @@ module _ {key : ℕ} {st : Store} {found : Found} (f : Finds key st found) where
 
   module _ {both : ℕ} (b : both ≡ min (length (st .keys)) (length (st .chutes))) where
     -- Where a place is left, both lists have one more place than are in use.
-    pub room-within : leb both (found .in_use) ≡ false
+    pub room-within : found .in_use < both
         → (found .at ≤ found .in_use) × (found .in_use < length (st .keys)) × (found .in_use < length (st .chutes))
-    room-within left = omega (arith, f .within, leb-false both (found .in_use) left)
+    room-within left = omega (arith, f .within)
 
-    pub inserted : (chute : ℕ) {keys chutes : List ℕ} → (found .held || leb both (found .in_use)) ≡ false
+    -- An absent key is put in where a place is left.
+    pub inserted : (chute : ℕ) {keys chutes : List ℕ} → found .held ≡ false → found .in_use < both
         → keys ≡ shiftUp (found .at) (found .in_use) key (st .keys) → chutes ≡ shiftUp (found .at) (found .in_use) chute (st .chutes)
         → storeOf keys chutes (found .in_use + 1) ≡ insert key chute st
     unfolding insert
-    inserted chute e k c = rw (k, c, f .place, f .in-use) (picked _ _ (rw (b, f .held, f .in-use) at e))
+    inserted chute absent left k c = rw (k, c, f .place, f .in-use, ← (f .held), absent) (picked _ _ (rw (b, f .in-use) at (lt-leb _ _ left)))
 
-    pub not-inserted : (chute : ℕ) → (found .held || leb both (found .in_use)) ≡ true → st ≡ insert key chute st
+    pub not-inserted : (chute : ℕ) → found .held ≡ false → both ≤ found .in_use → st ≡ insert key chute st
     unfolding insert
-    not-inserted chute e = picked _ _ (rw (b, f .held, f .in-use) at e)
+    not-inserted chute absent none = rw (← (f .held), absent) (picked _ _ (rw (b, f .in-use) at (le-leb _ _ none)))
 
   pub removed : {keys chutes : List ℕ} → found .held ≡ true
       → keys ≡ shiftDown (found .at) (found .in_use) (st .keys) → chutes ≡ shiftDown (found .at) (found .in_use) (st .chutes)
@@ -74,6 +75,12 @@ module _ {key : ℕ} {st : Store} {found : Found} (f : Finds key st found) where
       → storeOf (st .keys) (set (st .chutes) (found .at) chute) (st .used) ≡ replace key chute st
   unfolding replace
   replaced chute held = rw (f .place) (picked _ _ (sym (f .held) ∙ held))
+
+  -- A held key gets the chute by inserting, too.
+  pub inserted-again : (chute : ℕ) → found .held ≡ true
+      → storeOf (st .keys) (set (st .chutes) (found .at) chute) (st .used) ≡ insert key chute st
+  unfolding insert
+  inserted-again chute held = rw (f .place, ← (f .held), held)
 
   pub not-replaced : (chute : ℕ) → found .held ≡ false → st ≡ replace key chute st
   unfolding replace

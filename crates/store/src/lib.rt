@@ -133,19 +133,24 @@ pub fn look_up(keys: &[u64], chutes: &[u16], used: usize, key: u64) -> u16
     if found.held { chutes[at] } else { 0 }
 }
 
-// Puts a key and its chute in where the key belongs, with later entries shifted up, and returns the count in use. Nothing
-// changes where the key is held or no place is left.
+// Puts a key and its chute in where the key belongs, with later entries shifted up, and returns the count in use. A key
+// that is held gets the chute. Nothing changes where it is not held and no place is left.
 pub fn insert(keys: &mut [u64], chutes: &mut [u16], used: usize, key: u64, chute: u16) -> usize
     ensures { λ r. ⌜ storeOf (now (keys .exit)) (now (chutes .exit)) r ≡ inserted key chute (storeOf (now (keys .entry)) (now (chutes .entry)) used) ⌝ }
 {
     let room = smaller(keys.len(), chutes.len());
     let found = find(keys, chutes, used, key);
     let n = found.in_use;
-    if found.held || room <= n {
+    let at = found.at;
+    if found.held {
+        chutes[at] = chute;
         return used;
     }
-    shift_up_keys(keys, found.at, n, key);
-    shift_up_chutes(chutes, found.at, n, chute);
+    if room <= n {
+        return used;
+    }
+    shift_up_keys(keys, at, n, key);
+    shift_up_chutes(chutes, at, n, chute);
     n + 1
 }
 

@@ -5,7 +5,7 @@ use native.Mathlib.Omega.{arith}
 use mathlib.Core.Path.{_≡_, refl}
 use mathlib.Core.Bool.{Bool, true, false, cond, false≢true, and-eq-true-iff}
 use mathlib.Mathlib.Data.Bool.Basic.{or-eq-false-eq-eq-false-and-eq-false}
-use mathlib.Core.Logic.{_↔_}
+use mathlib.Core.Logic.{_↔_, _⊎_, inl, inr, ⊎-elim}
 use mathlib.Core.List.{List, [], _∷_}
 use lib.ListN.{length}
 use lib.Dec.{eqb, leb, ltb}
@@ -121,7 +121,7 @@ length-setChute key chute (e ∷ es) =
 pub serve-keeps : (P : List Entry → Type 0) (capacity : ℕ) (c : Command) (es : List Entry) → P es
     → (c .kind ≡ Insert → present (c .key) es ≡ false → length es < capacity → P (putIn (record { key = c .key; chute = c .chute }) es))
     → (present (c .key) es ≡ true → P (takeOut (c .key) es))
-    → (c .kind ≡ Update → P (setChute (c .key) (c .chute) es))
+    → ((c .kind ≡ Insert) ⊎ (c .kind ≡ Update) → P (setChute (c .key) (c .chute) es))
     → P (serve capacity c es .entries)
 unfolding serve
 serve-keeps P capacity c es same put out other = by (c .kind) refl
@@ -130,11 +130,11 @@ serve-keeps P capacity c es same put out other = by (c .kind) refl
     here s = P (s .entries)
 
     by : (kind : Kind) → c .kind ≡ kind → here (serveKind kind capacity (c .key) (c .chute) es)
-    by Insert q = cond-cases here (present (c .key) es) (λ _. same)
+    by Insert q = cond-cases here (present (c .key) es) (λ _. other (inl q))
         (λ a. cond-cases here (leb capacity (length es)) (λ _. same) (λ l. put q a (leb-false _ _ l)))
     by Delete q = cond-cases here (present (c .key) es) out (λ _. same)
     by Read q = cond-cases here (present (c .key) es) (λ _. same) (λ _. same)
-    by Update q = cond-cases here (present (c .key) es) (λ _. other q) (λ _. same)
+    by Update q = cond-cases here (present (c .key) es) (λ _. other (inr q)) (λ _. same)
 
 -- Each of the three changes keeps the order.
 pub serve-ascending : (capacity : ℕ) (c : Command) (es : List Entry) → Ascending es → Ascending (serve capacity c es .entries)
@@ -168,7 +168,7 @@ fitting-brings-positive Update chute h = leb-true 1 chute (and-eq-true-iff (leb 
 pub serve-positive : (capacity : ℕ) (c : Command) (es : List Entry) → BringsPositive (c .kind) (c .chute) → AllPositive es → AllPositive (serve capacity c es .entries)
 serve-positive capacity c es b h =
     serve-keeps AllPositive capacity c es h (λ q _ _. all-putIn _ _ es (rw q at b) h) (λ _. all-takeOut _ _ es h)
-    (λ q. all-setChute _ _ _ es (λ _ _ _. rw q at b) h)
+    (λ q. all-setChute _ _ _ es (λ _ _ _. ⊎-elim (λ i. rw i at b) (λ u. rw u at b) q) h)
 
 -- The chute of an absent key is 0.
 pub chuteAt-absent : (key : ℕ) (es : List Entry) → present key es ≡ false → chuteAt key es ≡ 0

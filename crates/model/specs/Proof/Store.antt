@@ -372,6 +372,11 @@ module _ (capacity key : ℕ) (es : List Entry) (ascending : Ascending es) (fits
       by-held (λ (l : List Entry). length l ≤ capacity → replace key new (layOut capacity l) ≡ layOut capacity (setChute key new l)) there
       (λ front back chute s g f. rw (setChute-held key front back chute s new) (replace-held capacity key front back chute s g f new)) fits
 
+  -- Inserting a present key is replacing its chute.
+  pub insert-is-replace : (chute : ℕ) → present key es ≡ true → insert key chute (layOut capacity es) ≡ replace key chute (layOut capacity es)
+  unfolding insert
+  insert-is-replace chute there = rw (holds-is-present, there)
+
   -- Where the key is absent, removing and replacing change nothing.
   pub remove-absent : present key es ≡ false → remove key (layOut capacity es) ≡ layOut capacity es
   unfolding remove

@@ -32,7 +32,7 @@ module _ (capacity key chute : ℕ) (es : List Entry) (ascending : Ascending es)
 
   same-present : (kind : Kind) → present key es ≡ true → Same kind
   unfolding writeKind serveKind
-  same-present Insert p = rw (found p, p)
+  same-present Insert p = rw (found p, p) (ap (write 1004) (replace-is-setChute capacity key es ascending fits chute p))
   same-present Delete p = rw (found p, p) (ap (write 1000) (remove-is-takeOut capacity key es ascending fits p))
   same-present Read p = rw (found p, p)
   same-present Update p = rw (found p, p) (ap (write 1000) (replace-is-setChute capacity key es ascending fits chute p))

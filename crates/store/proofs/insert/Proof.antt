@@ -1,9 +1,8 @@
--- `store::insert` meets its contract: both lists are shifted up from the place found, where the key is not held and both have a place
--- left. Assumes nothing.
+-- `store::insert` meets its contract: a key that is held gets the chute at the place found; else both lists are shifted up from there, where
+-- both have a place left. Assumes nothing.
 use native.Mathlib.Omega.{arith}
 use borrow.Author.Needs.{needs}
-use mathlib.Core.Logic.{⊎-elim}
-use Rattle.store.proofs.Operations.{room-within, inserted, not-inserted}
+use Rattle.store.proofs.Operations.{held-within, room-within, inserted, not-inserted, inserted-again}
 use Rattle.store.proofs.insert.Statement.{statement}
 use Rattle.store.proofs.insert.Tie as tie
 
@@ -29,6 +28,12 @@ smaller-requires c κs = search needs
 find-requires : tie.Need-find-requires
 find-requires c κs = search needs
 
+mul-chutes : tie.Need-mul-chutes
+mul-chutes c = omega (arith, held-within (c .before .find .ensures) (c .if1 .taken))
+
+slice-write-chutes : tie.Need-slice-write-chutes
+slice-write-chutes c = omega (arith, held-within (c .before .find .ensures) (c .if1 .taken))
+
 same-length : tie.Need-same-length
 same-length c = search needs
 
@@ -36,9 +41,13 @@ same-length-2 : tie.Need-same-length-2
 same-length-2 c = search needs
 
 returns : tie.Need-returns
-returns c =
-    not-inserted (c .before .find .ensures) (compared (c .before) .smaller .ensures) (entry (compared (c .before)) .args .chute)
-    (⊎-elim (λ w. rw (w .taken)) (λ w. rw (w .0 .left) (w .1 .taken)) (c .if1 .came))
+returns c = inserted-again (c .before .find .ensures) (entry (compared (c .before)) .args .chute) (c .if1 .taken)
+
+returns-2 : tie.Need-returns-2
+returns-2 c =
+    let absent = c .before in
+    not-inserted (absent .before .find .ensures) (compared (absent .before) .smaller .ensures) (entry (compared (absent .before)) .args .chute)
+    (absent .if1 .left) (c .if2 .taken)
 
 shift-up-keys-requires : tie.Need-shift-up-keys-requires
 shift-up-keys-requires c κs =
@@ -62,12 +71,19 @@ same-length-3 c = search needs
 same-length-4 : tie.Need-same-length-4
 same-length-4 c = search needs
 
-returns-2 : tie.Need-returns-2
-returns-2 c =
-    let free = room (c .before .before .before) in
+same-length-5 : tie.Need-same-length-5
+same-length-5 c = search needs
+
+same-length-6 : tie.Need-same-length-6
+same-length-6 c = search needs
+
+returns-3 : tie.Need-returns-3
+returns-3 c =
+    let shifted = c .before .before in
+    let free = room (shifted .before) in
     let start = entry (compared (free .before .before)) in
     inserted (free .before .before .find .ensures) (compared (free .before .before) .smaller .ensures) (start .args .chute)
-    (rw (free .before .if1 .left) (free .if2 .left)) (keys-shifted (c .before .before .before) .shift-up-keys .ensures) (c .before .before .shift-up-chutes .ensures)
+    (free .before .if1 .left) (free .if2 .left) (keys-shifted (shifted .before) .shift-up-keys .ensures) (shifted .shift-up-chutes .ensures)
 
 pub insert-spec : {M : Type 1} → statement M
 insert-spec =
@@ -75,12 +91,17 @@ insert-spec =
     (tie.spec
     smaller-requires
     find-requires
+    mul-chutes
+    slice-write-chutes
     same-length
     same-length-2
     returns
+    same-length-3
+    same-length-4
+    returns-2
     shift-up-keys-requires
     shift-up-chutes-requires
     add-result
-    same-length-3
-    same-length-4
-    returns-2)
+    same-length-5
+    same-length-6
+    returns-3)

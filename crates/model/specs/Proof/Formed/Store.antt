@@ -13,7 +13,6 @@ use Rattle.command.specs.declared.Kind.{Kind}
 use Rattle.command.specs.declared.Kind.the-variants.{Insert, Delete, Read, Update}
 use Rattle.model.specs.Store.{Store, layOut, room, inUse, halve, keyPlace, holds, lookUp, shiftUp, shiftDown, insert, remove, replace}
 use Rattle.model.specs.Service.{Write, writeKind}
-use Rattle.model.specs.Proof.Tests.{neither}
 use Rattle.model.specs.Proof.Store.{keyOf, chuteOf, length-laid}
 
 -- of two values that a test picks from
@@ -141,22 +140,6 @@ module _ {capacity : ℕ} (st : Store) (k : StoreFormed capacity st) where
   unfolding lookUp
   lookUp-fits key = either (λ (n : ℕ). n < 65536) (holds key st) (λ _. k .chutes-fit (keyPlace key st)) (λ _. omega arith)
 
-  -- inserting adds a place in use only where one is left
-  pub insert-formed : (key chute : ℕ) → chute < 65536 → StoreFormed capacity (insert key chute st)
-  unfolding insert
-  insert-formed key chute f =
-      either (StoreFormed capacity) (holds key st || leb (room st) (inUse st)) (λ _. k)
-      (λ e.
-      let more : inUse st < room st = leb-false (room st) (inUse st) (neither (holds key st) _ e .1) in
-      let place = placeOf-within key st in
-      let fits : inUse st < capacity = omega (arith, room-capacity) in
-      record {
-        keys-length = shiftUp-length (keyPlace key st) (inUse st) key (st .keys) place (omega (arith, k .keys-length)) ∙ k .keys-length;
-        chutes-length = shiftUp-length (keyPlace key st) (inUse st) chute (st .chutes) place (omega (arith, k .chutes-length)) ∙ k .chutes-length;
-        used-fits = omega arith;
-        chutes-fit = shiftUp-fit (keyPlace key st) (inUse st) chute (st .chutes) f (k .chutes-fit);
-      })
-
   -- removing shifts within the places in use, of which a held key's is one
   pub remove-formed : (key : ℕ) → StoreFormed capacity (remove key st)
   unfolding remove
@@ -186,6 +169,23 @@ module _ {capacity : ℕ} (st : Store) (k : StoreFormed capacity st) where
       })
       (λ _. k)
 
+  -- inserting replaces, or adds a place in use only where one is left
+  pub insert-formed : (key chute : ℕ) → chute < 65536 → StoreFormed capacity (insert key chute st)
+  unfolding insert
+  insert-formed key chute f =
+      either (StoreFormed capacity) (holds key st) (λ _. replace-formed key chute f)
+      (λ _. either (StoreFormed capacity) (leb (room st) (inUse st)) (λ _. k)
+      (λ e.
+      let more : inUse st < room st = leb-false (room st) (inUse st) e in
+      let place = placeOf-within key st in
+      let fits : inUse st < capacity = omega (arith, room-capacity) in
+      record {
+        keys-length = shiftUp-length (keyPlace key st) (inUse st) key (st .keys) place (omega (arith, k .keys-length)) ∙ k .keys-length;
+        chutes-length = shiftUp-length (keyPlace key st) (inUse st) chute (st .chutes) place (omega (arith, k .chutes-length)) ∙ k .chutes-length;
+        used-fits = omega arith;
+        chutes-fit = shiftUp-fit (keyPlace key st) (inUse st) chute (st .chutes) f (k .chutes-fit);
+      }))
+
   -- the store that is written has the shape
   abbrev After : Write → Type 0
   After w = StoreFormed capacity (w .store)
@@ -194,7 +194,7 @@ module _ {capacity : ℕ} (st : Store) (k : StoreFormed capacity st) where
   pub writeKind-formed : (kind : Kind) (room key chute found : ℕ) → chute < 65536 → StoreFormed capacity (writeKind kind room key chute found st .store)
   unfolding writeKind
   writeKind-formed Insert room key chute found f =
-      either After (eqb found 0) (λ _. either After (leb room (st .used)) (λ _. k) (λ _. insert-formed key chute f)) (λ _. k)
+      either After (eqb found 0) (λ _. either After (leb room (st .used)) (λ _. k) (λ _. insert-formed key chute f)) (λ _. replace-formed key chute f)
   writeKind-formed Delete room key chute found f = either After (eqb found 0) (λ _. k) (λ _. remove-formed key)
   writeKind-formed Read room key chute found f = either After (eqb found 0) (λ _. k) (λ _. k)
   writeKind-formed Update room key chute found f = either After (eqb found 0) (λ _. k) (λ _. replace-formed key chute f)
