@@ -259,6 +259,22 @@ mod tests {
         }
     }
 
+    /// Document 02, A.7: the answers stand at the records and in the table.
+    #[test]
+    fn an_item_announced_again_is_drawn_with_1004() {
+        let list = "insert AA000000005AA 7\ninsert AA000000005AA 8\nread AA000000005AA";
+        let picture = draw(&input(
+            "--size 3 --workers 2 --room 1 --round-robin 90",
+            list,
+        ));
+        for words in ["1000", "1004", "8"] {
+            for shown in [words, &format!("answer {words}")] {
+                assert!(picture.contains(&format!(">{shown}<")), "{shown}");
+            }
+        }
+        assert!(picture.contains("writes answer 1004 of command 2"));
+    }
+
     #[test]
     fn each_turn_has_a_mark_and_each_wait_a_cross() {
         let random = &mut Random::new(4);

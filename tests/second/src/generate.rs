@@ -33,18 +33,21 @@ pub enum Sort {
     Pairs,
     /// Calls that go on from one another.
     Runs,
+    /// Runs in which an item is announced again.
+    Announcements,
     /// An input of the program.
     Programs,
 }
 
 impl Sort {
-    pub const ALL: [Sort; 7] = [
+    pub const ALL: [Sort; 8] = [
         Sort::Identifiers,
         Sort::Keys,
         Sort::Commands,
         Sort::Lists,
         Sort::Pairs,
         Sort::Runs,
+        Sort::Announcements,
         Sort::Programs,
     ];
 
@@ -56,6 +59,7 @@ impl Sort {
             Sort::Lists => "lists",
             Sort::Pairs => "pairs",
             Sort::Runs => "runs",
+            Sort::Announcements => "announcements",
             Sort::Programs => "programs",
         }
     }

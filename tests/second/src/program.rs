@@ -39,7 +39,9 @@ fn report(run: &Run) -> String {
 #[cfg(test)]
 mod tests {
     use super::*;
-    use crate::text::input::EXAMPLE;
+    use crate::command::encode;
+    use crate::run::Settings;
+    use crate::text::input::{self, EXAMPLE};
 
     /// Document 01, marked case (k).
     #[test]
@@ -56,6 +58,24 @@ mod tests {
         assert_eq!(
             output(&EXAMPLE[..47]),
             "1 insert AA000000005AA 1000\n2 read AA000000005AA 0\nstore 1 chain 2\n"
+        );
+    }
+
+    /// Document 02, A.7: an item that is announced again in a full store, and read.
+    #[test]
+    fn an_item_announced_again_is_printed_with_1004() {
+        const ITEM: &[u8; 13] = b"AA000000005AA";
+        let parts = [encode(1, ITEM, 7), encode(1, ITEM, 8), encode(3, ITEM, 0)];
+        let settings = Settings {
+            size: 3,
+            workers: 1,
+            room: 1,
+        };
+        let schedule = [[0; 9].as_slice(), &[1; 30]].concat();
+        assert_eq!(
+            output(&input::encode(settings, &parts.concat(), &schedule)),
+            "1 insert AA000000005AA 1000\n2 insert AA000000005AA 1004\n3 read AA000000005AA 8\n\
+             store 1 chain 0\n"
         );
     }
 

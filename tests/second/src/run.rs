@@ -3,10 +3,10 @@
 //! It is written as document 01's "Records and turns" says it, on arrays, with no allocation and
 //! no reading of text in a turn, so that it is also the plain program that speed is measured
 //! against. Where a state that no dealing reaches leaves the outcome open, it does what
-//! docs/DECISIONS.md chose.
+//! docs/DECISIONS.md chose; what an insert does there is chosen here, by `write`.
 
 use crate::command::{Command, Kind, dependent};
-use crate::serial::{ALREADY_PRESENT, DONE, NO_SUCH_ITEM, STORE_FULL};
+use crate::serial::{ANNOUNCED_AGAIN, DONE, NO_SUCH_ITEM, STORE_FULL};
 use crate::store::Store;
 
 /// Records of the table, the head among them.
@@ -191,7 +191,16 @@ impl Run {
         Party::LookedUp { own, found }
     }
 
-    /// Writes store and answer, by what the look-up found.
+    /// Writes store and answer. The answer follows from what the look-up found, as the chute that a
+    /// read answers does, and the store does what the answer says.
+    ///
+    /// This holds too in a run that no dealing reaches, where the store may not have what an
+    /// insert's look-up found:
+    /// - It found nothing, and the item is there. With a place free the answer is 1000, and the
+    ///   entry that is there gets the chute: a done insert leaves its item with its chute, and
+    ///   ascending keys hold no key twice. In a full store it is 1003, which changes no entry.
+    /// - It found a chute, and the item is not there. The answer is 1004, which sets the chute of
+    ///   an entry and puts none in: with or without a free place nothing changes, as by an update.
     fn write(&mut self, own: u8, found: u16) -> Party {
         if let Some(Command { kind, key, chute }) = self.command(own) {
             let answer = match (kind, found) {
@@ -200,7 +209,10 @@ impl Run {
                     self.store.insert(key, chute);
                     DONE
                 }
-                (Kind::Insert, _) => ALREADY_PRESENT,
+                (Kind::Insert, _) => {
+                    self.store.replace(key, chute);
+                    ANNOUNCED_AGAIN
+                }
                 (Kind::Delete | Kind::Read | Kind::Update, 0) => NO_SUCH_ITEM,
                 (Kind::Read, chute) => chute,
                 (Kind::Delete, _) => {
@@ -410,5 +422,71 @@ mod tests {
         run.advance(&[1; 7]);
         assert_eq!(run.answers, [1002, 0]);
         assert!(run.turn(0));
+    }
+
+    /// Document 02, A.7, by turns: worker 1 inserts, worker 2 announces again, and the store is
+    /// full. The read that waits for both gives the corrected chute.
+    #[test]
+    fn an_item_is_announced_again_by_another_worker() {
+        let commands = vec![
+            command(Kind::Insert, 5, 7),
+            command(Kind::Insert, 5, 8),
+            command(Kind::Read, 5, 0),
+        ];
+        let mut run = Run::open(settings(3, 2, 1), commands);
+        run.advance(&[0; 9]);
+        run.advance(&[1; 9]);
+        assert_eq!((run.store.chute(5), run.store.is_full()), (7, true));
+        run.advance(&[2; 3]);
+        let looked_up = Party::LookedUp { own: 2, found: 7 };
+        assert_eq!(run.parties[2], looked_up);
+        run.advance(&[2]);
+        assert_eq!((run.store.chute(5), run.store.used), (8, 1));
+        assert_eq!(run.answers, [1000, 1004, 0]);
+        run.advance(&[2; 4]);
+        run.advance(&[1; 4]);
+        assert_eq!(run.answers, [1000, 1004, 8]);
+    }
+
+    /// The answer and the store after a writing turn in a run that no dealing reaches: a worker is
+    /// looked-up for an insert of item 5 with chute 9, its look-up found this, and the store has
+    /// these items, each with ten times its key as chute.
+    fn written(room: u16, items: [u64; 2], found: u16) -> (u16, Store) {
+        let mut run = Run::open(settings(1, 1, room), vec![command(Kind::Insert, 5, 9)]);
+        run.advance(&[0, 0, 1, 1, 1]);
+        for item in items {
+            run.store.insert(item, 10 * item as u16);
+        }
+        run.parties[1] = Party::LookedUp { own: 1, found };
+        assert!(run.turn(1));
+        assert_eq!(run.parties[1], Party::Written { own: 1 });
+        (run.answers[0], run.store)
+    }
+
+    /// A store with two entries.
+    fn store(keys: &[u64], chutes: &[u16]) -> Store {
+        Store {
+            keys: keys.to_vec(),
+            chutes: chutes.to_vec(),
+            used: 2,
+        }
+    }
+
+    #[test]
+    fn an_insert_that_found_nothing_of_a_present_item_is_done_or_finds_the_store_full() {
+        let part_full = store(&[4, 5, 0], &[40, 9, 0]);
+        assert_eq!(written(3, [4, 5], 0), (1000, part_full));
+        let full = store(&[4, 5], &[40, 50]);
+        assert_eq!(written(2, [4, 5], 0), (1003, full));
+    }
+
+    #[test]
+    fn an_insert_that_found_an_item_now_absent_answers_1004_and_puts_nothing_in() {
+        for found in [1, 9, 512, 513, u16::MAX] {
+            let part_full = store(&[4, 6, 0], &[40, 60, 0]);
+            assert_eq!(written(3, [4, 6], found), (1004, part_full));
+            let full = store(&[4, 6], &[40, 60]);
+            assert_eq!(written(2, [4, 6], found), (1004, full));
+        }
     }
 }

@@ -6,12 +6,12 @@ use crate::command::{Command, Kind};
 
 /// The answer of a command that did what it says; a read's answer is the chute instead.
 pub const DONE: u16 = 1000;
-/// Insert: the item is already present.
-pub const ALREADY_PRESENT: u16 = 1001;
 /// Delete, read or update: there is no such item.
 pub const NO_SUCH_ITEM: u16 = 1002;
-/// Insert: the store is full.
+/// Insert of an absent item: the store is full.
 pub const STORE_FULL: u16 = 1003;
+/// Insert of a present item, also in a full store: it has the new chute.
+pub const ANNOUNCED_AGAIN: u16 = 1004;
 
 /// What a serial run leaves: one answer a command, and the chute of each key still there.
 #[derive(Clone, Debug, Default, PartialEq, Eq)]
@@ -53,7 +53,10 @@ pub fn table(capacity: usize, entries: &BTreeMap<u64, u16>) -> Table {
 
 fn apply(capacity: usize, entries: &mut BTreeMap<u64, u16>, command: &Command) -> u16 {
     match (command.kind, entries.get(&command.key).copied()) {
-        (Kind::Insert, Some(_)) => return ALREADY_PRESENT,
+        (Kind::Insert, Some(_)) => {
+            entries.insert(command.key, command.chute);
+            return ANNOUNCED_AGAIN;
+        }
         (Kind::Insert, None) if entries.len() >= capacity => return STORE_FULL,
         (Kind::Delete | Kind::Read | Kind::Update, None) => return NO_SUCH_ITEM,
         (Kind::Read, Some(chute)) => return chute,
@@ -77,12 +80,51 @@ mod tests {
         Command { kind, key, chute }
     }
 
-    /// Document 01, marked case (i).
+    /// Document 01, marked case (i), as document 02's A.7 has it: the chute is changed.
     #[test]
-    fn an_insert_of_a_present_item_into_a_full_store_answers_1001() {
+    fn an_insert_of_a_present_item_into_a_full_store_answers_1004() {
         let outcome = run(1, &[insert(5, 7), insert(5, 8)]);
-        assert_eq!(outcome.answers, [1000, 1001]);
-        assert_eq!(outcome.entries, BTreeMap::from([(5, 7)]));
+        assert_eq!(outcome.answers, [1000, 1004]);
+        assert_eq!(outcome.entries, BTreeMap::from([(5, 8)]));
+    }
+
+    /// Document 02, A.7: the later notice is good, and no other entry changes.
+    #[test]
+    fn a_read_gives_the_chute_of_the_last_notice_before_it() {
+        let outcome = run(
+            4,
+            &[
+                insert(3, 1),
+                insert(5, 7),
+                insert(9, 2),
+                command(Kind::Read, 5, 0),
+                insert(5, 8),
+                command(Kind::Read, 5, 0),
+                insert(5, 8),
+            ],
+        );
+        assert_eq!(outcome.answers, [1000, 1000, 1000, 7, 1004, 8, 1004]);
+        assert_eq!(outcome.entries, BTreeMap::from([(3, 1), (5, 8), (9, 2)]));
+    }
+
+    /// Document 02, A.7: an item announced again takes no further place, and is deleted as any.
+    #[test]
+    fn an_item_announced_again_is_one_entry() {
+        let outcome = run(
+            2,
+            &[
+                insert(5, 7),
+                insert(6, 1),
+                insert(5, 8),
+                insert(7, 2),
+                command(Kind::Delete, 5, 0),
+                command(Kind::Read, 5, 0),
+                insert(5, 9),
+            ],
+        );
+        let answers = [1000, 1000, 1004, 1003, 1000, 1002, 1000];
+        assert_eq!(outcome.answers, answers);
+        assert_eq!(outcome.entries, BTreeMap::from([(5, 9), (6, 1)]));
     }
 
     /// Document 01, marked case (j).

@@ -28,10 +28,14 @@ impl Store {
         self.find(key).map_or(0, |place| self.chutes[place])
     }
 
-    /// Puts an entry in where its key belongs, if the key is not there; the store is not full.
+    /// Puts an entry in where its key belongs; where the key is there, its entry gets the chute,
+    /// since each key stands once. The store is not full.
     pub fn insert(&mut self, key: u64, chute: u16) {
         let used = usize::from(self.used);
-        let Err(place) = self.find(key) else { return };
+        let place = match self.find(key) {
+            Ok(_) => return self.replace(key, chute),
+            Err(place) => place,
+        };
         self.keys.copy_within(place..used, place + 1);
         self.chutes.copy_within(place..used, place + 1);
         self.keys[place] = key;
@@ -99,6 +103,20 @@ mod tests {
         store.replace(0, 9);
         store.replace(1, 10);
         assert_eq!([0, 1, 3].map(|key| store.chute(key)), [9, 0, 8]);
+        assert_eq!(store.used, 2);
+    }
+
+    /// Document 01: keys ascend, so that no key stands twice.
+    #[test]
+    fn an_entry_put_in_again_is_the_same_entry() {
+        let mut store = Store::new(3);
+        store.insert(3, 8);
+        store.insert(0, 7);
+        store.insert(3, 9);
+        assert_eq!(
+            (&store.keys[..], &store.chutes[..]),
+            (&[0, 3, 0][..], &[7, 9, 0][..])
+        );
         assert_eq!(store.used, 2);
     }
 }

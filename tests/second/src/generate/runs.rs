@@ -1,6 +1,8 @@
 //! Compared runs of the whole depot, made from a seed: openings, schedules of every sort fed whole
-//! and in pieces, refused calls between them, handed-back lists that were changed, and the program.
+//! and in pieces, refused calls between them, items announced again, handed-back lists that were
+//! changed, and the program.
 
+mod announcements;
 mod changes;
 mod limits;
 pub(super) mod openings;
@@ -15,7 +17,9 @@ use crate::script::{List, Step};
 use openings::Opening;
 
 /// How many runs are always compared, whatever the seed adds to them.
-pub const FIXED: u64 = limits::COUNT + LONG;
+pub const FIXED: u64 = ANNOUNCEMENTS + announcements::COUNT;
+/// Where those with items announced again begin.
+const ANNOUNCEMENTS: u64 = limits::COUNT + LONG;
 /// Long runs among them.
 const LONG: u64 = 14;
 /// Random runs come in rounds of this many kinds.
@@ -29,6 +33,7 @@ const SHORT: usize = 300;
 pub fn sort(index: u64) -> Sort {
     match index.checked_sub(FIXED) {
         Some(index) if index % ROUND == PROGRAM => Sort::Programs,
+        None if index >= ANNOUNCEMENTS => Sort::Announcements,
         _ => Sort::Runs,
     }
 }
@@ -39,8 +44,11 @@ pub fn play(seed: u64, index: u64, play: &mut Play) -> Result<(), Difference> {
     if index < limits::COUNT {
         return limits::play(index, random, play);
     }
-    if index < FIXED {
+    if index < ANNOUNCEMENTS {
         return long_run(index - limits::COUNT, random, play);
+    }
+    if index < FIXED {
+        return announcements::play(index - ANNOUNCEMENTS, random, play);
     }
     let index = index - FIXED;
     match index % ROUND {
@@ -295,7 +303,7 @@ mod tests {
             finished += usize::from(run.is_finished());
         }
         let kinds: Vec<u16> = answers.keys().copied().collect();
-        assert_eq!(kinds, [0, 512, 1000, 1001, 1002, 1003], "{answers:?}");
+        assert_eq!(kinds, [0, 512, 1000, 1002, 1003, 1004], "{answers:?}");
         assert!(answers.values().all(|count| *count > 300), "{answers:?}");
         assert!(words.iter().all(|members| *members > 1000), "{words:?}");
         assert!(longest >= 129, "{longest}");

@@ -1,10 +1,10 @@
-//! Handed-back lists that were changed: single bytes at every offset, and settings with lists that
-//! fit them or do not. What is accepted is stepped on.
+//! Handed-back lists that were changed: single bytes at every offset, settings with lists that fit
+//! them or do not, and what a look-up found. What is accepted is stepped on.
 
 use super::openings::Opening;
 use super::{apart, reports, schedules};
-use crate::bytes::{KEY, NUMBER, STATE};
-use crate::command::LENGTH;
+use crate::bytes::{KEY, NUMBER, PARTY, PARTY_BYTES, STATE};
+use crate::command::{LARGEST_CHUTE, LENGTH};
 use crate::play::{Difference, Play};
 use crate::random::Random;
 use crate::script::{List, Step};
@@ -60,6 +60,24 @@ pub fn settings(random: &mut Random, play: &mut Play) -> Result<(), Difference> 
         })?;
     }
     Ok(())
+}
+
+/// Changes what the look-up of a worker found, from nothing to a chute or from a chute to nothing,
+/// and deals the writing turn.
+pub fn found(
+    worker: u8,
+    found: u16,
+    random: &mut Random,
+    play: &mut Play,
+) -> Result<(), Difference> {
+    let other = match found {
+        0 => random.pick(&[1, 2, LARGEST_CHUTE, LARGEST_CHUTE + 1, u16::MAX]),
+        _ => 0,
+    };
+    let last_two = PARTY + PARTY_BYTES * (usize::from(worker) + 1) - NUMBER;
+    set_number(play, last_two, other)?;
+    play.take(Step::Advance(vec![worker]))?;
+    step_on(random, play)
 }
 
 /// A run that was opened and is somewhere in its middle.
