@@ -35,8 +35,8 @@ pub record Write : Type 0 where
 abbrev pub write : ℕ → Store → Write
 write answer st = record { answer = answer; store = st }
 
--- what a command answers and writes, after its lookup: "1 to 512 the chute read; 1000 done"; "an insert of a present item sets its chute
--- and answers 1004" (02, A.7), "tested before full; 1002 delete, read or update, no such item; 1003 insert, store full": these two "change no
+-- what a command answers and writes, after its lookup: "1 to 512 the chute read; 1000 done"; "An insert of a present item sets its chute
+-- and answers 1004" (02, A.7), "tested before full"; "1002 delete, read or update, no such item; 1003 insert, store full", which "change no
 -- store entry"
 unfoldable pub writeKind : Kind → ℕ → ℕ → ℕ → ℕ → Store → Write
 writeKind Insert capacity key chute found st =
