@@ -1,7 +1,7 @@
 -- The store of document 01, "Command list and store": two lists, both as long as the capacity ("room"), of which the first places are in
 -- use. The operations are defined for any contents; on ascending keys they are the serial run's (Proof/Store). Assumes nothing.
 use Prim.Native.Nat.{ℕ, zero, suc, _+_, _-_, _/_, min}
-use mathlib.Core.Bool.{Bool, cond, _&&_, _||_}
+use mathlib.Core.Bool.{Bool, cond, _&&_}
 use mathlib.Core.List.{List, _∷_, _++_, map}
 use lib.ListN.{length, getD, take, drop, set, replicate}
 use lib.Dec.{eqb, leb, ltb}

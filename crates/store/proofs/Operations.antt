@@ -1,12 +1,12 @@
 -- What each operation of the store does, from what the search for the key found. Assumes nothing.
 use Prim.Native.Nat.{ℕ, _+_, _-_, _≤_, _<_, min}
 use native.Mathlib.Omega.{arith}
-use mathlib.Core.Bool.{Bool, true, false, cond, _&&_, _||_}
+use mathlib.Core.Bool.{Bool, true, false, cond, _&&_}
 use mathlib.Core.Path.{_≡_, sym, ap, _∙_}
 use mathlib.Core.List.{List}
 use borrow.Author.Tests.{le-leb, lt-leb}
 use lib.ListN.{length, getD, set}
-use lib.Dec.{ltb, leb, eqb}
+use lib.Dec.{ltb, eqb}
 use Rattle.model.specs.Store.{Store, inUse, halve, keyPlace, holds, lookUp, insert, remove, replace, shiftUp, shiftDown}
 use Rattle.store.specs.declared.Found.{Found}
 use Rattle.store.specs.Lists.{storeOf}
