@@ -1,7 +1,7 @@
 -- What commands read and write: the store and the answers, and what a lookup finds and a write changes. Nothing here knows of a chain or
 -- of threads. Assumes nothing.
 use Prim.Native.Nat.{ℕ}
-use mathlib.Core.Bool.{cond}
+use mathlib.Core.Bool.{Bool, true, false, cond}
 use mathlib.Core.List.{[]}
 use mathlib.Core.Option.{Option, none, some}
 use lib.Dec.{eqb, leb}
@@ -26,6 +26,19 @@ openedService o = record { store = layOut (o .capacity) []; answers = λ c. 0 }
 unfoldable pub foundFor : Option Command → Store → ℕ
 foundFor none st = 0
 foundFor (some c) st = lookUp (c .key) st
+
+-- whether a command is written in the step of its lookup: "A worker's look and writing become one turn for kind 3; other kinds keep two."
+-- (02, A.8)
+unfoldable pub isRead : Kind → Bool
+isRead Insert = false
+isRead Delete = false
+isRead Read = true
+isRead Update = false
+
+unfoldable pub inOneStep : Option Command → Bool
+unfolding isRead
+inOneStep none = false
+inOneStep (some c) = isRead (c .kind)
 
 -- an answer, and the store after it
 pub record Write : Type 0 where

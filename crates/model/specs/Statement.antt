@@ -1,5 +1,5 @@
 -- Demand 3 for the model: whatever the order of steps, each answer is the serial run's, the last table is the serial run's, and no order
--- can block for good. Cites Serial and Step alone; proved in Proof/. Assumes nothing.
+-- can block for good. Cites Serial, Service and Step alone; proved in Proof/. Assumes nothing.
 use Prim.Native.Nat.{ℕ, _≤_}
 use mathlib.Core.Path.{_≡_}
 use mathlib.Core.Bool.{Bool, true, false, cond, _&&_, _||_}
@@ -14,7 +14,8 @@ use Rattle.model.specs.declared.Thread.the-variants.{Idle, Loading, Sear
 use Rattle.model.specs.Serial.{serialAnswers, serialEntries}
 use Rattle.model.specs.Store.{layOut}
 use Rattle.model.specs.Setup.{Setup, commandAt}
-use Rattle.model.specs.Step.{State, opened, step, steps}
+use Rattle.model.specs.Service.{inOneStep}
+use Rattle.model.specs.Step.{State, commandOf, opened, step, steps}
 
 -- what an accepted opening has been tested for, as far as the theorem needs it
 pub record Accepted (o : Setup) : Type 0 where
@@ -30,16 +31,17 @@ allWithin workers [] = true
 allWithin workers (t ∷ ts) = leb t workers && allWithin workers ts
 
 -- The command whose answer a thread's next step writes, 0 for none: "A command's writing turn is the one at which the steps write its
--- answer".
-unfoldable pub writes : Thread → State → ℕ
-writes Idle s = 0
-writes (Loading at own) s = 0
-writes (Searching at) s = 0
-writes (Holding own) s = 0
-writes (LookedUp own found) s = s .graph .seq (own .0)
-writes (Written own) s = 0
-writes (Walking at own) s = 0
-writes (Clearing at own) s = 0
+-- answer"; a read's is that of its lookup (02, A.8).
+unfoldable pub writes : Setup → Thread → State → ℕ
+unfolding inOneStep commandOf
+writes o Idle s = 0
+writes o (Loading at own) s = 0
+writes o (Searching at) s = 0
+writes o (Holding own) s = cond (inOneStep (commandOf o (s .graph) (own .0))) (s .graph .seq (own .0)) 0
+writes o (LookedUp own found) s = s .graph .seq (own .0)
+writes o (Written own) s = 0
+writes o (Walking at own) s = 0
+writes o (Clearing at own) s = 0
 
 -- The command whose node a thread's next step returns, 0 for none: "it is removed by the turn at which they return its record to the
 -- unused chain".
@@ -57,7 +59,7 @@ returns (Clearing at own) s = cond (eqb (s .graph .next (at .0)) 0) (s .graph .s
 module _ (o : Setup) (c : ℕ) where
   unfoldable pub wrote : List ℕ → State → Bool
   wrote [] s = false
-  wrote (t ∷ ts) s = eqb (writes (s .threads t) s) c || wrote ts (step o t s)
+  wrote (t ∷ ts) s = eqb (writes o (s .threads t) s) c || wrote ts (step o t s)
 
   unfoldable pub removed : List ℕ → State → Bool
   removed [] s = false

@@ -15,7 +15,7 @@ use Rattle.model.specs.declared.Thread.the-variants.{Idle, Loading, Sear
 use Rattle.model.specs.Upd.{upd}
 use Rattle.model.specs.Setup.{Setup, commandAt, bothDependent}
 use Rattle.model.specs.Graph.{Graph, setNext, setSeq, setExecuting, setLocked, setWaits, setFree, setLoaded, noNode, openedGraph}
-use Rattle.model.specs.Service.{Service, openedService, foundFor, writeFor}
+use Rattle.model.specs.Service.{Service, openedService, foundFor, inOneStep, writeFor}
 
 -- the graph, what each thread ("party") does, and the store with the answers
 pub record State : Type 0 where
@@ -120,15 +120,17 @@ unfoldable pub searching : ℕ → ℕ → ℕ → State → State
 unfolding leave examine
 searching t at y s = cond (eqb y 0) (leave t at s) (cond (s .graph .locked y) s (examine t at y s))
 
--- "Holding. Look up the store, be looked-up."
-unfoldable pub holding : Setup → ℕ → ℕ → State → State
-unfolding foundFor commandOf serveTo
-holding o t own s = serveTo t (LookedUp (node own) (foundFor (commandOf o (s .graph) own) (s .service .store))) (s .service) s
-
 -- "Looked-up. Write store and answer, be written."
 unfoldable pub lookedUp : Setup → ℕ → ℕ → ℕ → State → State
 unfolding writeFor commandOf serveTo
 lookedUp o t own found s = serveTo t (Written (node own)) (writeFor o (commandOf o (s .graph) own) (s .graph .seq own) found (s .service)) s
+
+-- "Holding. Look up the store, be looked-up." A read is written in the same step (02, A.8).
+unfoldable pub holding : Setup → ℕ → ℕ → State → State
+unfolding foundFor inOneStep lookedUp commandOf serveTo
+holding o t own s =
+    let found : ℕ = foundFor (commandOf o (s .graph) own) (s .service .store) in
+    cond (inOneStep (commandOf o (s .graph) own)) (lookedUp o t own found s) (serveTo t (LookedUp (node own) found) (s .service) s)
 
 -- "bypass it and stay standing"
 unfoldable pub bypass : ℕ → ℕ → ℕ → State → State

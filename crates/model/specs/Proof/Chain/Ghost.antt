@@ -9,7 +9,8 @@ use Rattle.model.specs.declared.Thread.{Thread}
 use Rattle.model.specs.declared.Thread.the-variants.{Idle, Loading, Searching, Holding, LookedUp, Written, Walking, Clearing}
 use Rattle.model.specs.Upd.{upd}
 use Rattle.model.specs.Setup.{Setup}
-use Rattle.model.specs.Step.{State}
+use Rattle.model.specs.Service.{inOneStep}
+use Rattle.model.specs.Step.{State, commandOf}
 use Rattle.model.specs.Proof.Chain.Invariant.{Ghost}
 
 abbrev pub tail : List ℕ → List ℕ
@@ -42,20 +43,21 @@ loaderGhost o (Written x) s g = g
 loaderGhost o (Walking a x) s g = g
 loaderGhost o (Clearing a x) s g = g
 
-unfoldable pub workerGhost : Thread → State → Ghost → Ghost
-workerGhost Idle s g = g
-workerGhost (Loading a x) s g = g
-workerGhost (Searching a) s g = g
-workerGhost (Holding x) s g = g
-workerGhost (LookedUp x f) s g = writing (s .graph .seq (x .0)) g
-workerGhost (Written x) s g = g
-workerGhost (Walking a x) s g =
+unfoldable pub workerGhost : Setup → Thread → State → Ghost → Ghost
+unfolding inOneStep commandOf
+workerGhost o Idle s g = g
+workerGhost o (Loading a x) s g = g
+workerGhost o (Searching a) s g = g
+workerGhost o (Holding x) s g = cond (inOneStep (commandOf o (s .graph) (x .0))) (writing (s .graph .seq (x .0)) g) g
+workerGhost o (LookedUp x f) s g = writing (s .graph .seq (x .0)) g
+workerGhost o (Written x) s g = g
+workerGhost o (Walking a x) s g =
     cond (eqb (s .graph .next (a .0)) 0 || s .graph .locked (s .graph .next (a .0))) g (cond (eqb (s .graph .next (a .0)) (x .0)) (linking (x .0) false g) g)
-workerGhost (Clearing a x) s g = cond (eqb (s .graph .next (a .0)) 0) (returning (x .0) (s .graph .seq (x .0)) g) g
+workerGhost o (Clearing a x) s g = cond (eqb (s .graph .next (a .0)) 0) (returning (x .0) (s .graph .seq (x .0)) g) g
 
 unfoldable pub ghostStep : Setup → ℕ → State → Ghost → Ghost
 unfolding loaderGhost workerGhost
-ghostStep o t s g = cond (eqb t 0) (loaderGhost o (s .threads 0) s g) (workerGhost (s .threads t) s g)
+ghostStep o t s g = cond (eqb t 0) (loaderGhost o (s .threads 0) s g) (workerGhost o (s .threads t) s g)
 
 unfoldable pub ghostSteps : Setup → List ℕ → State → Ghost → Ghost
 unfolding ghostStep

@@ -10,7 +10,8 @@ use borrow.Author.Tests.{eqb-true, eqb-false, leb-true, leb-false}
 use Rattle.model.specs.declared.Thread.{Thread}
 use Rattle.model.specs.declared.Thread.the-variants.{Idle, Loading, Searching, Holding, LookedUp, Written, Walking, Clearing}
 use Rattle.model.specs.Setup.{Setup}
-use Rattle.model.specs.Step.{State, step, steps, loaderStep, workerStep, loaderIdle, loaderWalk, enter, searching, examine, ready, walking, clearing}
+use Rattle.model.specs.Service.{inOneStep}
+use Rattle.model.specs.Step.{State, step, steps, loaderStep, workerStep, loaderIdle, loaderWalk, commandOf, enter, searching, examine, ready, holding, walking, clearing}
 use Rattle.model.specs.Statement.{Accepted, allWithin}
 use Rattle.model.specs.Proof.Tests.{neither}
 use Rattle.model.specs.Proof.Chain.Invariant.{Ghost, Inv}
@@ -20,7 +21,7 @@ use Rattle.model.specs.Proof.Chain.LoaderWalk.{loader-stepped}
 use Rattle.model.specs.Proof.Chain.Link.{node-linked}
 use Rattle.model.specs.Proof.Chain.Search.{search-entered, search-stepped, search-left}
 use Rattle.model.specs.Proof.Chain.Take.{node-taken}
-use Rattle.model.specs.Proof.Chain.LookUp.{worker-looked-up}
+use Rattle.model.specs.Proof.Chain.LookUp.{worker-looked-up, worker-read}
 use Rattle.model.specs.Proof.Chain.Write.{worker-written}
 use Rattle.model.specs.Proof.Chain.Walk.{walk-entered, walk-stepped}
 use Rattle.model.specs.Proof.Chain.Bypass.{node-bypassed}
@@ -55,8 +56,8 @@ module _ (o : Setup) (acc : Accepted o) (s : State) (g : Ghost) (i : Inv o s g) 
   loader-keeps (Clearing a x) e = i
 
   module _ (t : ℕ) (low : 1 ≤ t) (high : t ≤ o .workers) where
-    worker-keeps : (th : Thread) → s .threads t ≡ th → Inv o (workerStep o t th s) (workerGhost th s g)
-    unfolding workerStep workerGhost enter searching examine walking clearing
+    worker-keeps : (th : Thread) → s .threads t ≡ th → Inv o (workerStep o t th s) (workerGhost o th s g)
+    unfolding workerStep workerGhost enter searching examine holding commandOf walking clearing
     worker-keeps Idle e = by (s .graph .locked 0) (λ _. i) (search-entered o s g i t low high e)
     worker-keeps (Loading a x) e = i
     worker-keeps (Searching a) e =
@@ -64,7 +65,8 @@ module _ (o : Setup) (acc : Accepted o) (s : State) (g : Ghost) (i : Inv o s g) 
         (λ b. by (s .graph .locked (s .graph .next (a .0))) (λ _. i)
         (λ u. by (ready (s .graph) (s .graph .next (a .0))) (node-taken o acc s g i t low high a e (eqb-false (s .graph .next (a .0)) 0 b) u)
         (λ r. search-stepped o s g i t low high a e (eqb-false (s .graph .next (a .0)) 0 b) u)))
-    worker-keeps (Holding x) e = worker-looked-up o s g i t low high x e
+    worker-keeps (Holding x) e =
+        by-both (inOneStep (commandOf o (s .graph) (x .0))) (λ _. worker-read o s g i t low high x e acc) (λ _. worker-looked-up o s g i t low high x e)
     worker-keeps (LookedUp x f) e = worker-written o acc s g i t low high x f e
     worker-keeps (Written x) e = by (s .graph .locked 0) (λ _. i) (walk-entered o s g i t low high x e)
     worker-keeps (Walking a x) e =

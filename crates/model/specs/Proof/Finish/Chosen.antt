@@ -16,7 +16,7 @@ use Rattle.model.specs.declared.Thread.the-variants.{Idle, Loading, Sear
 use Rattle.model.specs.Upd.{upd}
 use Rattle.model.specs.Setup.{Setup, bothDependent}
 use Rattle.model.specs.Graph.{setLocked, setExecuting, setWaits, setNext, setFree, setSeq}
-use Rattle.model.specs.Service.{writeFor, foundFor}
+use Rattle.model.specs.Service.{foundFor, inOneStep, writeFor}
 use Rattle.model.specs.Step.{State, node, step, workerStep, loaderStep, searching, leave, stepOn, examine, ready, moveTo, serveTo, walking, bypass, clearing, return, enter, holding, lookedUp, loaderWalk, link, addDependence, commandOf}
 use Rattle.model.specs.Proof.Tests.{fails, true-false, none-some, eqb-cases}
 use Rattle.model.specs.Proof.Upd.{upd-same, upd-other, upd-id}
@@ -119,7 +119,7 @@ module _ (o : Setup) (s : State) (g : Ghost) (i : Inv o s g) where
           let l = takes-lowered t (s .graph .next (a .0)) (upd (s .threads) t v) low within (i .order .next-linked (a .0) (i .standing .on t (a .0) (ap at here)) more) wait (upd-same (s .threads) t v) (λ u d. upd-other (s .threads) t v u d) in
           omega arith
 
-      searching-lowered : Φ o (workerStep o t (Searching a) s) (workerGhost (Searching a) s g) + 1 ≤ Φ o s g
+      searching-lowered : Φ o (workerStep o t (Searching a) s) (workerGhost o (Searching a) s g) + 1 ≤ Φ o s g
       unfolding workerStep workerGhost searching examine
       searching-lowered = ⊎-elim (λ e. rw (e .1) search-leaves) (λ e. rw (e .1, next-open (a .0) (ap at here) (e .0)) (go (e .0) (ready (s .graph) (s .graph .next (a .0))) refl)) (eqb-cases (s .graph .next (a .0)) 0)
         where
@@ -129,25 +129,38 @@ module _ (o : Setup) (s : State) (g : Ghost) (i : Inv o s g) where
 
     -- the foremost worker that holds a node looks up, writes, and enters at the head, where nobody stands
     module _ (low : 1 ≤ t) (x : Node) where
-      holding-lowered : s .threads t ≡ Holding x → Φ o (workerStep o t (Holding x) s) (workerGhost (Holding x) s g) + 1 ≤ Φ o s g
-      unfolding Φ Moved workerStep workerGhost holding serveTo cost
-      holding-lowered here =
-          let v = LookedUp (node (x .0)) (foundFor (commandOf o (s .graph) (x .0)) (s .service .store)) in
-          thread-lowered v (g .linked) (worker-same low v) (rw here (omega arith))
-
       -- a write changes nothing that the measure reads
       writes-moved : (c : Option Command) (found : ℕ) → Φ o (serveTo t (Written (node (x .0))) (writeFor o c (s .graph .seq (x .0)) found (s .service)) s) (writing (s .graph .seq (x .0)) g) ≡ Moved o s t (Written (node (x .0))) (g .linked)
       unfolding Φ Moved serveTo writeFor
       writes-moved none found = refl
       writes-moved (some c) found = refl
 
-      lookedUp-lowered : (found : ℕ) → s .threads t ≡ LookedUp x found → Φ o (workerStep o t (LookedUp x found) s) (workerGhost (LookedUp x found) s g) + 1 ≤ Φ o s g
-      unfolding workerStep workerGhost lookedUp cost
-      lookedUp-lowered found here =
-          rw (writes-moved (commandOf o (s .graph) (x .0)) found)
-          (thread-lowered (Written (node (x .0))) (g .linked) (worker-same low (Written (node (x .0)))) (rw here (omega arith)))
+      -- so it lowers the measure of every state in which more is to come than after it
+      writing-lowered : (found : ℕ) → cost (o .size) (far o s g) (Written (node (x .0))) + 1 ≤ cost (o .size) (far o s g) (s .threads t) →
+          Φ o (lookedUp o t (x .0) found s) (writing (s .graph .seq (x .0)) g) + 1 ≤ Φ o s g
+      unfolding lookedUp
+      writing-lowered found mine =
+          rw (writes-moved (commandOf o (s .graph) (x .0)) found) (thread-lowered (Written (node (x .0))) (g .linked) (worker-same low (Written (node (x .0)))) mine)
 
-      written-lowered : s .threads t ≡ Written x → Φ o (workerStep o t (Written x) s) (workerGhost (Written x) s g) + 1 ≤ Φ o s g
+      holding-lowered : s .threads t ≡ Holding x → Φ o (workerStep o t (Holding x) s) (workerGhost o (Holding x) s g) + 1 ≤ Φ o s g
+      unfolding Φ Moved workerStep workerGhost holding serveTo cost
+      holding-lowered here = go (inOneStep (commandOf o (s .graph) (x .0)))
+        where
+          found : ℕ
+          found = foundFor (commandOf o (s .graph) (x .0)) (s .service .store)
+
+          v : Thread
+          v = LookedUp (node (x .0)) found
+
+          go : (b : Bool) → Φ o (cond b (lookedUp o t (x .0) found s) (serveTo t v (s .service) s)) (cond b (writing (s .graph .seq (x .0)) g) g) + 1 ≤ Φ o s g
+          go true = writing-lowered found (rw here (omega arith))
+          go false = thread-lowered v (g .linked) (worker-same low v) (rw here (omega arith))
+
+      lookedUp-lowered : (found : ℕ) → s .threads t ≡ LookedUp x found → Φ o (workerStep o t (LookedUp x found) s) (workerGhost o (LookedUp x found) s g) + 1 ≤ Φ o s g
+      unfolding workerStep workerGhost cost
+      lookedUp-lowered found here = writing-lowered found (rw here (omega arith))
+
+      written-lowered : s .threads t ≡ Written x → Φ o (workerStep o t (Written x) s) (workerGhost o (Written x) s g) + 1 ≤ Φ o s g
       unfolding Φ Moved workerStep workerGhost enter moveTo setLocked cost far rank
       written-lowered here =
           let l = ahead-size (o .size) (s .graph .seq) (present (s .threads 0) (g .linked)) 0 (i .order .head-seq) in
@@ -193,7 +206,7 @@ module _ (o : Setup) (s : State) (g : Ghost) (i : Inv o s g) where
           let l = far-next (a .0) (ap at here) walk-more in
           thread-lowered v (g .linked) (worker-same low v) (rw here (omega arith))
 
-      walking-lowered : Φ o (workerStep o t (Walking a x) s) (workerGhost (Walking a x) s g) + 1 ≤ Φ o s g
+      walking-lowered : Φ o (workerStep o t (Walking a x) s) (workerGhost o (Walking a x) s g) + 1 ≤ Φ o s g
       unfolding workerStep workerGhost walking
       walking-lowered =
           rw (ne-eqb (s .graph .next (a .0)) 0 walk-more, next-open (a .0) (ap at here) walk-more)
@@ -231,7 +244,7 @@ module _ (o : Setup) (s : State) (g : Ghost) (i : Inv o s g) where
           let l = far-next (a .0) (ap at here) more in
           thread-lowered v (g .linked) (worker-same low v) (rw here (omega arith))
 
-      clearing-lowered : Φ o (workerStep o t (Clearing a x) s) (workerGhost (Clearing a x) s g) + 1 ≤ Φ o s g
+      clearing-lowered : Φ o (workerStep o t (Clearing a x) s) (workerGhost o (Clearing a x) s g) + 1 ≤ Φ o s g
       unfolding workerStep workerGhost clearing
       clearing-lowered = ⊎-elim (λ e. rw (e .1) clear-return) (λ e. rw (e .1, next-open (a .0) (ap at here) (e .0)) (clear-on (e .0))) (eqb-cases (s .graph .next (a .0)) 0)
 
@@ -285,7 +298,7 @@ module _ (o : Setup) (s : State) (g : Ghost) (i : Inv o s g) where
 
   -- each case of the worker's list, and of the loader's
   module _ (t : ℕ) (within : t ≤ o .workers) (foremost : Foremost o s t) (low : 1 ≤ t) where
-    worker-lowered : (thread : Thread) → s .threads t ≡ thread → 1 ≤ rank (s .graph .seq) thread → Φ o (workerStep o t thread s) (workerGhost thread s g) + 1 ≤ Φ o s g
+    worker-lowered : (thread : Thread) → s .threads t ≡ thread → 1 ≤ rank (s .graph .seq) thread → Φ o (workerStep o t thread s) (workerGhost o thread s g) + 1 ≤ Φ o s g
     unfolding rank
     worker-lowered Idle here r = absurd (omega arith)
     worker-lowered (Loading a x) here r = absurd (true-false false (sym (ap isWorker here) ∙ i .roles .worker t low) refl)

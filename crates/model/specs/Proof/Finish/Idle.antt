@@ -85,7 +85,7 @@ module _ (o : Setup) (s : State) (g : Ghost) (i : Inv o s g) (idle : (t : ℕ) �
 
     takes-ghost : ghostStep o 1 entered g ≡ g
     unfolding entered ghostStep workerGhost moveTo setLocked
-    takes-ghost = ap (λ v. workerGhost v entered g) (upd-same (s .threads) 1 (Searching (node 0)))
+    takes-ghost = ap (λ v. workerGhost o v entered g) (upd-same (s .threads) 1 (Searching (node 0)))
 
     held-lowered : Φ o held g + 2 ≤ Φ o s g
     unfolding Φ held entered first moveTo setLocked setExecuting stepOn

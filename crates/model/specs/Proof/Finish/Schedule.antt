@@ -12,12 +12,13 @@ use Rattle.model.specs.declared.Thread.{Thread}
 use Rattle.model.specs.declared.Thread.the-variants.{Idle, Loading, Searching, Holding, LookedUp, Written, Walking, Clearing}
 use Rattle.model.specs.Upd.{upd}
 use Rattle.model.specs.Setup.{Setup}
-use Rattle.model.specs.Step.{State, step, steps}
+use Rattle.model.specs.Service.{inOneStep}
+use Rattle.model.specs.Step.{State, commandOf, step, steps}
 use Rattle.model.specs.Statement.{Accepted, allWithin, writes, returns, wrote, removed}
 use Rattle.model.specs.Proof.Tests.{true-false, eqb-cases}
 use Rattle.model.specs.Proof.Upd.{upd-at, upd-other}
 use Rattle.model.specs.Proof.Chain.Invariant.{Ghost, Inv, isLoader}
-use Rattle.model.specs.Proof.Chain.Ghost.{ghostStep, ghostSteps, workerGhost, loaderGhost, taken, linking, returning}
+use Rattle.model.specs.Proof.Chain.Ghost.{ghostStep, ghostSteps, workerGhost, loaderGhost, taken, linking, writing, returning}
 use Rattle.model.specs.Proof.Chain.Keep.{keeps}
 
 -- ---- two schedules one after the other
@@ -62,7 +63,7 @@ module _ (o : Setup) (s : State) (g : Ghost) (c : ℕ) (low : 1 ≤ c) where
   either false h k p q = q
 
   -- each case of the loader's list, and of the workers'
-  loader-tells : (thread : Thread) → isLoader thread ≡ true → Tells g c (loaderGhost o thread s g) (writes thread s) (returns thread s)
+  loader-tells : (thread : Thread) → isLoader thread ≡ true → Tells g c (loaderGhost o thread s g) (writes o thread s) (returns thread s)
   unfolding loaderGhost writes returns
   loader-tells Idle h = either (leb (length (o .commands)) (s .graph .loaded) || eqb (s .graph .free) 0 || s .graph .locked 0) g (taken g) nothing nothing
   loader-tells (Loading a x) h = either (eqb (s .graph .next (a .0)) 0) (linking (x .0) true g) g nothing nothing
@@ -77,13 +78,17 @@ module _ (o : Setup) (s : State) (g : Ghost) (c : ℕ) (low : 1 ≤ c) where
   clearing-tells true x n = (zero-or (g .written c), set-or (g .removed) n c)
   clearing-tells false x n = nothing
 
-  worker-tells : (thread : Thread) → Tells g c (workerGhost thread s g) (writes thread s) (returns thread s)
+  writing-tells : (b : Bool) (n : ℕ) → Tells g c (cond b (writing n g) g) (cond b n 0) 0
+  writing-tells true n = (set-or (g .written) n c, zero-or (g .removed c))
+  writing-tells false n = nothing
+
+  worker-tells : (thread : Thread) → Tells g c (workerGhost o thread s g) (writes o thread s) (returns thread s)
   unfolding workerGhost writes returns
   worker-tells Idle = nothing
   worker-tells (Loading a x) = nothing
   worker-tells (Searching a) = nothing
-  worker-tells (Holding x) = nothing
-  worker-tells (LookedUp x f) = (set-or (g .written) (s .graph .seq (x .0)) c, zero-or (g .removed c))
+  worker-tells (Holding x) = writing-tells (inOneStep (commandOf o (s .graph) (x .0))) (s .graph .seq (x .0))
+  worker-tells (LookedUp x f) = writing-tells true (s .graph .seq (x .0))
   worker-tells (Written x) = nothing
   worker-tells (Walking a x) =
       either (eqb (s .graph .next (a .0)) 0 || s .graph .locked (s .graph .next (a .0))) g (cond (eqb (s .graph .next (a .0)) (x .0)) (linking (x .0) false g) g) nothing
@@ -91,7 +96,7 @@ module _ (o : Setup) (s : State) (g : Ghost) (c : ℕ) (low : 1 ≤ c) where
   worker-tells (Clearing a x) = clearing-tells (eqb (s .graph .next (a .0)) 0) (x .0) (s .graph .seq (x .0))
 
   -- so each step adds the command that it writes, and the one that it returns
-  step-tells : (t : ℕ) → isLoader (s .threads 0) ≡ true → Tells g c (ghostStep o t s g) (writes (s .threads t) s) (returns (s .threads t) s)
+  step-tells : (t : ℕ) → isLoader (s .threads 0) ≡ true → Tells g c (ghostStep o t s g) (writes o (s .threads t) s) (returns (s .threads t) s)
   unfolding ghostStep
   step-tells t h = ⊎-elim (λ e. rw (e .0) (loader-tells (s .threads 0) h)) (λ e. rw (e .1) (worker-tells (s .threads t))) (eqb-cases t 0)
 
@@ -114,6 +119,6 @@ module _ (o : Setup) (accepted : Accepted o) where
       let k = keeps o accepted t (leb-true t (o .workers) (e .0)) s g i in
       let r = steps-tell c low ts (e .1) (step o t s) (ghostStep o t s g) k in
       let one = step-tells o s g c low t (i .roles .loader) in (
-        r .0 ∙ rw (one .0) (or-swap (wrote o c ts (step o t s)) (eqb (writes (s .threads t) s) c) (g .written c)),
+        r .0 ∙ rw (one .0) (or-swap (wrote o c ts (step o t s)) (eqb (writes o (s .threads t) s) c) (g .written c)),
         r .1 ∙ rw (one .1) (or-swap (removed o c ts (step o t s)) (eqb (returns (s .threads t) s) c) (g .removed c)),
       )

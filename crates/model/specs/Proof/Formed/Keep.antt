@@ -14,7 +14,7 @@ use Rattle.model.specs.declared.Thread.the-variants.{Idle, Loading, Sear
 use Rattle.model.specs.Upd.{upd}
 use Rattle.model.specs.Setup.{Setup, commandAt, bothDependent}
 use Rattle.model.specs.Graph.{Graph, noNode}
-use Rattle.model.specs.Service.{Service, foundFor, writeFor}
+use Rattle.model.specs.Service.{Service, foundFor, inOneStep, writeFor}
 use Rattle.model.specs.Step.{State, node, moveTo, serveTo, commandOf, stepOn, load, loaderIdle, link, addDependence, loaderWalk, loaderStep}
 use Rattle.model.specs.Step.{enter, ready, examine, leave, searching, holding, lookedUp, bypass, walking, return, clearing, workerStep, step, steps}
 use Rattle.model.specs.Statement.{allWithin}
@@ -160,9 +160,14 @@ module _ (o : Setup) (fit : SetupFormed o) where
       unfolding bypass
       bypass-formed a x h j = worker-moved (Clearing (node a) (node x)) (h, j) refl (next-set o fit (k .graph) a (s .graph .next x) h (k .graph .next x .0))
 
+      -- a worker that has looked up writes at its own command's place
+      pub writes-formed : (x found : ℕ) → x ≤ o .size → Formed o (lookedUp o t x found s)
+      unfolding lookedUp commandOf
+      writes-formed x found h = worker-served (Written (node x)) h refl (write-formed (k .service) (s .graph .seq x) found (k .graph .seq x .0) (commandOf o (s .graph) x) refl)
+
       -- a worker's nodes are its own, or next indexes
       pub worker-formed : (th : Thread) → s .threads t ≡ th → Formed o (workerStep o t th s)
-      unfolding workerStep searching holding lookedUp walking clearing commandOf
+      unfolding workerStep searching holding walking clearing
       worker-formed Idle e = enter-formed (Searching (node 0)) (omega arith) refl
       worker-formed (Loading a x) e = k
       worker-formed (Searching a) e =
@@ -172,9 +177,10 @@ module _ (o : Setup) (fit : SetupFormed o) where
           (λ _. either (Formed o) (s .graph .locked y) (λ _. k) (λ _. examine-formed (a .0) y h (k .graph .next (a .0) .0)))
       worker-formed (Holding x) e =
           let c = commandOf o (s .graph) (x .0) in
-          worker-served (LookedUp (node (x .0)) (foundFor c (s .service .store))) (says k t e, found-fits (k .service) c) refl (k .service)
-      worker-formed (LookedUp x f) e =
-          worker-served (Written (node (x .0))) (says k t e .0) refl (write-formed (k .service) (s .graph .seq (x .0)) f (k .graph .seq (x .0) .0) (commandOf o (s .graph) (x .0)) refl)
+          let found = foundFor c (s .service .store) in
+          either (Formed o) (inOneStep c) (λ _. writes-formed (x .0) found (says k t e))
+          (λ _. worker-served (LookedUp (node (x .0)) found) (says k t e, found-fits (k .service) c) refl (k .service))
+      worker-formed (LookedUp x f) e = writes-formed (x .0) f (says k t e .0)
       worker-formed (Written x) e = enter-formed (Walking (node 0) x) (omega arith, says k t e) refl
       worker-formed (Walking a x) e =
           let h = says k t e in
