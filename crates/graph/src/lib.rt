@@ -20,5 +20,6 @@ pub use items::forget;
 pub use items::item_of;
 pub use items::keep;
 pub use loader::loader_walk;
+pub use service::in_one_step;
 pub use service::look_up;
 pub use service::write;

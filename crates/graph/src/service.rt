@@ -5,7 +5,7 @@ ghost use Prim.Native.Nat.{_≤_};
 ghost use lib.ListN.{length};
 ghost use Rattle.command.specs.declared.Command.{Command as Cmd};
 ghost use Rattle.command.specs.declared.Kind.the-variants.{Insert};
-ghost use Rattle.model.specs.Service.{foundFor, writeKind, write as writing};
+ghost use Rattle.model.specs.Service.{foundFor, inOneStep, writeKind, write as writing};
 ghost use Rattle.store.specs.Lists.{storeOf};
 ghost use Rattle.graph.specs.Items.{itemOf};
 ghost use Rattle.graph.specs.Memory.{Writes};
@@ -21,6 +21,22 @@ pub fn look_up(item: Item, keys: &[u64], chutes: &[u16], used: usize) -> u16
     match item {
         Item::Nothing => 0,
         Item::Of(command) => store::look_up(keys, chutes, used, command.key),
+    }
+}
+
+// Whether a command is written in the step of its lookup: a read is, having nothing to write in the store.
+pub fn in_one_step(item: Item) -> bool
+    ensures { λ r. ⌜ r ≡ inOneStep (itemOf item) ⌝ }
+{
+    match item {
+        Item::Nothing => false,
+        Item::Of(command) => {
+            let kind = command.kind;
+            match kind {
+                Kind::Read => true,
+                Kind::Insert | Kind::Delete | Kind::Update => false,
+            }
+        }
     }
 }
 
