@@ -19,7 +19,7 @@ use Rattle.model.proofs.Thread.{the-type}
 use Rattle.model.specs.Upd.{upd}
 use Rattle.model.specs.Setup.{Setup}
 use Rattle.model.specs.Graph.{setSeq, setFree, setNext, setExecuting, setLocked, setWaits}
-use Rattle.model.specs.Service.{foundFor}
+use Rattle.model.specs.Service.{foundFor, inOneStep}
 use Rattle.model.specs.Step.{State, node, step, workerStep, moveTo, serveTo, enter, commandOf, holding, lookedUp, return, clearing, stepOn}
 use Rattle.model.specs.Proof.Upd.{upd-id, upd-same}
 use Rattle.store.specs.Lists.{storeOf}
@@ -145,26 +145,54 @@ module _ (list kinds itemKeys itemChutes : List ℕ) (t : ℕ) (other : t ≡ 0 
     command-kept thread o threads ready small commands = rw commands (sym (ready .kept (own .0) small))
 
     module _ (item : Option Command) (item-is : item ≡ keptAt kinds itemKeys itemChutes (own .0)) where
-      -- a holding worker finds what the model's lookup of that command finds
-      pub holding-looks-up : (found : ℕ) → found ≡ foundFor item (storeOf (m .service .keys) (m .service .chutes) (m .service .used))
-          → Ready list kinds itemKeys itemChutes m (Holding own) → Steps list t (Holding own) m kinds itemKeys itemChutes (LookedUp own found) m
-      unfolding workerStep holding serveTo
-      holding-looks-up found found-is ready =
-          worker-steps kinds itemKeys itemChutes (Holding own) (LookedUp own found) m
-          (λ o threads commands capacity is. rw (found-is, item-is, command-kept (Holding own) o threads ready (ready .within) commands))
-          (store-ready list kinds itemKeys itemChutes m (Holding own) ready (LookedUp own found) (m .service .keys) (m .service .chutes) (m .service .answers) (m .service .used) refl (ready .within))
+      -- what a worker with that command writes after a lookup is what the model writes
+      module _ (thread : Thread) (ready : Ready list kinds itemKeys itemChutes m thread) (small : own .0 ≤ 150) (found : ℕ) (keys′ chutes′ answers′ : List ℕ) (used′ : ℕ)
+          (writes : Writes item (numbers (m .graph .seq) (own .0)) found (m .service .keys) (m .service .chutes) (m .service .answers) (m .service .used) keys′ chutes′ answers′ used′)
+          (count : length answers′ ≡ length (m .service .answers)) where
+        abbrev written : Memory
+        written = withStore keys′ chutes′ answers′ used′ m
 
-      -- and one that has looked up writes what the model writes for that command
-      pub looked-up-writes : (place : ℕ) → place ≡ numbers (m .graph .seq) (own .0) → (found : ℕ) (keys′ chutes′ answers′ : List ℕ) (used′ : ℕ)
-          → Writes item place found (m .service .keys) (m .service .chutes) (m .service .answers) (m .service .used) keys′ chutes′ answers′ used′
+        writes-as-model : (o : Setup) (threads : ℕ → Thread) → o .commands ≡ commandsIn list → o .capacity ≡ length (m .service .keys)
+            → lookedUp o t (own .0) found (shown m threads) ≡ shown written (upd threads t (Written own))
+        unfolding lookedUp serveTo
+        writes-as-model o threads commands capacity = rw (command-kept thread o threads ready small commands, ← item-is, writes o capacity)
+
+        written-ready : Ready list kinds itemKeys itemChutes written (Written own)
+        written-ready = store-ready list kinds itemKeys itemChutes m thread ready (Written own) keys′ chutes′ answers′ used′ count small
+
+      -- a holding worker finds what the model's lookup of that command finds, and writes at once what is written in one step
+      module _ (ready : Ready list kinds itemKeys itemChutes m (Holding own)) (found : ℕ)
+          (found-is : found ≡ foundFor item (storeOf (m .service .keys) (m .service .chutes) (m .service .used))) where
+        pub holding-looks-up : inOneStep item ≡ false → Steps list t (Holding own) m kinds itemKeys itemChutes (LookedUp own found) m
+        unfolding workerStep holding serveTo
+        holding-looks-up two =
+            worker-steps kinds itemKeys itemChutes (Holding own) (LookedUp own found) m
+            (λ o threads commands capacity is. rw (command-kept (Holding own) o threads ready (ready .within) commands, ← item-is, two, ← found-is))
+            (store-ready list kinds itemKeys itemChutes m (Holding own) ready (LookedUp own found) (m .service .keys) (m .service .chutes) (m .service .answers) (m .service .used) refl (ready .within))
+
+        pub holding-writes : inOneStep item ≡ true → (keys′ chutes′ answers′ : List ℕ) (used′ : ℕ)
+            → Writes item (numbers (m .graph .seq) (own .0)) found (m .service .keys) (m .service .chutes) (m .service .answers) (m .service .used) keys′ chutes′ answers′ used′
+            → length answers′ ≡ length (m .service .answers)
+            → Steps list t (Holding own) m kinds itemKeys itemChutes (Written own) (withStore keys′ chutes′ answers′ used′ m)
+        unfolding workerStep holding
+        holding-writes one keys′ chutes′ answers′ used′ writes count =
+            worker-steps kinds itemKeys itemChutes (Holding own) (Written own) (withStore keys′ chutes′ answers′ used′ m)
+            (λ o threads commands capacity is.
+            let same = command-kept (Holding own) o threads ready (ready .within) commands ∙ sym item-is in
+            rw (ap inOneStep same ∙ one, ap (λ (c : Option Command). foundFor c (shown m threads .service .store)) same ∙ sym found-is)
+            (writes-as-model (Holding own) ready (ready .within) found keys′ chutes′ answers′ used′ writes count o threads commands capacity))
+            (written-ready (Holding own) ready (ready .within) found keys′ chutes′ answers′ used′ writes count)
+
+      -- and one that has looked up writes
+      pub looked-up-writes : (found : ℕ) (keys′ chutes′ answers′ : List ℕ) (used′ : ℕ)
+          → Writes item (numbers (m .graph .seq) (own .0)) found (m .service .keys) (m .service .chutes) (m .service .answers) (m .service .used) keys′ chutes′ answers′ used′
           → length answers′ ≡ length (m .service .answers) → Ready list kinds itemKeys itemChutes m (LookedUp own found)
           → Steps list t (LookedUp own found) m kinds itemKeys itemChutes (Written own) (withStore keys′ chutes′ answers′ used′ m)
-      unfolding workerStep lookedUp serveTo
-      looked-up-writes place place-is found keys′ chutes′ answers′ used′ writes count ready =
+      unfolding workerStep
+      looked-up-writes found keys′ chutes′ answers′ used′ writes count ready =
           worker-steps kinds itemKeys itemChutes (LookedUp own found) (Written own) (withStore keys′ chutes′ answers′ used′ m)
-          (λ o threads commands capacity is.
-          rw (command-kept (LookedUp own found) o threads ready (ready .within) commands, ← item-is, ← place-is, writes o capacity))
-          (store-ready list kinds itemKeys itemChutes m (LookedUp own found) ready (Written own) keys′ chutes′ answers′ used′ count (ready .within))
+          (λ o threads commands capacity is. writes-as-model (LookedUp own found) ready (ready .within) found keys′ chutes′ answers′ used′ writes count o threads commands capacity)
+          (written-ready (LookedUp own found) ready (ready .within) found keys′ chutes′ answers′ used′ writes count)
 
   module _ (at : Node) where
     -- searching, walking and clearing are the model's: the functions along the chain ensure it of every state that the arrays show

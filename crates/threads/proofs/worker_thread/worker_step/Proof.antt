@@ -1,10 +1,9 @@
 -- `threads::worker_thread::worker_step` meets its contract, by the worker's state. Assumes nothing.
 use Prim.Native.Nat.{_≤_}
 use mathlib.Core.Path.{sym, _∙_}
-use native.Mathlib.Omega.{arith}
 use borrow.Author.Needs.{needs}
 use Rattle.threads.proofs.Readiness.{from-known}
-use Rattle.threads.proofs.WorkerSteps.{worker-waits, idle-enters, written-enters, holding-looks-up, looked-up-writes, searching-steps, walking-steps, clearing-steps}
+use Rattle.threads.proofs.WorkerSteps.{worker-waits, idle-enters, written-enters, holding-looks-up, holding-writes, looked-up-writes, searching-steps, walking-steps, clearing-steps}
 use Rattle.threads.proofs.worker_thread.worker_step.Statement.{statement}
 use Rattle.threads.proofs.worker_thread.worker_step.Tie as tie
 
@@ -16,17 +15,16 @@ entry c = c .before .before .before .before .before
 abbrev searching : tie.After-search-arg4 → tie.After-thread
 searching c = c .before .before .before .before .before
 
--- where the worker has looked up, from where the node's place is read
-abbrev looked-up : tie.After-struct-known → tie.After-thread3
-looked-up c = c .before .before .before .before
+-- where the worker holds a node, from the call that writes at once, and the calls between
+abbrev holding : tie.After-write-own-arg4 → tie.After-thread2
+holding c = c .before .before .before .before .before .before .before .before .before .before .before .before
 
--- the call that writes, from the return
-abbrev write-called : tie.After-slice-known6 → tie.After-write
-write-called c = c .before .before .before .before .before .before
+abbrev looking-up : tie.After-write-own-arg4 → tie.After-look-up
+looking-up c = c .before .before .before .before .before .before
 
--- the call that reads the place, from the call that writes
-abbrev place-called : tie.After-write → tie.After-place-of
-place-called c = c .before .before .before .before
+-- where the worker has looked up, from the call that writes
+abbrev looked-up : tie.After-write-own-arg8 → tie.After-thread3
+looked-up c = c .before .before .before .before .before .before .before
 
 -- where the worker walks, from its step
 abbrev walking : tie.After-walk → tie.After-thread5
@@ -65,38 +63,15 @@ item-of-requires c κs =
 look-up-requires : tie.Need-look-up-requires
 look-up-requires c κs = search needs
 
-enum-known-thread-3 : tie.Need-enum-known-thread-3
-enum-known-thread-3 c = search needs
+in-one-step-requires : tie.Need-in-one-step-requires
+in-one-step-requires c κs = search needs
 
-item-of-requires-2 : tie.Need-item-of-requires-2
-item-of-requires-2 c κs =
-    let known = c .before .before in
-    rw (known .thread3 .given .1) at (entry (known .before .before) .pre .within)
-
-cast-place-of : tie.Need-cast-place-of
-cast-place-of c = search needs
-
-mul-place-of : tie.Need-mul-place-of
-mul-place-of c = search needs
-
-element-copy-out-place-of : tie.Need-element-copy-out-place-of
-element-copy-out-place-of c =
-    let known = looked-up c in
-    let within : known .thread3 .given .0 .0 .0 ≤ 150 = rw (known .thread3 .given .1) at (entry (known .before .before) .pre .within) in
-    omega arith
-
-place-of-requires : tie.Need-place-of-requires
-place-of-requires c κs = search needs
-
-write-requires : tie.Need-write-requires
-write-requires c κs =
-    λ command e.
-    let placed = c .before .before .before in
-    let item = placed .before .before .before in
-    let known = item .before .before .before in
+write-own-requires : tie.Need-write-own-requires
+write-own-requires c κs =
+    let known = holding c in
     let start = entry (known .before .before) in
-    let within : known .thread3 .given .0 .0 .0 ≤ 150 = rw (known .thread3 .given .1) at (start .pre .within) in
-    rw (placed .place-of .ensures) (start .pre .placed (known .thread3 .given .0 .0 .0) command within (sym (item .item-of2 .ensures) ∙ e))
+    let within : known .thread2 .given .0 .0 .0 ≤ 150 = rw (known .thread2 .given .1) at (start .pre .within) in
+    (within, λ command e. start .pre .placed (known .thread2 .given .0 .0 .0) command within (sym (looking-up c .before .before .before .item-of .ensures) ∙ e))
 
 same-length : tie.Need-same-length
 same-length c = search needs
@@ -109,14 +84,51 @@ same-length-3 c = search needs
 
 returns : tie.Need-returns
 returns c =
-    let written = write-called c in
-    let placed = place-called written in
-    let item = placed .before .before .before in
-    let known = item .before .before .before in
+    let written = c .before .before .before .before .before .before in
+    let called = written .before in
+    let known = holding called in
+    let found = looking-up called in
+    let one = called .before .before .before .before in
+    let does = written .write-own .ensures in
+    λ list t other. from-known (known .thread2 .given .1) (λ ready.
+    rw (does .0, does .1 .0 .0, does .1 .0 .1)
+    (holding-writes _ _ _ _ _ other _ (known .thread2 .given .0 .0) _ (found .before .before .before .item-of .ensures) ready _ (found .look-up .ensures)
+    (sym (one .before .in-one-step .ensures) ∙ one .if1 .taken) _ _ _ _ (does .1 .1) (written .write-own .kept .1 .1 .1 .1 .1 .1 .0)))
+
+enum-known-thread-3 : tie.Need-enum-known-thread-3
+enum-known-thread-3 c = search needs
+
+item-of-requires-2 : tie.Need-item-of-requires-2
+item-of-requires-2 c κs =
+    let known = c .before .before in
+    rw (known .thread3 .given .1) at (entry (known .before .before) .pre .within)
+
+write-own-requires-2 : tie.Need-write-own-requires-2
+write-own-requires-2 c κs =
+    let known = looked-up c in
+    let start = entry (known .before .before) in
+    let within : known .thread3 .given .0 .0 .0 ≤ 150 = rw (known .thread3 .given .1) at (start .pre .within) in
+    (within, λ command e. start .pre .placed (known .thread3 .given .0 .0 .0) command within (sym (c .before .before .before .before .item-of2 .ensures) ∙ e))
+
+same-length-4 : tie.Need-same-length-4
+same-length-4 c = search needs
+
+same-length-5 : tie.Need-same-length-5
+same-length-5 c = search needs
+
+same-length-6 : tie.Need-same-length-6
+same-length-6 c = search needs
+
+returns-2 : tie.Need-returns-2
+returns-2 c =
+    let written = c .before .before .before .before .before .before in
+    let known = looked-up (written .before) in
     let fields = known .thread3 .given .0 in
+    let does = written .write-own2 .ensures in
     λ list t other. from-known (known .thread3 .given .1)
-    (looked-up-writes _ _ _ _ _ other _ (fields .0) _ (item .item-of2 .ensures) _ (placed .place-of .ensures) (fields .1 .0) _ _ _ _
-    (written .write .ensures) (written .write .kept .1 .1 .1 .1 .1 .0))
+    (rw (does .0, does .1 .0 .0, does .1 .0 .1)
+    (looked-up-writes _ _ _ _ _ other _ (fields .0) _ (written .before .before .before .before .before .item-of2 .ensures) (fields .1 .0) _ _ _ _ (does .1 .1)
+    (written .write-own2 .kept .1 .1 .1 .1 .1 .1 .0)))
 
 enum-known-thread-4 : tie.Need-enum-known-thread-4
 enum-known-thread-4 c = search needs
@@ -144,8 +156,8 @@ clear-own-requires c κs =
     let within = rw (known .thread6 .given .1) at (start .pre .within) in
     (start .pre .nodes, within .0, within .1, start .pre .free)
 
-returns-2 : tie.Need-returns-2
-returns-2 c =
+returns-3 : tie.Need-returns-3
+returns-3 c =
     let cleared = c .before in
     let known = clearing (cleared .before) in
     let fields = known .thread6 .given .0 in
@@ -153,42 +165,43 @@ returns-2 c =
     λ list t other. from-known (known .thread6 .given .1) (λ ready.
     clearing-steps _ _ _ _ _ other _ (fields .0) (fields .1 .0) _ _ _ _ _ _ _ _ (does .1 .0) (does .0 .0) (does .0 .1) (does .0 .2) (does .1 .1 _ _ _ (ready .kept)) ready)
 
-returns-3 : tie.Need-returns-3
-returns-3 c =
+returns-4 : tie.Need-returns-4
+returns-4 c =
     let known = c .before .before in
     λ list t other. from-known (known .enum-told .given .1) (idle-enters _ _ _ _ _ other _ _ _ (rw (known .enum-told .given .1) at (c .enter .ensures)))
 
-returns-4 : tie.Need-returns-4
-returns-4 c =
+returns-5 : tie.Need-returns-5
+returns-5 c =
     let fields = c .enum-told2 .given .0 in
     λ list t other. worker-waits _ _ _ _ _ other _ (fields .0) (fields .1 .0) _ (c .enum-told2 .given .1)
 
-returns-5 : tie.Need-returns-5
-returns-5 c =
+returns-6 : tie.Need-returns-6
+returns-6 c =
     let known = searching (c .before) in
     λ list t other. from-known (known .thread .given .1)
     (searching-steps _ _ _ _ _ other _ (known .thread .given .0 .0) _ _ _ (c .search .ensures .1) (c .search .ensures .0))
 
-same-length-4 : tie.Need-same-length-4
-same-length-4 c = search needs
+same-length-7 : tie.Need-same-length-7
+same-length-7 c = search needs
 
-same-length-5 : tie.Need-same-length-5
-same-length-5 c = search needs
-
-returns-6 : tie.Need-returns-6
-returns-6 c =
-    let item = c .before .before .before in
-    let known = item .before .before .before in
-    λ list t other. from-known (known .thread2 .given .1)
-    (holding-looks-up _ _ _ _ _ other _ (known .thread2 .given .0 .0) _ (item .item-of .ensures) _ (c .look-up .ensures))
+same-length-8 : tie.Need-same-length-8
+same-length-8 c = search needs
 
 returns-7 : tie.Need-returns-7
 returns-7 c =
-    let known = c .before .before .before in
-    λ list t other. from-known (known .thread4 .given .1) (written-enters _ _ _ _ _ other _ (known .thread4 .given .0 .0) _ _ (c .enter2 .ensures))
+    let found = c .before .before in
+    let item = found .before .before .before in
+    let known = item .before .before .before in
+    λ list t other. from-known (known .thread2 .given .1) (λ ready.
+    holding-looks-up _ _ _ _ _ other _ (known .thread2 .given .0 .0) _ (item .item-of .ensures) ready _ (found .look-up .ensures) (sym (c .before .in-one-step .ensures) ∙ c .if1 .left))
 
 returns-8 : tie.Need-returns-8
 returns-8 c =
+    let known = c .before .before .before in
+    λ list t other. from-known (known .thread4 .given .1) (written-enters _ _ _ _ _ other _ (known .thread4 .given .0 .0) _ _ (c .enter2 .ensures))
+
+returns-9 : tie.Need-returns-9
+returns-9 c =
     let known = walking c in
     let fields = known .thread5 .given .0 in
     λ list t other. from-known (known .thread5 .given .1)
@@ -206,29 +219,31 @@ worker-step-spec =
     enum-known-thread-2
     item-of-requires
     look-up-requires
-    enum-known-thread-3
-    item-of-requires-2
-    cast-place-of
-    mul-place-of
-    element-copy-out-place-of
-    place-of-requires
-    write-requires
+    in-one-step-requires
+    write-own-requires
     same-length
     same-length-2
     same-length-3
     returns
+    enum-known-thread-3
+    item-of-requires-2
+    write-own-requires-2
+    same-length-4
+    same-length-5
+    same-length-6
+    returns-2
     enum-known-thread-4
     enter-requires-2
     enum-known-thread-5
     walk-requires
     enum-known-thread-6
     clear-own-requires
-    returns-2
     returns-3
     returns-4
     returns-5
-    same-length-4
-    same-length-5
     returns-6
+    same-length-7
+    same-length-8
     returns-7
-    returns-8)
+    returns-8
+    returns-9)
