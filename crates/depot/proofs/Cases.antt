@@ -1,5 +1,5 @@
--- The marked cases, proved: (a) to (j) by computation; (k) and (l) by what the model's steps reach from the input, by computation too.
--- Assumes nothing.
+-- The marked cases, proved: (a) to (j) and the turns needed by computation; (k) and (l) by what the model's steps reach from the input, by
+-- computation too. Assumes nothing.
 use Prim.Native.Nat.{ℕ}
 use native.Mathlib.Omega.{arith}
 use mathlib.Core.Path.{_≡_, refl}
@@ -29,9 +29,9 @@ use Rattle.depot.proofs.Reached.{prints-reached}
 abbrev Accepts : List ℕ → Type 0
 Accepts i = (opening i ≡ accepted (listsOf (inputSetup i) (opened (inputSetup i)))) × (allWithin (workersOf i) (scheduleOf i) ≡ true)
 
-accepts-20 : Accepts (stopped 20)
+accepts-19 : Accepts (stopped 19)
 unfolding input numberAt openOn openedWith firstRefusal readings readText firstFault checkDigit keyOf zeros lengthsFit stateLength allWithin
-accepts-20 = (refl, refl)
+accepts-19 = (refl, refl)
 
 accepts-9 : Accepts (stopped 9)
 unfolding input numberAt openOn openedWith firstRefusal readings readText firstFault checkDigit keyOf zeros lengthsFit stateLength allWithin
@@ -40,7 +40,7 @@ accepts-9 = (refl, refl)
 -- and the others
 whole-passes : InputPasses input
 unfolding input numberAt
-whole-passes = record { short = omega arith; whole = omega arith; lists = _; opens = accepts-20 .0; named = accepts-20 .1 }
+whole-passes = record { short = omega arith; whole = omega arith; lists = _; opens = accepts-19 .0; named = accepts-19 .1 }
 
 stopped-passes : InputPasses (stopped 9)
 unfolding input numberAt
@@ -61,4 +61,5 @@ marked = record {
   j = (refl, refl);
   k = prints-reached input whole-passes;
   l = prints-reached (stopped 9) stopped-passes;
+  needed = (refl, refl, refl, refl);
 }

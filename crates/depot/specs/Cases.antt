@@ -1,10 +1,10 @@
 -- The marked cases (a) to (l) of document 01, as one table: the definitions of identifiers, dependence, serial run and steps on the values
--- that the document names, and the program's whole text on its example. `proofs/Cases.antt` proves it. Assumes nothing.
+-- that the document names, the program's whole text on its example, and the turns that the example needs. `proofs/Cases.antt` proves it. Assumes nothing.
 use Prim.Native.Nat.{ℕ, _+_}
 use mathlib.Core.Path.{_≡_}
 use mathlib.Core.Bool.{true, false}
 use mathlib.Core.List.{List, [], _∷_, _++_}
-use lib.ListN.{take, replicate}
+use lib.ListN.{length, take, replicate}
 use Rattle.s10.specs.Text.{checkDigit, largestKey, digits}
 use Rattle.s10.specs.Outcome.{readText}
 use Rattle.s10.specs.Outcome as Identifier
@@ -12,11 +12,15 @@ use Rattle.command.specs.declared.Kind.{Kind}
 use Rattle.command.specs.declared.Kind.the-variants.{Insert, Read, Update}
 use Rattle.command.specs.declared.Command.{Command}
 use Rattle.command.specs.Dependent.{areDependent}
+use Rattle.model.specs.declared.Thread.the-variants.{Idle, Clearing}
+use Rattle.model.specs.Graph.{chainFrom}
 use Rattle.model.specs.Serial.{Entry, served, serve}
 use Rattle.model.specs.Store.{layOut, lookUp}
 use Rattle.model.specs.Service.{Write, write, writeKind}
+use Rattle.model.specs.Step.{State, node}
 use Rattle.depot.specs.Text.{ascii}
 use Rattle.depot.specs.Program.{output}
+use Rattle.depot.specs.Reached.{reached}
 
 unfoldable pub command : Kind → ℕ → ℕ → Command
 command kind key chute = record { kind = kind; key = key; chute = chute }
@@ -33,14 +37,19 @@ corrected = record { key = 1; chute = 7 } ∷ []
 unfoldable pub writtenInFull : Command → Write
 writtenInFull c = writeKind (c .kind) 1 (c .key) (c .chute) (lookUp (c .key) (layOut 1 full)) (layOut 1 full)
 
--- "Input: size 2, workers 1, room 4, count 2; insert AA000000005AA chute 7; read the same; then 5 bytes 0 and 15 bytes 1."
+-- "Input: size 2, workers 1, room 4, count 2; insert AA000000005AA chute 7; read the same; then 5 bytes 0 and 15 bytes 1."; "the whole run in
+-- document 01 now needs 14 bytes 1 where it had 15" (02, A.8)
 unfoldable pub input : List ℕ
 input =
-    (2 ∷ 1 ∷ 0 ∷ 4 ∷ 0 ∷ 2 ∷ 1 ∷ ascii "AA000000005AA") ++ (0 ∷ 7 ∷ 3 ∷ ascii "AA000000005AA") ++ (0 ∷ 0 ∷ []) ++ replicate 5 0 ++ replicate 15 1
+    (2 ∷ 1 ∷ 0 ∷ 4 ∷ 0 ∷ 2 ∷ 1 ∷ ascii "AA000000005AA") ++ (0 ∷ 7 ∷ 3 ∷ ascii "AA000000005AA") ++ (0 ∷ 0 ∷ []) ++ replicate 5 0 ++ replicate 14 1
 
 -- the same with its first n turns: 38 bytes stand before the turns
 abbrev pub stopped : ℕ → List ℕ
 stopped n = take (38 + n) input
+
+-- the state that they reach
+abbrev pub after : ℕ → State
+after n = reached (stopped n)
 
 pub record Marked : Type 0 where
   -- "serial 00000000 has check digit 5"
@@ -68,3 +77,5 @@ pub record Marked : Type 0 where
   pub k : output input ≡ ascii "1 insert AA000000005AA 1000\n2 read AA000000005AA 7\nstore 1 chain 0\n"
   -- "the same stopped after 9 turns: answers 1000 and 0, store 1, chain 2"
   pub l : output (stopped 9) ≡ ascii "1 insert AA000000005AA 1000\n2 read AA000000005AA 0\nstore 1 chain 2\n"
+  -- "now needs 14 bytes 1": they leave every party idle; 13 leave worker 1 clearing, and 12 its record linked
+  pub needed : (after 19 .threads 0 ≡ Idle) × (after 19 .threads 1 ≡ Idle) × (after 18 .threads 1 ≡ Clearing (node 0) (node 2)) × (length (chainFrom 150 0 (after 17 .graph)) ≡ 1)

@@ -33,8 +33,10 @@ pub fn in_one_step(item: Item) -> bool
         Item::Of(command) => {
             let kind = command.kind;
             match kind {
+                Kind::Insert => false,
+                Kind::Delete => false,
                 Kind::Read => true,
-                Kind::Insert | Kind::Delete | Kind::Update => false,
+                Kind::Update => false,
             }
         }
     }

@@ -1,11 +1,5 @@
 -- `service::in_one_step` meets its contract: by the cases of the item, and of its kind. Assumes nothing.
-use mathlib.Core.Path.{_≡_, refl}
-use mathlib.Core.Bool.{false}
-use mathlib.Core.List.{[], _∷_}
 use borrow.Author.Needs.{needs}
-use Rattle.command.specs.declared.Kind.{Kind}
-use Rattle.command.specs.declared.Kind.the-variants.{Insert, Delete, Update}
-use Rattle.command.proofs.Places.{one-of}
 use Rattle.model.specs.Service.{isRead, inOneStep}
 use Rattle.graph.proofs.service.in_one_step.Statement.{statement}
 use Rattle.graph.proofs.service.in_one_step.Tie as tie
@@ -19,6 +13,15 @@ enum-known-item c = search needs
 enum-told-2 : tie.Need-enum-told-2
 enum-told-2 c = search needs
 
+enum-told-3 : tie.Need-enum-told-3
+enum-told-3 c = search needs
+
+enum-told-4 : tie.Need-enum-told-4
+enum-told-4 c = search needs
+
+enum-told-5 : tie.Need-enum-told-5
+enum-told-5 c = search needs
+
 returns : tie.Need-returns
 unfolding inOneStep
 returns c = rw (c .enum-told .given .1)
@@ -29,9 +32,17 @@ returns-2 c = rw (c .before .before .before .item .given .1, c .enum-told2 .give
 
 returns-3 : tie.Need-returns-3
 unfolding inOneStep isRead
-returns-3 c =
-    let known = c .before .before .item .given in
-    rw (known .1) (one-of (λ (k : Kind). false ≡ isRead k) (known .0 .0 .kind) Insert (Delete ∷ Update ∷ []) (c .match2 .keys2) (refl, (refl, refl)))
+returns-3 c = rw (c .before .before .before .item .given .1, c .enum-told3 .given .1)
+
+returns-4 : tie.Need-returns-4
+unfolding inOneStep isRead
+returns-4 c = rw (c .before .before .before .item .given .1, c .enum-told4 .given .1)
+
+returns-5 : tie.Need-returns-5
+unfolding inOneStep isRead
+returns-5 c = rw (c .before .before .before .item .given .1, c .enum-told5 .given .1)
 
 pub in-one-step-spec : {M : Type 1} → statement M
-in-one-step-spec = tie.close (tie.spec enum-told enum-known-item enum-told-2 returns returns-2 returns-3)
+in-one-step-spec =
+    tie.close
+    (tie.spec enum-told enum-known-item enum-told-2 enum-told-3 enum-told-4 enum-told-5 returns returns-2 returns-3 returns-4 returns-5)
