@@ -6,7 +6,7 @@ archive = target/staticlib/libdepot_c.a
 sources = crates.txt $(shell find crates -name '*.rt' -o -name '*.antt')
 prefix = $(DESTDIR)$(abspath $(PREFIX))
 
-# The program on document 01's example: two commands, five steps of the loader, fifteen of worker 1.
+# The program on document 01's example: two commands, five steps of the loader, fourteen of worker 1.
 demo:
 	rt check depot
 	target/bin/depot < crates/depot/stdin

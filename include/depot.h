@@ -110,7 +110,8 @@ enum depot_answer {
     DEPOT_ANNOUNCED_AGAIN = 1004 /* insert of a present item, also in a full store: it has the new chute */
 };
 
-/* States of a party. The loader is idle or loading, a worker anything but loading. */
+/* States of a party. The loader is idle or loading, a worker anything but loading. A worker with a read goes from holding to
+ * written in one turn: no dealing leaves it looked-up. */
 enum depot_thread_state {
     DEPOT_IDLE = 0,
     DEPOT_LOADING = 1,
