@@ -184,10 +184,11 @@ uint64_t depot_open(uint8_t *state, size_t state_length, uint8_t *keys, size_t k
  *
  * That some dealing finishes does not mean that each repeated pattern does. With one worker, 1 0 1 repeated from the opening never
  * loads a command: the loader's turn always falls while the worker stands on the head. Two turns each, 0 0 1 1, never load the
- * second command at graph size 1. Deal round-robin, one turn each (0, 1, .. up to the worker count, and again), some thousands of
- * turns a call: in a search made apart from this repository it finished from every run reached (up to 4 records, 4 workers and 6
- * commands) and in millions of random runs (up to 20 records, 8 workers, 40 commands), never in more than n (2 w + s + 6) + 2
- * rounds, with n commands, w workers and graph size s. tests/second/tests/patterns.rs runs 2,000 such runs. It is not proved.
+ * second of two inserts at graph size 1. Deal round-robin, one turn each (0, 1, .. up to the worker count, and again), some
+ * thousands of turns a call: in a search made apart from this repository, when a read still took two turns, it finished from every
+ * run reached (up to 4 records, 4 workers and 6 commands) and in millions of random runs (up to 20 records, 8 workers, 40
+ * commands), never in more than n (2 w + s + 6) + 2 rounds, with n commands, w workers and graph size s.
+ * tests/second/tests/patterns.rs runs 2,000 such runs, with reads in one turn. It is not proved.
  *
  * Writes state, keys, chutes, answers; reads commands (those of the opening) and schedule.
  * Refuses 6 (a length that is not the opening's, by the state's own settings), then 12 (the state breaks its layout), then 11

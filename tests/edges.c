@@ -207,11 +207,11 @@ static void test_empty_lists(void)
     free_all(&nothing);
 }
 
-/* Document 01's example, whole and cut after nine turns. */
+/* Document 01's example, whole, cut after nine turns and before the last: five turns of the loader, fourteen of worker 1. */
 static void test_example(void)
 {
     const struct settings s = {2, 1, 4};
-    const uint8_t schedule[20] = {0, 0, 0, 0, 0, 1, 1, 1, 1, 1, 1, 1, 1, 1, 1, 1, 1, 1, 1, 1};
+    const uint8_t schedule[19] = {0, 0, 0, 0, 0, 1, 1, 1, 1, 1, 1, 1, 1, 1, 1, 1, 1, 1, 1};
     struct lists l = make_all(2, 4);
     put_command(&l, 0, DEPOT_INSERT, 0, 7);
     put_command(&l, 1, DEPOT_READ, 0, 0);
@@ -223,7 +223,12 @@ static void test_example(void)
     check(l.at[OWN].bytes[0] == 0 && l.at[OWN].bytes[1] == 1 && l.at[OWN].bytes[2] == 0, "example", "counts", 0);
     report(&l, STATUS, DEPOT_STATUS_LENGTH, 0, "status after nine turns");
     check(l.at[OWN].bytes[0] == DEPOT_WRITTEN && l.at[OWN].bytes[1] == 1, "example", "status", 0);
-    advance(&l, schedule + 9, 11, 0, "the other turns");
+    advance(&l, schedule + 9, 9, 0, "the other turns but the last");
+    report(&l, STATUS, DEPOT_STATUS_LENGTH, 0, "status before the last turn");
+    check(l.at[OWN].bytes[0] == DEPOT_CLEARING && l.at[OWN].bytes[1] == 2, "example", "status before the last turn", 0);
+    advance(&l, schedule + 18, 1, 0, "the last turn");
+    report(&l, STATUS, DEPOT_STATUS_LENGTH, 0, "status after the last turn");
+    check(l.at[OWN].bytes[0] == DEPOT_IDLE && l.at[OWN].bytes[1] == 0, "example", "status after the last turn", 0);
     check(depot_short_at(l.at[ANSWERS].bytes, 1) == 7, "example", "second answer", 0);
     check(depot_key_at(l.at[KEYS].bytes, 0) == 0 && depot_short_at(l.at[CHUTES].bytes, 0) == 7, "example", "table", 0);
     free_all(&l);

@@ -6,8 +6,15 @@ use second::identifier;
 use second::random::Random;
 use second::run::{Run, Settings};
 
-/// One in this many commands inserts; the rest read.
+/// In a list with inserts, one in this many commands is one; the rest read.
 const INSERT_EVERY: usize = 10;
+
+/// Which commands a list has.
+#[derive(Clone, Copy)]
+pub enum Kinds {
+    InsertsAndReads,
+    Reads,
+}
 
 /// How turns are dealt.
 #[derive(Clone, Copy)]
@@ -33,11 +40,11 @@ pub struct Input {
 
 impl Input {
     /// The turns end with the list, or are `most` where it takes more.
-    pub fn new(settings: Settings, count: usize, order: Order, most: usize) -> Input {
+    pub fn new(settings: Settings, kinds: Kinds, count: usize, order: Order, most: usize) -> Input {
         let random = &mut Random::new(2026);
         let mut input = Input {
             settings,
-            commands: list(random, count),
+            commands: list(random, kinds, count),
             schedule: Vec::new(),
             waits: 0,
             done: false,
@@ -87,15 +94,17 @@ fn removed(run: &Run) -> bool {
         && run.records.place.iter().all(|place| *place == 0)
 }
 
-/// A list in which the reads ask for keys that its inserts put in, before or after them.
-fn list(random: &mut Random, count: usize) -> Vec<u8> {
+/// A list in which the reads ask for keys that its inserts put in, before or after them; without
+/// inserts they find nothing.
+fn list(random: &mut Random, kinds: Kinds, count: usize) -> Vec<u8> {
     let inserts = count.div_ceil(INSERT_EVERY).max(1);
     let keys: Vec<u64> = (0..inserts)
         .map(|_| random.below(identifier::LARGEST_KEY + 1))
         .collect();
     let mut list = Vec::new();
     for index in 0..count {
-        let (kind, key, chute) = if index % INSERT_EVERY == 0 {
+        let is_insert = matches!(kinds, Kinds::InsertsAndReads) && index % INSERT_EVERY == 0;
+        let (kind, key, chute) = if is_insert {
             let chute = 1 + random.below(u64::from(command::LARGEST_CHUTE)) as u16;
             (Kind::Insert, keys[index / INSERT_EVERY], chute)
         } else {

@@ -2,7 +2,7 @@
 //! one process, and their lists are compared at the end; a difference ends with status 1.
 //!
 //! `bench [runs [part [turns]]]`: 11 runs, all parts and whole lists unless said. The parts are
-//! `steps`, `calls` and `growth`; `turns` is the most that is dealt of a list.
+//! `steps`, `calls`, `growth` and `reads`; `turns` is the most that is dealt of a list.
 
 use std::env;
 use std::path::PathBuf;

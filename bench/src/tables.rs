@@ -4,7 +4,7 @@ use std::time::Duration;
 
 use second::run::Settings;
 
-use crate::input::{Input, Order};
+use crate::input::{Input, Kinds, Order};
 use crate::measure::{Bench, CALL_STEPS, Times};
 
 const MOST_COMMANDS: usize = 4096;
@@ -23,12 +23,17 @@ const fn settings(size: u8, workers: u8, room: u16) -> Settings {
 /// Measures and prints one part, or all.
 pub fn print(bench: &Bench, part: Option<&str>) -> Result<(), String> {
     type Part = fn(&Bench) -> Result<(), String>;
-    let parts: [(&str, Part); 3] = [("steps", steps), ("calls", calls), ("growth", growth)];
+    let parts: [(&str, Part); 4] = [
+        ("steps", steps),
+        ("calls", calls),
+        ("growth", growth),
+        ("reads", reads),
+    ];
     if let Some(part) = part
         && parts.iter().all(|(name, _)| *name != part)
     {
         return Err(format!(
-            "no part `{part}`; the parts are steps, calls and growth"
+            "no part `{part}`; the parts are steps, calls, growth and reads"
         ));
     }
     println!("Medians of {} runs, processor time.", bench.runs);
@@ -45,6 +50,16 @@ pub fn print(bench: &Bench, part: Option<&str>) -> Result<(), String> {
 /// Whole lists by random and round-robin turns.
 fn steps(bench: &Bench) -> Result<(), String> {
     println!("Steps: a list of {MOST_COMMANDS} commands, in calls of {CALL_STEPS}.\n");
+    table_of_steps(bench, Kinds::InsertsAndReads)
+}
+
+/// The same of a list that has nothing but reads.
+fn reads(bench: &Bench) -> Result<(), String> {
+    println!("Reads: a list of {MOST_COMMANDS} reads, in calls of {CALL_STEPS}.\n");
+    table_of_steps(bench, Kinds::Reads)
+}
+
+fn table_of_steps(bench: &Bench, kinds: Kinds) -> Result<(), String> {
     println!(
         "| Size, workers, room | Schedule | Steps | Waits | Proved, steps/s | Plain, steps/s \
          | Ratio of times | Plain turns alone, steps/s | Ratio |"
@@ -58,7 +73,7 @@ fn steps(bench: &Bench) -> Result<(), String> {
     ];
     for settings in [LARGEST, settings(8, 4, 4096), settings(2, 1, 4096)] {
         for (name, order) in orders {
-            let input = Input::new(settings, MOST_COMMANDS, order, bench.most_turns);
+            let input = Input::new(settings, kinds, MOST_COMMANDS, order, bench.most_turns);
             let times = bench.steps(&input)?;
             let steps = input.schedule.len();
             println!(
@@ -81,7 +96,7 @@ fn steps(bench: &Bench) -> Result<(), String> {
 
 /// Opening, and a call with an empty schedule.
 fn calls(bench: &Bench) -> Result<(), String> {
-    let input = Input::new(LARGEST, MOST_COMMANDS, Order::LongChain, FEWER_TURNS);
+    let input = long_chain(LARGEST, MOST_COMMANDS);
     println!("Calls: size 150, 64 workers, room 4096, {MOST_COMMANDS} commands.\n");
     println!("| Call | Proved | Plain | Ratio |");
     println!("|---|---|---|---|");
@@ -119,7 +134,7 @@ fn growth(bench: &Bench) -> Result<(), String> {
 }
 
 fn grown(bench: &Bench, name: &str, settings: Settings, count: usize) -> Result<(), String> {
-    let input = Input::new(settings, count, Order::LongChain, FEWER_TURNS);
+    let input = long_chain(settings, count);
     let steps = input.schedule.len();
     let whole = bench.steps(&input)?.calls;
     let step = |time: Duration| format!("{:.1} ns", time.as_secs_f64() * 1e9 / steps as f64);
@@ -133,6 +148,12 @@ fn grown(bench: &Bench, name: &str, settings: Settings, count: usize) -> Result<
         whole.ratio(),
     );
     Ok(())
+}
+
+/// A list with inserts, by turns that fill the chain up.
+fn long_chain(settings: Settings, count: usize) -> Input {
+    let kinds = Kinds::InsertsAndReads;
+    Input::new(settings, kinds, count, Order::LongChain, FEWER_TURNS)
 }
 
 /// Both times and their ratio.

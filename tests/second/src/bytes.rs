@@ -223,7 +223,7 @@ pub fn party_bytes(party: Party) -> [u8; PARTY_BYTES] {
 }
 
 /// A command of a handed-back list; a refused one, which opening accepts nowhere, counts as a
-/// read of key 0.
+/// read of key 0 and is done in one turn as every read.
 fn read_command(part: &[u8; command::LENGTH]) -> Command {
     command::read(part).unwrap_or(Command {
         kind: Kind::Read,

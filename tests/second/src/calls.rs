@@ -236,6 +236,51 @@ mod tests {
         assert_eq!(status[..4], [5, 1, 0, 0]);
     }
 
+    /// Document 02, A.8, in bytes: the worker and its standing in the panel after 10 to 14 turns of
+    /// its own, with a call for each. It is written behind the turn in which it held the read.
+    #[test]
+    fn the_example_s_last_turns_in_bytes() {
+        let mut caller = Caller::opened();
+        assert_eq!(
+            caller.advance(&[0, 0, 0, 0, 0, 1, 1, 1, 1, 1, 1, 1, 1, 1]),
+            0
+        );
+        let turns = [(3, 2, 0), (5, 2, 7), (6, 2, 7), (7, 2, 7), (0, 0, 7)];
+        for (state, own, answer) in turns {
+            assert_eq!(caller.advance(&[1]), 0);
+            assert_eq!(caller.state[4390..4395], [0; 5], "the loader");
+            assert_eq!(caller.state[4395..4400], [state, 0, own, 0, 0]);
+            assert_eq!(caller.answers, [3, 232, 0, answer]);
+            let mut status = [9; 128];
+            assert_eq!(caller.report(worker_status, &mut status), 0);
+            assert_eq!(status[..4], [state, own, 0, 0]);
+        }
+        assert_eq!(
+            caller.state[..14],
+            [2, 1, 0, 4, 0, 2, 0, 2, 0, 1, 2, 0, 0, 1]
+        );
+        assert!(caller.state[14..].iter().all(|byte| *byte == 0));
+    }
+
+    /// docs/STATE-LAYOUT.md: a worker that is looked-up for a read, as no dealing leaves it, is
+    /// accepted and reported as before A.8, and its turn answers what was found.
+    #[test]
+    fn a_looked_up_read_is_handed_in_as_bytes() {
+        for (found, answer) in [([0, 0], [3, 234]), ([0, 7], [0, 7]), ([2, 1], [2, 1])] {
+            let mut caller = Caller::opened();
+            let turns = [[0; 5].as_slice(), &[1; 10]].concat();
+            assert_eq!(caller.advance(&turns), 0);
+            caller.state[4395..4400].copy_from_slice(&[4, 0, 2, found[0], found[1]]);
+            let mut status = [9; 128];
+            assert_eq!(caller.report(worker_status, &mut status), 0);
+            assert_eq!(status[..4], [4, 2, 0, 0]);
+            assert_eq!(caller.advance(&[1]), 0);
+            assert_eq!(caller.state[4395..4400], [5, 0, 2, 0, 0]);
+            assert_eq!(caller.answers, [[3, 232], answer].concat());
+            assert_eq!(caller.chutes, [0, 7, 0, 0, 0, 0, 0, 0]);
+        }
+    }
+
     /// Document 01, "Numbers of refusal": opening tests 1 to 6 in order, then the commands.
     #[test]
     fn opening_tests_in_order_and_writes_nothing() {

@@ -212,7 +212,7 @@ mod tests {
 
     /// Document 01, the program's example.
     fn example() -> Input {
-        let turns = "--turns-file 0,0,0,0,0,1,1,1,1,1,1,1,1,1,1,1,1,1,1,1";
+        let turns = "--turns-file 0,0,0,0,0,1,1,1,1,1,1,1,1,1,1,1,1,1,1";
         input(&format!("--size 2 --workers 1 --room 4 {turns}"), EXAMPLE)
     }
 
@@ -241,9 +241,9 @@ mod tests {
     }
 
     #[test]
-    fn the_example_has_20_turns_two_of_them_writing_and_no_wait() {
+    fn the_example_has_19_turns_two_of_them_writing_and_no_wait() {
         let picture = draw(&example());
-        assert_eq!(marks(&picture, "turn"), 20);
+        assert_eq!(marks(&picture, "turn"), 19);
         assert_eq!(marks_below_legend(&picture, "wait"), 0);
         // A writing turn is marked in the party's row and in the record's.
         assert_eq!(marks_below_legend(&picture, "wrote"), 4);
@@ -257,6 +257,25 @@ mod tests {
         ] {
             assert!(picture.contains(&format!(">{words}<")), "{words}");
         }
+    }
+
+    /// Document 02, A.8: the insert of the example has a turn that looks up and one that writes,
+    /// and the read one that does both.
+    #[test]
+    fn a_read_is_told_to_look_up_and_write_in_one_turn() {
+        let picture = draw(&example());
+        let told = [
+            "turn 8, worker 1: looked up",
+            "turn 9, worker 1: writes answer 1000 of command 1",
+            "turn 15, worker 1: holding",
+            "turn 16, worker 1: looks up and writes answer 7 of command 2",
+            "turn 17, worker 1: walking",
+            "turn 19, worker 1: becomes idle",
+        ];
+        for words in told {
+            assert!(picture.contains(&format!(">{words}<")), "{words}");
+        }
+        assert_eq!(picture.matches(": looked up<").count(), 1);
     }
 
     /// Document 02, A.7: the answers stand at the records and in the table.

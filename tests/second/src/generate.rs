@@ -35,12 +35,14 @@ pub enum Sort {
     Runs,
     /// Runs in which an item is announced again.
     Announcements,
+    /// Runs in which reads are done beside other commands.
+    Reads,
     /// An input of the program.
     Programs,
 }
 
 impl Sort {
-    pub const ALL: [Sort; 8] = [
+    pub const ALL: [Sort; 9] = [
         Sort::Identifiers,
         Sort::Keys,
         Sort::Commands,
@@ -48,6 +50,7 @@ impl Sort {
         Sort::Pairs,
         Sort::Runs,
         Sort::Announcements,
+        Sort::Reads,
         Sort::Programs,
     ];
 
@@ -60,6 +63,7 @@ impl Sort {
             Sort::Pairs => "pairs",
             Sort::Runs => "runs",
             Sort::Announcements => "announcements",
+            Sort::Reads => "reads",
             Sort::Programs => "programs",
         }
     }

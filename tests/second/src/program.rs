@@ -43,13 +43,19 @@ mod tests {
     use crate::run::Settings;
     use crate::text::input::{self, EXAMPLE};
 
+    const WHOLE: &str = "1 insert AA000000005AA 1000\n2 read AA000000005AA 7\nstore 1 chain 0\n";
+
     /// Document 01, marked case (k).
     #[test]
     fn the_example_s_output_is_whole() {
-        assert_eq!(
-            output(EXAMPLE),
-            "1 insert AA000000005AA 1000\n2 read AA000000005AA 7\nstore 1 chain 0\n"
-        );
+        assert_eq!(output(EXAMPLE), WHOLE);
+    }
+
+    /// The fifteenth byte 1 that document 01 has more than A.8 needs begins a search, of which
+    /// nothing is printed.
+    #[test]
+    fn the_example_s_output_with_15_turns_of_the_worker_is_the_same() {
+        assert_eq!(output(&[&EXAMPLE[..], &[1]].concat()), WHOLE);
     }
 
     /// Document 01, marked case (l).

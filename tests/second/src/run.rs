@@ -3,7 +3,8 @@
 //! It is written as document 01's "Records and turns" says it, on arrays, with no allocation and
 //! no reading of text in a turn, so that it is also the plain program that speed is measured
 //! against. Where a state that no dealing reaches leaves the outcome open, it does what
-//! docs/DECISIONS.md chose; what an insert does there is chosen here, by `write`.
+//! docs/DECISIONS.md chose; what an insert, a looked-up read and a record without a command do
+//! there is chosen here, by `write` and `look_up`.
 
 use crate::command::{Command, Kind, dependent};
 use crate::serial::{ANNOUNCED_AGAIN, DONE, NO_SUCH_ITEM, STORE_FULL};
@@ -59,6 +60,7 @@ pub enum Party {
     Holding {
         own: u8,
     },
+    /// Between look-up and writing. A read's are one turn, so that no dealing leaves it here.
     LookedUp {
         own: u8,
         found: u16,
@@ -74,6 +76,21 @@ pub enum Party {
         at: u8,
         own: u8,
     },
+}
+
+impl Party {
+    /// The record that it loads, holds or removes, if it has one.
+    pub fn own(self) -> Option<u8> {
+        match self {
+            Party::Loading { own, .. }
+            | Party::Holding { own }
+            | Party::LookedUp { own, .. }
+            | Party::Written { own }
+            | Party::Walking { own, .. }
+            | Party::Clearing { own, .. } => Some(own),
+            Party::Idle | Party::Searching { .. } => None,
+        }
+    }
 }
 
 #[derive(Clone, Debug, PartialEq, Eq)]
@@ -186,9 +203,18 @@ impl Run {
         Some(Party::Holding { own: at })
     }
 
-    fn look_up(&self, own: u8) -> Party {
-        let found = self.command(own).map_or(0, |it| self.store.chute(it.key));
-        Party::LookedUp { own, found }
+    /// Document 02, A.8: "A worker's look and writing become one turn for kind 3; other kinds keep
+    /// two." A record without a command, which no dealing lets a worker hold, is of no kind and
+    /// keeps two.
+    fn look_up(&mut self, own: u8) -> Party {
+        let command = self.command(own);
+        let found = command.map_or(0, |it| self.store.chute(it.key));
+        match command.map(|it| it.kind) {
+            Some(Kind::Read) => self.write(own, found),
+            Some(Kind::Insert | Kind::Delete | Kind::Update) | None => {
+                Party::LookedUp { own, found }
+            }
+        }
     }
 
     /// Writes store and answer. The answer follows from what the look-up found, as the chute that a
@@ -201,6 +227,9 @@ impl Run {
     ///   ascending keys hold no key twice. In a full store it is 1003, which changes no entry.
     /// - It found a chute, and the item is not there. The answer is 1004, which sets the chute of
     ///   an entry and puts none in: with or without a free place nothing changes, as by an update.
+    ///
+    /// There a worker may also be looked-up for a read: its turn answers what the look-up found and
+    /// does not look again, as the turn of every looked-up worker.
     fn write(&mut self, own: u8, found: u16) -> Party {
         if let Some(Command { kind, key, chute }) = self.command(own) {
             let answer = match (kind, found) {
@@ -272,7 +301,7 @@ impl Run {
     }
 
     /// The command of a record, if it has one.
-    fn command(&self, record: u8) -> Option<Command> {
+    pub fn command(&self, record: u8) -> Option<Command> {
         let place = usize::from(self.records.place[usize::from(record)]);
         self.commands.get(place.checked_sub(1)?).copied()
     }
@@ -357,7 +386,7 @@ mod tests {
         Run::open(settings(2, 1, 4), commands)
     }
 
-    const EXAMPLE: [u8; 20] = [0, 0, 0, 0, 0, 1, 1, 1, 1, 1, 1, 1, 1, 1, 1, 1, 1, 1, 1, 1];
+    const EXAMPLE: [u8; 19] = [0, 0, 0, 0, 0, 1, 1, 1, 1, 1, 1, 1, 1, 1, 1, 1, 1, 1, 1];
 
     /// Document 01, marked case (k).
     #[test]
@@ -367,6 +396,43 @@ mod tests {
         assert_eq!(run.answers, [1000, 7]);
         assert_eq!((run.store.used, run.chain().count()), (1, 0));
         assert!(run.is_finished());
+    }
+
+    /// Document 02, A.8: the whole run needs 14 bytes 1. Each is a turn that is no wait, and none
+    /// before the last leaves the worker idle and every command removed.
+    #[test]
+    fn the_worker_of_the_example_needs_14_turns() {
+        let mut run = example();
+        run.advance(&[0; 5]);
+        let (walking, clearing) = (
+            |at, own| Party::Walking { at, own },
+            |at, own| Party::Clearing { at, own },
+        );
+        let turns = [
+            (Party::Searching { at: 0 }, [0, 0]),
+            (Party::Holding { own: 1 }, [0, 0]),
+            (Party::LookedUp { own: 1, found: 0 }, [0, 0]),
+            (Party::Written { own: 1 }, [1000, 0]),
+            (walking(0, 1), [1000, 0]),
+            (clearing(0, 1), [1000, 0]),
+            (clearing(2, 1), [1000, 0]),
+            (Party::Idle, [1000, 0]),
+            (Party::Searching { at: 0 }, [1000, 0]),
+            (Party::Holding { own: 2 }, [1000, 0]),
+            (Party::Written { own: 2 }, [1000, 7]),
+            (walking(0, 2), [1000, 7]),
+            (clearing(0, 2), [1000, 7]),
+            (Party::Idle, [1000, 7]),
+        ];
+        for (worker, answers) in turns {
+            assert!(!run.is_finished());
+            assert!(run.turn(1));
+            assert_eq!(run.parties[..2], [Party::Idle, worker]);
+            assert_eq!(run.answers, answers);
+        }
+        assert!(run.is_finished());
+        assert!(run.turn(1), "a fifteenth turn searches again");
+        assert_eq!(run.parties[1], Party::Searching { at: 0 });
     }
 
     /// Document 01, marked case (l).
@@ -419,9 +485,80 @@ mod tests {
         let mut run = Run::open(settings(1, 1, 1), commands);
         run.advance(&[0, 0]);
         assert!(!run.turn(0));
-        run.advance(&[1; 7]);
+        run.advance(&[1; 6]);
         assert_eq!(run.answers, [1002, 0]);
         assert!(run.turn(0));
+    }
+
+    /// A worker holds record 1 with this command, and the store has these items, each with ten
+    /// times its key as chute.
+    fn holding(command: Command, room: u16, items: [u64; 2]) -> Run {
+        let mut run = Run::open(settings(1, 1, room), vec![command]);
+        run.advance(&[0, 0, 1, 1]);
+        assert_eq!(run.parties[1], Party::Holding { own: 1 });
+        assert_eq!(run.answers, [0], "taking a command answers nothing");
+        for item in items {
+            run.store.insert(item, 10 * item as u16);
+        }
+        run
+    }
+
+    /// Document 02, A.8: the turn that looks up also answers, and nothing else changes.
+    #[test]
+    fn a_read_looks_up_and_writes_in_one_turn() {
+        for (key, answer) in [(4, 40), (5, 50), (6, 1002), (0, 1002)] {
+            let mut run = holding(command(Kind::Read, key, 0), 3, [4, 5]);
+            let mut expected = run.clone();
+            assert!(run.turn(1));
+            expected.parties[1] = Party::Written { own: 1 };
+            expected.answers = vec![answer];
+            assert_eq!(run, expected);
+        }
+    }
+
+    /// Document 02, A.8: the look-up of other kinds answers nothing, whatever it finds.
+    #[test]
+    fn other_kinds_keep_two_turns() {
+        for kind in [Kind::Insert, Kind::Delete, Kind::Update] {
+            for (key, found) in [(5, 50), (6, 0)] {
+                let mut run = holding(command(kind, key, 9), 3, [4, 5]);
+                let mut expected = run.clone();
+                assert!(run.turn(1));
+                expected.parties[1] = Party::LookedUp { own: 1, found };
+                assert_eq!(run, expected, "{kind:?} of {key}");
+                assert!(run.turn(1));
+                assert_eq!(run.parties[1], Party::Written { own: 1 });
+                assert_ne!(run.answers, [0], "{kind:?} of {key}");
+            }
+        }
+    }
+
+    /// Document 02, A.8, by turns: a read is answered while another worker is between the look-up
+    /// and the writing of an update of another item; a third worker's read finds nothing.
+    #[test]
+    fn a_read_is_answered_between_look_up_and_writing_of_an_update() {
+        let commands = vec![
+            command(Kind::Update, 5, 9),
+            command(Kind::Read, 4, 0),
+            command(Kind::Read, 6, 0),
+        ];
+        let mut run = Run::open(settings(3, 3, 3), commands);
+        run.store.insert(4, 40);
+        run.store.insert(5, 50);
+        run.advance(&[0; 9]);
+        run.advance(&[1, 1, 1, 2, 2, 2, 3, 3, 3, 3]);
+        let looked_up = Party::LookedUp { own: 1, found: 50 };
+        let holding = |own| Party::Holding { own };
+        assert_eq!(run.parties[1..4], [looked_up, holding(2), holding(3)]);
+        assert_eq!(run.answers, [0; 3]);
+        run.advance(&[2]);
+        let written = |own| Party::Written { own };
+        assert_eq!(run.parties[1..4], [looked_up, written(2), holding(3)]);
+        assert_eq!(run.answers, [0, 40, 0]);
+        run.advance(&[1, 3]);
+        assert_eq!(run.parties[1..4], [1, 2, 3].map(written));
+        assert_eq!(run.answers, [1000, 40, 1002]);
+        assert_eq!(run.store.chutes, [40, 9, 0]);
     }
 
     /// Document 02, A.7, by turns: worker 1 inserts, worker 2 announces again, and the store is
@@ -444,23 +581,9 @@ mod tests {
         assert_eq!((run.store.chute(5), run.store.used), (8, 1));
         assert_eq!(run.answers, [1000, 1004, 0]);
         run.advance(&[2; 4]);
-        run.advance(&[1; 4]);
+        run.advance(&[1; 3]);
+        assert_eq!(run.parties[1], Party::Written { own: 3 });
         assert_eq!(run.answers, [1000, 1004, 8]);
-    }
-
-    /// The answer and the store after a writing turn in a run that no dealing reaches: a worker is
-    /// looked-up for an insert of item 5 with chute 9, its look-up found this, and the store has
-    /// these items, each with ten times its key as chute.
-    fn written(room: u16, items: [u64; 2], found: u16) -> (u16, Store) {
-        let mut run = Run::open(settings(1, 1, room), vec![command(Kind::Insert, 5, 9)]);
-        run.advance(&[0, 0, 1, 1, 1]);
-        for item in items {
-            run.store.insert(item, 10 * item as u16);
-        }
-        run.parties[1] = Party::LookedUp { own: 1, found };
-        assert!(run.turn(1));
-        assert_eq!(run.parties[1], Party::Written { own: 1 });
-        (run.answers[0], run.store)
     }
 
     /// A store with two entries.
@@ -472,21 +595,73 @@ mod tests {
         }
     }
 
+    /// The answer and the store after a writing turn in a run that no dealing reaches: the worker
+    /// of `holding` is looked-up, and its look-up found this.
+    fn written(command: Command, room: u16, items: [u64; 2], found: u16) -> (u16, Store) {
+        let mut run = holding(command, room, items);
+        run.parties[1] = Party::LookedUp { own: 1, found };
+        assert!(run.turn(1));
+        assert_eq!(run.parties[1], Party::Written { own: 1 });
+        (run.answers[0], run.store)
+    }
+
+    const INSERT: Command = Command {
+        kind: Kind::Insert,
+        key: 5,
+        chute: 9,
+    };
+
     #[test]
     fn an_insert_that_found_nothing_of_a_present_item_is_done_or_finds_the_store_full() {
         let part_full = store(&[4, 5, 0], &[40, 9, 0]);
-        assert_eq!(written(3, [4, 5], 0), (1000, part_full));
+        assert_eq!(written(INSERT, 3, [4, 5], 0), (1000, part_full));
         let full = store(&[4, 5], &[40, 50]);
-        assert_eq!(written(2, [4, 5], 0), (1003, full));
+        assert_eq!(written(INSERT, 2, [4, 5], 0), (1003, full));
     }
 
     #[test]
     fn an_insert_that_found_an_item_now_absent_answers_1004_and_puts_nothing_in() {
         for found in [1, 9, 512, 513, u16::MAX] {
             let part_full = store(&[4, 6, 0], &[40, 60, 0]);
-            assert_eq!(written(3, [4, 6], found), (1004, part_full));
+            assert_eq!(written(INSERT, 3, [4, 6], found), (1004, part_full));
             let full = store(&[4, 6], &[40, 60]);
-            assert_eq!(written(2, [4, 6], found), (1004, full));
+            assert_eq!(written(INSERT, 2, [4, 6], found), (1004, full));
+        }
+    }
+
+    /// A read that is looked-up answers what was found, whether the store has the same chute of its
+    /// item, another one or none.
+    #[test]
+    fn a_looked_up_read_answers_what_it_found() {
+        let read = command(Kind::Read, 5, 0);
+        for (found, answer) in [
+            (0, 1002),
+            (50, 50),
+            (9, 9),
+            (513, 513),
+            (u16::MAX, u16::MAX),
+        ] {
+            let present = store(&[4, 5, 0], &[40, 50, 0]);
+            assert_eq!(written(read, 3, [4, 5], found), (answer, present));
+            let absent = store(&[4, 6, 0], &[40, 60, 0]);
+            assert_eq!(written(read, 3, [4, 6], found), (answer, absent));
+        }
+    }
+
+    /// A worker that holds a record without a command has two turns, and they change only its
+    /// state.
+    #[test]
+    fn a_record_without_a_command_keeps_two_turns() {
+        for kind in Kind::ALL {
+            let mut run = holding(command(kind, 5, 9), 3, [4, 5]);
+            run.records.place[1] = 0;
+            let looked_up = Party::LookedUp { own: 1, found: 0 };
+            for after in [looked_up, Party::Written { own: 1 }] {
+                let mut expected = run.clone();
+                expected.parties[1] = after;
+                assert!(run.turn(1));
+                assert_eq!(run, expected);
+            }
         }
     }
 }

@@ -1,5 +1,6 @@
 //! Every order of turns of small settings: all states that any dealing reaches, judged by the
-//! serial run. Demand 3 of document 00 is what is held against them.
+//! serial run, and all turns that lead from one to another. Demand 3 of document 00 is what is held
+//! against the states, and the order of a worker's states against the turns.
 
 use std::collections::HashMap;
 
@@ -40,6 +41,7 @@ fn every_order(settings: Settings, commands: &[Command]) -> usize {
             let mut after = run.clone();
             let turned = after.turn(party);
             if turned {
+                hold_turn(&run, party, &after);
                 let known = search.before.len();
                 let to = search.meet(&after);
                 assert_ne!(to, number, "a turn that is no wait changes something");
@@ -105,6 +107,44 @@ impl Judge {
             assert_eq!(run.store.chutes, self.table.chutes);
             assert_eq!(usize::from(run.store.used), self.table.used);
         }
+    }
+}
+
+/// Holds a turn that is no wait: the worker's state after it is one that the steps name, and the
+/// store changes at no turn but the writing turn of a kind that writes in it.
+fn hold_turn(run: &Run, party: u8, after: &Run) {
+    let [before, now] = [run, after].map(|run| run.parties[usize::from(party)]);
+    let kind = before
+        .own()
+        .and_then(|own| run.command(own))
+        .map(|it| it.kind);
+    assert!(
+        party == 0 || follows(before, now, kind),
+        "from {before:?} to {now:?}, {kind:?} of {:?}",
+        run.commands
+    );
+    let writes = matches!(before, Party::LookedUp { .. });
+    assert!(writes || after.store == run.store, "{before:?}, {kind:?}");
+}
+
+/// Whether a worker's turn leads from one state to the other (document 01, "Records and turns").
+/// Document 02, A.8: with a read, holding leads to written; looked-up is for other kinds.
+fn follows(before: Party, now: Party, kind: Option<Kind>) -> bool {
+    match (before, now) {
+        (Party::Holding { .. }, Party::Written { .. }) => kind == Some(Kind::Read),
+        (Party::Holding { .. }, Party::LookedUp { .. })
+        | (Party::LookedUp { .. }, Party::Written { .. }) => {
+            matches!(kind, Some(Kind::Insert | Kind::Delete | Kind::Update))
+        }
+        (Party::Idle, Party::Searching { .. })
+        | (
+            Party::Searching { .. },
+            Party::Searching { .. } | Party::Idle | Party::Holding { .. },
+        )
+        | (Party::Written { .. }, Party::Walking { .. })
+        | (Party::Walking { .. }, Party::Walking { .. } | Party::Clearing { .. })
+        | (Party::Clearing { .. }, Party::Clearing { .. } | Party::Idle) => true,
+        _ => false,
     }
 }
 

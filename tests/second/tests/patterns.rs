@@ -18,6 +18,11 @@ fn command(kind: Kind, key: u64, chute: u16) -> Command {
     Command { kind, key, chute }
 }
 
+/// A command of this kind on key 0.
+fn of_kind(kind: Kind) -> Command {
+    command(kind, 0, if kind.carries_chute() { 7 } else { 0 })
+}
+
 /// Whether a pattern, repeated so many times from the opening, has at some turn removed every
 /// command and left every party idle.
 fn finishes(settings: Settings, commands: &[Command], pattern: &[u8], times: usize) -> bool {
@@ -28,23 +33,32 @@ fn finishes(settings: Settings, commands: &[Command], pattern: &[u8], times: usi
     })
 }
 
-/// The loader's turn always falls while the worker stands on the head, so nothing is ever loaded;
-/// the other pattern gives each party as many turns and finishes.
+/// The loader's turn always falls while the worker stands on the head, so nothing is ever loaded,
+/// of whatever kind; the other pattern gives each party as many turns and finishes.
 #[test]
 fn a_fair_pattern_can_starve_the_loader() {
-    let one = [command(Kind::Insert, 0, 7)];
-    assert!(!finishes(settings(2, 1, 4), &one, &[1, 0, 1], 100_000));
-    assert!(finishes(settings(2, 1, 4), &one, &[0, 1, 1], 100));
+    for kind in Kind::ALL {
+        let one = [of_kind(kind)];
+        assert!(!finishes(settings(2, 1, 4), &one, &[1, 0, 1], 100_000));
+        assert!(finishes(settings(2, 1, 4), &one, &[0, 1, 1], 100));
+    }
 }
 
-/// Two turns each, one party after the other: at graph size 1 the second command is never loaded,
-/// while one turn each finishes.
+/// Two turns each, one party after the other: at graph size 1 the second command is never loaded
+/// unless the first is a read, whose worker has an even number of turns from idle to idle (document
+/// 02, A.8); one turn each finishes.
 #[test]
 fn two_turns_each_can_hang() {
-    let two = [command(Kind::Insert, 0, 7), command(Kind::Read, 0, 0)];
-    assert!(!finishes(settings(1, 1, 4), &two, &[0, 0, 1, 1], 100_000));
-    assert!(!finishes(settings(1, 1, 4), &two, &[1, 1, 0, 0], 100_000));
-    assert!(finishes(settings(1, 1, 4), &two, &[0, 1], 100));
+    for first in Kind::ALL {
+        let two = [first, Kind::Read].map(of_kind);
+        let reads = first == Kind::Read;
+        for pattern in [[0, 0, 1, 1], [1, 1, 0, 0]] {
+            let times = if reads { 100 } else { 100_000 };
+            let finished = finishes(settings(1, 1, 4), &two, &pattern, times);
+            assert_eq!(finished, reads, "{first:?} {pattern:?}");
+        }
+        assert!(finishes(settings(1, 1, 4), &two, &[0, 1], 100));
+    }
 }
 
 /// Plain round-robin, one turn each, finishes within n (2 w + s + 6) + 2 rounds.

@@ -29,7 +29,7 @@ fn run(program: &str, options: &[&str], input: &[u8]) -> (Option<i32>, Vec<u8>, 
 
 #[test]
 fn the_example_is_packed_unpacked_and_drawn() {
-    let turns = ["--turns", "0 0 0 0 0 1 1 1 1 1 1 1 1 1 1 1 1 1 1 1"];
+    let turns = ["--turns", "0 0 0 0 0 1 1 1 1 1 1 1 1 1 1 1 1 1 1"];
     let packed = run(TEXT, &[&SETTINGS[..], &turns].concat(), LIST.as_bytes());
     assert_eq!(packed, (Some(0), EXAMPLE.to_vec(), String::new()));
     let (status, list, words) = run(TEXT, &["unpack"], EXAMPLE);

@@ -38,7 +38,10 @@ const ENTRIES: [(Sign, &str); 13] = [
     (Sign::Bar("searching"), "a worker searches the chain"),
     (Sign::Lock, "locked, by the party named (L: the loader)"),
     (Sign::Turn, "a turn of this party"),
-    (Sign::Writing, "the writing turn, with the answer"),
+    (
+        Sign::Writing,
+        "the writing turn, with the answer; a read looks up in it too",
+    ),
     (
         Sign::Wait,
         "a wait, and why: number of the locked record, H head locked, F no record free, \

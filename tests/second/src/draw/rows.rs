@@ -3,6 +3,7 @@
 use super::svg::{Svg, short};
 use super::trace::{Frame, Life, Outcome, Phase, Reason, Span, Turn};
 use super::{LEFT, Page, party_class, party_mark, party_name, width};
+use crate::command::Kind;
 use crate::run::{HEAD, Party};
 use crate::text::{kind_name, show_command};
 
@@ -252,7 +253,12 @@ impl Page<'_> {
                 name => name.to_string(),
             },
             Outcome::Wrote { record, answer } => {
-                format!("writes answer {answer} of command {}", frame.place(record))
+                let place = frame.place(record);
+                let looks = match self.input.commands[usize::from(place) - 1].kind {
+                    Kind::Read => "looks up and ",
+                    Kind::Insert | Kind::Delete | Kind::Update => "",
+                };
+                format!("{looks}writes answer {answer} of command {place}")
             }
             Outcome::Wait(Reason::NoRecordFree) => "waits, no record is free".to_string(),
             Outcome::Wait(Reason::EveryCommandLoaded) => "waits, all is loaded".to_string(),

@@ -192,7 +192,7 @@ impl Frame {
         let owner = self
             .parties
             .iter()
-            .position(|party| own(*party) == Some(record));
+            .position(|party| party.own() == Some(record));
         match owner {
             Some(0) => Phase::Loading,
             Some(owner) => match self.parties[owner] {
@@ -206,13 +206,14 @@ impl Frame {
     }
 }
 
+/// A turn that is no wait and leaves its party written is a writing turn, whether the party was
+/// looked-up or, with a read, holding.
 fn take_turn(run: &mut Run, party: u8) -> Outcome {
-    let before = run.parties[usize::from(party)];
     if !run.turn(party) {
         return Outcome::Wait(reason(run, party));
     }
-    match before {
-        Party::LookedUp { own, .. } => {
+    match run.parties[usize::from(party)] {
+        Party::Written { own } => {
             let place = usize::from(run.records.place[usize::from(own)]);
             Outcome::Wrote {
                 record: own,
@@ -275,18 +276,6 @@ fn stands_on(party: Party) -> Option<u8> {
     }
 }
 
-fn own(party: Party) -> Option<u8> {
-    match party {
-        Party::Loading { own, .. }
-        | Party::Holding { own }
-        | Party::LookedUp { own, .. }
-        | Party::Written { own }
-        | Party::Walking { own, .. }
-        | Party::Clearing { own, .. } => Some(own),
-        Party::Idle | Party::Searching { .. } => None,
-    }
-}
-
 #[cfg(test)]
 mod tests {
     use super::*;
@@ -321,7 +310,7 @@ mod tests {
     /// Document 01, the program's example.
     fn example() -> Trace {
         let commands = vec![command(Kind::Insert, 7), command(Kind::Read, 0)];
-        trace(2, 1, commands, &[[0; 5].as_slice(), &[1; 15]].concat())
+        trace(2, 1, commands, &[[0; 5].as_slice(), &[1; 14]].concat())
     }
 
     #[test]
@@ -347,8 +336,8 @@ mod tests {
             linked: Some(5),
             waits: vec![wait],
             taken: Some((15, 1)),
-            written: Some((17, 7)),
-            removed: Some(20),
+            written: Some((16, 7)),
+            removed: Some(19),
         };
         assert_eq!(example().lives, [first, second]);
     }
@@ -364,8 +353,8 @@ mod tests {
             (Phase::Waiting, 5),
             (Phase::Ready, 12),
             (Phase::Executing(1), 15),
-            (Phase::Clearing(1), 19),
-            (Phase::Unused, 20),
+            (Phase::Clearing(1), 18),
+            (Phase::Unused, 19),
         ];
         assert_eq!(phases, expected);
         assert!(
@@ -373,6 +362,25 @@ mod tests {
                 .windows(2)
                 .all(|pair| pair[0].last + 1 == pair[1].first)
         );
+    }
+
+    /// Document 02, A.8: a read is written in the turn after the one that took it, and a command
+    /// of another kind in the turn after that; no turn but these writes.
+    #[test]
+    fn a_read_is_written_a_turn_sooner_than_other_kinds() {
+        for kind in Kind::ALL {
+            let chute = if kind.carries_chute() { 7 } else { 0 };
+            let trace = trace(1, 1, vec![command(kind, chute)], &[0, 0, 1, 1, 1, 1, 1]);
+            let wrote = |turn: &Turn| matches!(turn.outcome, Outcome::Wrote { .. });
+            let writing: Vec<bool> = trace.turns.iter().map(wrote).collect();
+            let sooner = kind == Kind::Read;
+            assert_eq!(writing[..4], [false; 4]);
+            assert_eq!(writing[4..], [sooner, !sooner, false], "{kind:?}");
+            let answer = if kind == Kind::Insert { 1000 } else { 1002 };
+            let turn = if sooner { 5 } else { 6 };
+            assert_eq!(trace.lives[0].taken, Some((4, 1)));
+            assert_eq!(trace.lives[0].written, Some((turn, answer)), "{kind:?}");
+        }
     }
 
     /// Each reason for a wait, in the order of the turns.

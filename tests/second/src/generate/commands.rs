@@ -60,7 +60,8 @@ pub fn cases(random: &mut Random) -> Vec<Case> {
     parts.concat().into_iter().map(case).collect()
 }
 
-/// Opens a part and serves it up to its answer, so that what was read of an insert is seen.
+/// Opens a part and serves it up to its answer, a read one turn further, so that what was read of
+/// an insert is seen.
 pub fn case(part: Vec<u8>) -> Case {
     dealt(part, &[0, 0, 1, 1, 1, 1])
 }

@@ -1,12 +1,14 @@
 //! Compared runs of the whole depot, made from a seed: openings, schedules of every sort fed whole
-//! and in pieces, refused calls between them, items announced again, handed-back lists that were
-//! changed, and the program.
+//! and in pieces, refused calls between them, items announced again, reads beside other commands,
+//! handed-back lists that were changed, and the program.
 
 mod announcements;
 mod changes;
+mod dealings;
 mod limits;
 pub(super) mod openings;
 pub(super) mod programs;
+mod reads;
 mod schedules;
 
 use super::Sort;
@@ -17,9 +19,10 @@ use crate::script::{List, Step};
 use openings::Opening;
 
 /// How many runs are always compared, whatever the seed adds to them.
-pub const FIXED: u64 = ANNOUNCEMENTS + announcements::COUNT;
-/// Where those with items announced again begin.
+pub const FIXED: u64 = READS + reads::COUNT;
+/// Where those with items announced again begin, and those with reads beside other commands.
 const ANNOUNCEMENTS: u64 = limits::COUNT + LONG;
+const READS: u64 = ANNOUNCEMENTS + announcements::COUNT;
 /// Long runs among them.
 const LONG: u64 = 14;
 /// Random runs come in rounds of this many kinds.
@@ -33,6 +36,7 @@ const SHORT: usize = 300;
 pub fn sort(index: u64) -> Sort {
     match index.checked_sub(FIXED) {
         Some(index) if index % ROUND == PROGRAM => Sort::Programs,
+        None if index >= READS => Sort::Reads,
         None if index >= ANNOUNCEMENTS => Sort::Announcements,
         _ => Sort::Runs,
     }
@@ -47,8 +51,11 @@ pub fn play(seed: u64, index: u64, play: &mut Play) -> Result<(), Difference> {
     if index < ANNOUNCEMENTS {
         return long_run(index - limits::COUNT, random, play);
     }
-    if index < FIXED {
+    if index < READS {
         return announcements::play(index - ANNOUNCEMENTS, random, play);
+    }
+    if index < FIXED {
+        return reads::play(index - READS, random, play);
     }
     let index = index - FIXED;
     match index % ROUND {

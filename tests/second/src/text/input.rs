@@ -13,10 +13,11 @@ use crate::run::Settings;
 pub const LONGEST: usize = 65_536;
 /// Bytes before the first command.
 pub const HEADER: usize = 6;
-/// Document 01's example: size 2, 1 worker, room 4, an insert and a read, 20 turns.
-pub const EXAMPLE: &[u8; 58] = b"\x02\x01\x00\x04\x00\x02\
+/// Document 01's example: size 2, 1 worker, room 4, an insert and a read, 5 turns of the loader and
+/// the 14 of the worker that document 02's A.8 leaves of 15.
+pub const EXAMPLE: &[u8; 57] = b"\x02\x01\x00\x04\x00\x02\
     \x01AA000000005AA\x00\x07\x03AA000000005AA\x00\x00\
-    \0\0\0\0\0\x01\x01\x01\x01\x01\x01\x01\x01\x01\x01\x01\x01\x01\x01\x01";
+    \0\0\0\0\0\x01\x01\x01\x01\x01\x01\x01\x01\x01\x01\x01\x01\x01\x01";
 
 /// An input that the program accepts.
 #[derive(Clone, Debug, PartialEq, Eq)]
@@ -172,7 +173,7 @@ mod tests {
     #[test]
     fn the_example_is_read_and_written() {
         let input = Input::read(EXAMPLE).unwrap();
-        assert_eq!((input.commands.len(), input.schedule.len()), (2, 20));
+        assert_eq!((input.commands.len(), input.schedule.len()), (2, 19));
         assert_eq!(input.bytes(), Ok(EXAMPLE.to_vec()));
     }
 
@@ -258,7 +259,7 @@ mod tests {
     /// Document 01, "The program `depot`": a whole input is refused as opening and dealing are.
     #[test]
     fn refusals_of_whole_inputs_are_those_of_the_calls() {
-        for position in (0..4).chain(6..58) {
+        for position in (0..4).chain(6..EXAMPLE.len()) {
             for byte in 0..=u8::MAX {
                 let bytes = with_byte(position, byte);
                 let read = Input::read(&bytes).map_err(|refused| refused.refusal.number());

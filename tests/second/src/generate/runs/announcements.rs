@@ -2,34 +2,21 @@
 //! part-full stores, with and without reads of the item before it and after it. They are dealt in
 //! orders of every sort, and some are handed back with a look-up that the store contradicts.
 
-use std::mem;
-
+use super::changes;
+use super::dealings::{self, Entry, Played, WAYS, commands, keys, with_changes};
 use super::openings::Opening;
-use super::{apart, changes, feed, reports, schedules};
-use crate::command::Kind::{self, Delete, Insert, Read, Update};
-use crate::generate::commands::with_key;
-use crate::generate::random_key;
-use crate::identifier::LARGEST_KEY;
-use crate::play::{Difference, Play};
+use crate::command::Kind::{Delete, Insert, Read, Update};
+use crate::play::Play;
 use crate::random::Random;
 use crate::run::{Party, Run};
-use crate::script::Step;
 
 /// How many runs there are: each form of a list four times in each way of dealing.
 pub const COUNT: u64 = FORMS * WAYS * 4;
 const FORMS: u64 = 128;
-const WAYS: u64 = 4;
-
-/// Turns with which a run is brought to its end, at the most.
-const MOST: usize = 20_000;
-/// Calls of a run that is held against the serial run after each, at the most.
-const CALLS: usize = 150;
 
 const SIZES: [u64; 6] = [1, 2, 3, 4, 6, 12];
 const WORKERS: [u64; 6] = [1, 2, 2, 3, 4, 8];
 
-/// A command's kind, and its item by the place of its key in the list's keys.
-type Entry = (Kind, usize);
 /// The item that is announced again, one that is absent up to the last part of the list, and the
 /// first of the others.
 const ITEM: usize = 0;
@@ -59,77 +46,23 @@ const LAST: [&[Entry]; 4] = [
 ];
 
 /// Plays the run of a number below the count.
-pub fn play(number: u64, random: &mut Random, play: &mut Play) -> Result<(), Difference> {
+pub fn play(number: u64, random: &mut Random, play: &mut Play) -> Played {
     let opening = opening(number % FORMS, random);
-    let input = opening.input(&[]);
-    opening.open(play)?;
-    match number / FORMS % WAYS {
-        0 => call_by_call(random, play)?,
-        1 => dealt(random, play)?,
-        2 => also_by_the_program(input, random, play)?,
-        _ => contradicted(random, play)?,
-    }
-    reports(play)?;
-    play.take(Step::Serial)?;
-    Ok(())
-}
-
-/// To the end, held against the serial run after each call; a short run has a call for each turn.
-fn call_by_call(random: &mut Random, play: &mut Play) -> Result<(), Difference> {
-    let schedule = schedules::to_the_end(random, play.host(), MOST);
-    for piece in schedule.chunks(schedule.len() / CALLS + 1) {
-        play.take(Step::Advance(piece.to_vec()))?;
-        play.take(Step::Serial)?;
-    }
-    Ok(())
-}
-
-/// Turns of any sort, in most cases to the end.
-fn dealt(random: &mut Random, play: &mut Play) -> Result<(), Difference> {
-    let schedule = schedules::any(random, play.host());
-    feed(random, play, &schedule)
-}
-
-/// To the end by calls and by the program; its input is given up to the turns.
-fn also_by_the_program(
-    mut input: Vec<u8>,
-    random: &mut Random,
-    play: &mut Play,
-) -> Result<(), Difference> {
-    let schedule = schedules::to_the_end(random, play.host(), MOST);
-    feed(random, play, &schedule)?;
-    input.extend(schedule);
-    play.take(Step::Program(input))?;
-    Ok(())
+    dealings::play(opening, number / FORMS % WAYS, contradicted, random, play)
 }
 
 /// To the end; behind each look-up of an insert, the lists are handed over once with another
 /// finding, on a copy.
-fn contradicted(random: &mut Random, play: &mut Play) -> Result<(), Difference> {
-    let Some(mut run) = play.host().run() else {
-        return Ok(());
-    };
-    let mut piece = Vec::new();
-    for party in schedules::to_the_end(random, play.host(), MOST) {
-        run.turn(party);
-        piece.push(party);
-        if let Some(found) = insert_looked_up(&run, party) {
-            play.take(Step::Advance(mem::take(&mut piece)))?;
-            apart(play, |play| changes::found(party, found, random, play))?;
-        }
-    }
-    play.take(Step::Advance(piece))?;
-    Ok(())
+fn contradicted(random: &mut Random, play: &mut Play) -> Played {
+    with_changes(insert_looked_up, &[changes::found], random, play)
 }
 
 /// What a party's look-up for an insert found, if the party has just made one.
 fn insert_looked_up(run: &Run, party: u8) -> Option<u16> {
-    let Party::LookedUp { own, found } = run.parties[usize::from(party)] else {
-        return None;
-    };
-    let place = usize::from(run.records.place[usize::from(own)]);
-    let command = run.commands.get(place.checked_sub(1)?)?;
-    (command.kind == Insert).then_some(found)
+    match run.parties[usize::from(party)] {
+        Party::LookedUp { own, found } if run.command(own)?.kind == Insert => Some(found),
+        _ => None,
+    }
 }
 
 /// An opening of a form: even ones have no place free when the item is announced again.
@@ -140,10 +73,8 @@ fn opening(form: u64, random: &mut Random) -> Opening {
         _ => 1 + random.below(3),
     };
     let keys = keys(random, OTHER + others.max(1) as usize);
-    let commands = entries(form, others as usize, random)
-        .into_iter()
-        .flat_map(|(kind, item)| with_key(random, kind, keys[item]))
-        .collect();
+    let entries = entries(form, others as usize, random);
+    let commands = commands(&entries, &keys, random);
     Opening {
         size: random.pick(&SIZES),
         workers: random.pick(&WORKERS),
@@ -168,36 +99,15 @@ fn entries(form: u64, others: usize, random: &mut Random) -> Vec<Entry> {
     .concat()
 }
 
-/// Different keys, neighbours and the two ends among them.
-fn keys(random: &mut Random, count: usize) -> Vec<u64> {
-    let near = random.below(LARGEST_KEY);
-    let mut keys = Vec::new();
-    while keys.len() < count {
-        let far = random_key(random);
-        let key = random.pick(&[0, LARGEST_KEY, near, near + 1, far, far]);
-        if !keys.contains(&key) {
-            keys.push(key);
-        }
-    }
-    keys
-}
-
 #[cfg(test)]
 mod tests {
     use std::collections::BTreeMap;
     use std::sync::LazyLock;
 
     use super::*;
-    use crate::command::Command;
-    use crate::depot::Second;
-    use crate::generate::runs;
-    use crate::host::Host;
-
-    /// The steps of a run, and how it stands after them.
-    struct Played {
-        steps: Vec<Step>,
-        run: Run,
-    }
+    use crate::command::{Command, Kind};
+    use crate::generate::runs::ANNOUNCEMENTS;
+    use crate::generate::runs::dealings::testing::{Done, assert_made_from_the_seed, done, noted};
 
     /// A writing turn of an insert.
     struct Writing {
@@ -210,41 +120,10 @@ mod tests {
         apart: bool,
     }
 
-    fn played(seed: u64, number: u64) -> Played {
-        let mut play = Play::new(&Second);
-        let outcome = runs::play(seed, runs::ANNOUNCEMENTS + number, &mut play);
-        outcome.expect("the second program is itself");
-        Played {
-            run: play.host().run().expect("the run goes on"),
-            steps: play.steps,
-        }
-    }
-
-    static PLAYED: LazyLock<Vec<Played>> =
-        LazyLock::new(|| (0..COUNT).map(|number| played(1, number)).collect());
-
-    /// The writing turns of inserts that the steps of a run deal.
-    fn writings(steps: &[Step]) -> Vec<Writing> {
-        let mut host = Host::default();
-        let mut writings = Vec::new();
-        let mut apart = false;
-        for step in steps {
-            match (step, host.run()) {
-                (Step::Keep, _) => apart = true,
-                (Step::Restore, _) => apart = false,
-                (Step::Advance(schedule), Some(mut run)) => {
-                    let there = |party: &u8| *party <= run.settings.workers;
-                    if schedule.iter().all(there) {
-                        let turns = schedule.iter();
-                        writings.extend(turns.filter_map(|party| writing(&mut run, *party, apart)));
-                    }
-                }
-                _ => {}
-            }
-            host.take(&Second, step);
-        }
-        writings
-    }
+    static PLAYED: LazyLock<Vec<Done>> = LazyLock::new(|| {
+        let indexes = ANNOUNCEMENTS..ANNOUNCEMENTS + COUNT;
+        indexes.map(|index| done(1, index)).collect()
+    });
 
     /// Deals a turn; what it writes, if it is the writing turn of an insert.
     fn writing(run: &mut Run, worker: u8, apart: bool) -> Option<Writing> {
@@ -270,7 +149,7 @@ mod tests {
     /// How often each answer to an insert is written, by what was before its writing turn.
     fn counts(apart: bool) -> BTreeMap<([bool; 3], u16), usize> {
         let mut counts = BTreeMap::new();
-        let all = PLAYED.iter().flat_map(|played| writings(&played.steps));
+        let all = PLAYED.iter().flat_map(|done| noted(&done.steps, writing));
         for writing in all.filter(|writing| writing.apart == apart) {
             *counts.entry((writing.before, writing.answer)).or_default() += 1;
         }
@@ -364,7 +243,7 @@ mod tests {
     fn old_and_new_chutes_are_read_and_the_item_is_deleted() {
         let mut counts = [0; 6];
         let mut finished = 0;
-        for run in PLAYED.iter().map(|played| &played.run) {
+        for run in PLAYED.iter().map(|done| &done.run) {
             let shown = shown(run);
             finished += u64::from(run.is_finished());
             counts = std::array::from_fn(|index| counts[index] + u64::from(shown[index]));
@@ -377,9 +256,10 @@ mod tests {
     #[test]
     fn notices_are_made_by_one_worker_and_by_two() {
         let mut counts = [0; 2];
-        for played in PLAYED.iter() {
+        for done in PLAYED.iter() {
             let mut made = BTreeMap::new();
-            for it in writings(&played.steps).iter().filter(|it| !it.apart) {
+            let writings = noted(&done.steps, writing);
+            for it in writings.iter().filter(|it| !it.apart) {
                 let earlier = made.insert(it.key, it.worker);
                 if it.answer == 1004 {
                     counts[usize::from(earlier != Some(it.worker))] += 1;
@@ -391,10 +271,6 @@ mod tests {
 
     #[test]
     fn a_seed_gives_the_same_runs_again_and_another_gives_others() {
-        for number in (0..COUNT).step_by(31) {
-            let steps = &PLAYED[number as usize].steps;
-            assert!(played(1, number).steps == *steps);
-            assert!(played(2, number).steps != *steps);
-        }
+        assert_made_from_the_seed(ANNOUNCEMENTS, COUNT);
     }
 }

@@ -90,7 +90,7 @@ fn middle(random: &mut Random, play: &mut Play) -> Result<(), Difference> {
 }
 
 /// Turns and reports on whatever state there is now.
-fn step_on(random: &mut Random, play: &mut Play) -> Result<(), Difference> {
+pub fn step_on(random: &mut Random, play: &mut Play) -> Result<(), Difference> {
     let workers = play.host().list(List::State).get(1).copied().unwrap_or(1);
     let schedule = schedules::some(random, workers.min(64), 60);
     play.take(Step::Advance(schedule))?;
@@ -142,10 +142,7 @@ fn change_key(random: &mut Random, play: &mut Play) -> Result<(), Difference> {
     let from = random.below(used) as usize * KEY;
     let to = random.below(used) as usize * KEY;
     let key = keys[from..from + KEY].to_vec();
-    for (index, byte) in key.into_iter().enumerate() {
-        set(play, List::Keys, to + index, byte)?;
-    }
-    Ok(())
+    set_bytes(play, List::Keys, to, &key)
 }
 
 /// A number at the ends of what is accepted, or next to this one.
@@ -193,8 +190,18 @@ fn number(play: &Play, offset: usize) -> u16 {
     u16::from_be_bytes([state[offset], state[offset + 1]])
 }
 
-fn set_number(play: &mut Play, offset: usize, number: u16) -> Result<(), Difference> {
-    let [high, low] = number.to_be_bytes();
-    set(play, List::State, offset, high)?;
-    set(play, List::State, offset + 1, low)
+/// Gives two bytes of the state a number.
+pub fn set_number(play: &mut Play, offset: usize, number: u16) -> Result<(), Difference> {
+    set_bytes(play, List::State, offset, &number.to_be_bytes())
+}
+
+/// Gives the bytes of a list from an offset on these values.
+pub fn set_bytes(
+    play: &mut Play,
+    list: List,
+    offset: usize,
+    values: &[u8],
+) -> Result<(), Difference> {
+    let mut values = values.iter().enumerate();
+    values.try_for_each(|(index, value)| set(play, list, offset + index, *value))
 }

@@ -11,7 +11,8 @@ use crate::random::Random;
 use crate::script::Step;
 use crate::text::input::{EXAMPLE, HEADER, LONGEST};
 
-/// Document 01's example of the program, cut at every byte, and inputs at every limit.
+/// Document 01's example of the program, cut at every byte and with one turn more of each party,
+/// the worker that is not there among them; and inputs at every limit.
 pub fn limits(random: &mut Random) -> Vec<Case> {
     let mut inputs: Vec<Vec<u8>> = (0..=EXAMPLE.len())
         .map(|end| EXAMPLE[..end].to_vec())
@@ -28,7 +29,7 @@ pub fn limits(random: &mut Random) -> Vec<Case> {
         inputs.extend([with_byte(&long, HEADER, 0), long]);
     }
     inputs.extend(wrong_lists(random));
-    inputs.push([&EXAMPLE[..], &[2]].concat());
+    inputs.extend([0, 1, 2].map(|party| [&EXAMPLE[..], &[party]].concat()));
     let steps = inputs.into_iter().map(Step::Program);
     steps.map(|step| vec![step]).collect()
 }

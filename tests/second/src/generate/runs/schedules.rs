@@ -20,30 +20,35 @@ enum Policy {
     RoundRobin(u8),
     /// The loader every other turn.
     Loading,
+    /// Seldom one that is to look up or to write, so that others have turns before it does.
+    Lingering,
 }
 
 impl Policy {
     fn any(random: &mut Random, workers: u8) -> Policy {
-        match random.below(5) {
+        match random.below(6) {
             0 => Policy::Random,
             1 => Policy::Bursty { party: 0, left: 0 },
             2 => Policy::Starving(any_party(random, workers)),
             3 => Policy::RoundRobin(workers),
+            4 => Policy::Lingering,
             _ => Policy::Loading,
         }
     }
 
     /// One that leaves nobody out.
     fn fair(random: &mut Random, workers: u8) -> Policy {
-        match random.below(4) {
+        match random.below(5) {
             0 => Policy::Random,
             1 => Policy::Bursty { party: 0, left: 0 },
             2 => Policy::Loading,
+            3 => Policy::Lingering,
             _ => Policy::RoundRobin(workers),
         }
     }
 
-    fn next(&mut self, random: &mut Random, workers: u8) -> u8 {
+    fn next(&mut self, random: &mut Random, run: &Run) -> u8 {
+        let workers = run.settings.workers;
         match self {
             Policy::Random => any_party(random, workers),
             Policy::Bursty { party, left: 0 } => {
@@ -52,7 +57,7 @@ impl Policy {
                     party: *party,
                     left: random.below(40),
                 };
-                self.next(random, workers)
+                self.next(random, run)
             }
             Policy::Bursty { party, left } => {
                 *left -= 1;
@@ -71,6 +76,14 @@ impl Policy {
                 *party
             }
             Policy::Loading => any_party(random, workers) * random.below(2) as u8,
+            Policy::Lingering => loop {
+                let party = any_party(random, workers);
+                let now = run.parties[usize::from(party)];
+                let lingers = matches!(now, Party::Holding { .. } | Party::LookedUp { .. });
+                if !lingers || random.below(16) == 0 {
+                    break party;
+                }
+            },
         }
     }
 }
@@ -135,7 +148,7 @@ fn deal(random: &mut Random, run: &mut Run, policy: &mut Policy, most: usize) ->
     let mut schedule = Vec::new();
     let mut finished = run.is_finished();
     while schedule.len() < most && !finished {
-        let party = policy.next(random, run.settings.workers);
+        let party = policy.next(random, run);
         // Nothing but a turn after which its party is idle can be the last.
         let moved = run.turn(party);
         finished = moved && run.parties[usize::from(party)] == Party::Idle && run.is_finished();

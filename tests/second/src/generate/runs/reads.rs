@@ -1,0 +1,461 @@
+//! Reads, each done in one turn: of items that are there and that are not, beside other reads and
+//! updates in each of their states and beside the clearing of inserts and deletes. They are dealt in
+//! orders of every sort, and some are handed back as no dealing leaves them: looked-up with any
+//! finding, beside a worker that is about to write the same item, with another command, a refused
+//! one or none.
+
+use super::changes::{set_bytes, set_number, step_on};
+use super::dealings::{self, Change, Entry, Played, WAYS, commands, keys, with_changes};
+use super::openings::Opening;
+use super::reports;
+use crate::bytes::{NUMBER, PARTY, PARTY_BYTES, PLACE, party_bytes};
+use crate::command::Kind::{self, Delete, Insert, Read, Update};
+use crate::command::{LARGEST_CHUTE, LENGTH};
+use crate::generate::commands::{FAULTS, with_faults, with_key};
+use crate::play::Play;
+use crate::random::Random;
+use crate::run::{Party, Run, Settings};
+use crate::script::{List, Step};
+
+/// How many runs there are: each form of a list twice in each way of dealing.
+pub const COUNT: u64 = FORMS * WAYS * 2;
+const FORMS: u64 = 128;
+
+const SIZES: [u64; 6] = [2, 3, 4, 6, 8, 12];
+const WORKERS: [u64; 6] = [1, 2, 3, 4, 4, 8];
+
+/// The item that is there in half of the forms, one that is absent unless it is put in later, and
+/// two that are there.
+const ITEM: usize = 0;
+const ABSENT: usize = 1;
+const OTHER: usize = 2;
+const FOURTH: usize = 3;
+const ITEMS: usize = 4;
+
+/// Reads beside one another and beside updates.
+const BESIDE: [&[Entry]; 4] = [
+    &[(Read, ITEM), (Read, ABSENT), (Read, ITEM)],
+    &[(Update, OTHER), (Read, ITEM), (Update, FOURTH)],
+    &[(Read, ABSENT), (Update, OTHER), (Read, ITEM)],
+    &[(Update, ITEM), (Read, ITEM), (Update, OTHER)],
+];
+/// What the later reads wait for.
+const CHANGE: [&[Entry]; 4] = [
+    &[],
+    &[(Delete, OTHER)],
+    &[(Insert, ABSENT)],
+    &[(Insert, ITEM), (Delete, FOURTH)],
+];
+/// What stands last.
+const AFTER: [&[Entry]; 4] = [
+    &[(Read, ITEM), (Read, ABSENT), (Read, OTHER), (Read, ITEM)],
+    &[(Read, ITEM), (Update, ITEM), (Read, FOURTH), (Read, ITEM)],
+    &[
+        (Update, FOURTH),
+        (Read, ITEM),
+        (Read, OTHER),
+        (Read, FOURTH),
+    ],
+    &[
+        (Read, ABSENT),
+        (Update, ABSENT),
+        (Update, OTHER),
+        (Read, ITEM),
+    ],
+];
+
+/// A record that a worker holds.
+#[derive(Clone, Copy)]
+struct Held {
+    own: u8,
+    /// Its command's place and key, and what the store has of the item, 0 for none.
+    place: usize,
+    key: u64,
+    chute: u16,
+    /// Those of the run.
+    settings: Settings,
+    count: usize,
+}
+
+/// What is done to lists that are handed back while a worker holds a record.
+const CHANGES: [Change<Held>; 7] = [
+    looked_up_with_nothing,
+    looked_up_with_the_chute,
+    looked_up_with_another,
+    beside_a_writer,
+    with_another_command,
+    with_a_refused_command,
+    without_a_command,
+];
+
+/// Plays the run of a number below the count.
+pub fn play(number: u64, random: &mut Random, play: &mut Play) -> Played {
+    let opening = opening(number % FORMS, random);
+    dealings::play(opening, number / FORMS % WAYS, changed, random, play)
+}
+
+/// To the end; behind each turn that takes a command, the lists are handed over with each of the
+/// changes, on a copy.
+fn changed(random: &mut Random, play: &mut Play) -> Played {
+    with_changes(held, &CHANGES, random, play)
+}
+
+/// The record that a party holds, if it has just taken one.
+fn held(run: &Run, party: u8) -> Option<Held> {
+    let Party::Holding { own } = run.parties[usize::from(party)] else {
+        return None;
+    };
+    let key = run.command(own)?.key;
+    Some(Held {
+        own,
+        place: run.records.place[usize::from(own)].into(),
+        key,
+        chute: run.store.chute(key),
+        settings: run.settings,
+        count: run.commands.len(),
+    })
+}
+
+/// An opening of a form; odd ones put the item in first.
+fn opening(form: u64, random: &mut Random) -> Opening {
+    let keys = keys(random, ITEMS);
+    let part = |parts: [&'static [Entry]; 4], at: u64| parts[(form / at % 4) as usize];
+    let (first, least): (&[Entry], u64) = match form % 2 {
+        0 => (&[(Insert, FOURTH), (Insert, OTHER)], 2),
+        _ => (&[(Insert, OTHER), (Insert, ITEM), (Insert, FOURTH)], 3),
+    };
+    let entries = [first, part(BESIDE, 2), part(CHANGE, 8), part(AFTER, 32)].concat();
+    Opening {
+        size: random.pick(&SIZES),
+        workers: random.pick(&WORKERS),
+        room: least + random.below(2),
+        commands: commands(&entries, &keys, random),
+    }
+}
+
+fn looked_up_with_nothing(worker: u8, held: Held, random: &mut Random, play: &mut Play) -> Played {
+    looked_up(worker, held, 0, random, play)
+}
+
+/// With what the store has of the item.
+fn looked_up_with_the_chute(
+    worker: u8,
+    held: Held,
+    random: &mut Random,
+    play: &mut Play,
+) -> Played {
+    looked_up(worker, held, held.chute, random, play)
+}
+
+/// With a chute that the store does not have of the item.
+fn looked_up_with_another(worker: u8, held: Held, random: &mut Random, play: &mut Play) -> Played {
+    let mut others = vec![1, 2, LARGEST_CHUTE, LARGEST_CHUTE + 1, u16::MAX];
+    others.retain(|other| *other != held.chute);
+    let found = random.pick(&others);
+    looked_up(worker, held, found, random, play)
+}
+
+fn looked_up(worker: u8, held: Held, found: u16, random: &mut Random, play: &mut Play) -> Played {
+    let own = held.own;
+    set_party(play, worker, Party::LookedUp { own, found })?;
+    deal_each(&[worker], random, play)
+}
+
+/// Another worker, where there is one and a record and a command for it, is between the look-up
+/// and the writing of a command of the same item that changes the store. It writes before or after
+/// this worker's turn.
+fn beside_a_writer(worker: u8, held: Held, random: &mut Random, play: &mut Play) -> Played {
+    let own = [
+        (worker.into(), held.settings.workers.into()),
+        (held.own.into(), held.settings.size.into()),
+        (held.place, held.count),
+    ];
+    if own.iter().any(|(_, most)| *most < 2) {
+        return Ok(());
+    }
+    let [other, record, place] = own.map(|(it, most)| other_than(random, it, most));
+    let kind = random.pick(&[Insert, Delete, Update]);
+    set_command(play, place, &with_key(random, kind, held.key))?;
+    set_number(play, PLACE + NUMBER * record, place as u16)?;
+    let looked_up = Party::LookedUp {
+        own: record as u8,
+        found: held.chute,
+    };
+    set_party(play, other as u8, looked_up)?;
+    let turns = random.pick(&[[worker, other as u8], [other as u8, worker]]);
+    deal_each(&turns, random, play)
+}
+
+/// The command is another one of the same item, so that a read may be held as an update is.
+fn with_another_command(worker: u8, held: Held, random: &mut Random, play: &mut Play) -> Played {
+    let kind = random.pick(&Kind::ALL);
+    set_command(play, held.place, &with_key(random, kind, held.key))?;
+    deal_each(&[worker, worker], random, play)
+}
+
+/// The command is one that opening refuses.
+fn with_a_refused_command(worker: u8, held: Held, random: &mut Random, play: &mut Play) -> Played {
+    let fault = random.pick(&FAULTS);
+    set_command(play, held.place, &with_faults(random, fault))?;
+    deal_each(&[worker, worker], random, play)
+}
+
+fn without_a_command(worker: u8, held: Held, random: &mut Random, play: &mut Play) -> Played {
+    set_number(play, PLACE + NUMBER * usize::from(held.own), 0)?;
+    deal_each(&[worker, worker], random, play)
+}
+
+/// Deals turns, each by a call of its own with the reports behind it, and goes on.
+fn deal_each(turns: &[u8], random: &mut Random, play: &mut Play) -> Played {
+    for party in turns {
+        play.take(Step::Advance(vec![*party]))?;
+        reports(play)?;
+    }
+    step_on(random, play)
+}
+
+fn set_party(play: &mut Play, number: u8, party: Party) -> Played {
+    let offset = PARTY + PARTY_BYTES * usize::from(number);
+    set_bytes(play, List::State, offset, &party_bytes(party))
+}
+
+/// Gives the command of a place, from 1, these bytes.
+fn set_command(play: &mut Play, place: usize, bytes: &[u8]) -> Played {
+    set_bytes(play, List::Commands, (place - 1) * LENGTH, bytes)
+}
+
+/// A number from 1 to the most, which is 2 or more, but not this one of them.
+fn other_than(random: &mut Random, it: usize, most: usize) -> usize {
+    (it + random.below(most as u64 - 1) as usize) % most + 1
+}
+
+#[cfg(test)]
+mod tests {
+    use std::collections::BTreeMap;
+    use std::sync::LazyLock;
+
+    use super::*;
+    use crate::bytes::standing;
+    use crate::depot::Second;
+    use crate::generate::runs::READS;
+    use crate::generate::runs::dealings::testing::{Done, assert_made_from_the_seed, done, noted};
+
+    static PLAYED: LazyLock<Vec<Done>> = LazyLock::new(|| {
+        let indexes = READS..READS + COUNT;
+        indexes.map(|index| done(1, index)).collect()
+    });
+
+    /// A turn of a worker that holds a record or is looked-up.
+    struct Service {
+        before: Party,
+        after: Party,
+        kind: Option<Kind>,
+        /// What the store has of the item before the turn, 0 for none.
+        chute: u16,
+        /// After the turn.
+        answer: u16,
+        /// Those of the other workers' records, and whether the item is the same.
+        beside: Vec<(Beside, bool)>,
+        /// Whether it is on a copy, which may have been changed.
+        apart: bool,
+    }
+
+    /// The numbers of a kind and of the state of a worker that has such a command.
+    type Beside = (u8, u8);
+
+    /// Deals a turn, and notes it if the worker holds a record or is looked-up.
+    fn service(run: &mut Run, worker: u8, apart: bool) -> Option<Service> {
+        let before = run.parties[usize::from(worker)];
+        let (Party::Holding { own } | Party::LookedUp { own, .. }) = before else {
+            run.turn(worker);
+            return None;
+        };
+        let command = run.command(own);
+        let key = command.map(|it| it.key);
+        let chute = key.map_or(0, |key| run.store.chute(key));
+        let others = (1..=run.settings.workers).filter(|other| *other != worker);
+        let beside = others.filter_map(|other| beside(run, other, key)).collect();
+        run.turn(worker);
+        let place = usize::from(run.records.place[usize::from(own)]);
+        Some(Service {
+            before,
+            after: run.parties[usize::from(worker)],
+            kind: command.map(|it| it.kind),
+            chute,
+            answer: place.checked_sub(1).map_or(0, |index| run.answers[index]),
+            beside,
+            apart,
+        })
+    }
+
+    fn beside(run: &Run, other: u8, key: Option<u64>) -> Option<(Beside, bool)> {
+        let other = run.parties[usize::from(other)];
+        let command = run.command(other.own()?)?;
+        let state = standing(other)[0];
+        Some(((command.kind.number(), state), Some(command.key) == key))
+    }
+
+    static SERVICES: LazyLock<Vec<Service>> = LazyLock::new(|| {
+        let all = PLAYED.iter().flat_map(|done| noted(&done.steps, service));
+        all.collect()
+    });
+
+    /// The services of all runs with a command of a kind, or with none.
+    fn services(kind: Option<Kind>, apart: bool) -> impl Iterator<Item = &'static Service> {
+        let all = SERVICES.iter();
+        all.filter(move |it| it.kind == kind && it.apart == apart)
+    }
+
+    /// How often each of these is met.
+    fn counts<T: Ord>(met: impl Iterator<Item = T>) -> BTreeMap<T, usize> {
+        let mut counts = BTreeMap::new();
+        for it in met {
+            *counts.entry(it).or_default() += 1;
+        }
+        counts
+    }
+
+    /// The states of a worker that has a record, by number.
+    const HOLDING: u8 = 3;
+    const LOOKED_UP: u8 = 4;
+    const WRITTEN: u8 = 5;
+    const WALKING: u8 = 6;
+    const CLEARING: u8 = 7;
+
+    /// Document 02, A.8, wherever a dealing leads: a read is held and then written. Its turn finds
+    /// a chute and finds none beside each state of another read, which is never looked-up, of an
+    /// update, and of an insert or delete, which is clearing already.
+    #[test]
+    fn reads_are_done_in_one_turn_beside_every_other_command() {
+        let mut met = Vec::new();
+        for it in services(Some(Read), false) {
+            assert!(matches!(it.before, Party::Holding { .. }));
+            assert!(matches!(it.after, Party::Written { .. }));
+            assert_eq!(it.answer, if it.chute == 0 { 1002 } else { it.chute });
+            let states = it.beside.iter();
+            met.extend(states.map(|(state, _)| (it.chute != 0, *state)));
+        }
+        let counts = counts(met.into_iter());
+        let reads = [HOLDING, WRITTEN, WALKING, CLEARING].map(|state| (3, state));
+        let updates = [HOLDING, LOOKED_UP, WRITTEN, WALKING, CLEARING].map(|state| (4, state));
+        let states = [&[(1, CLEARING), (2, CLEARING)], &reads[..], &updates].concat();
+        let expected = [false, true].map(|found| states.iter().map(move |it| (found, *it)));
+        assert!(
+            counts.keys().copied().eq(expected.into_iter().flatten()),
+            "{counts:?}"
+        );
+        assert!(counts.values().all(|count| *count >= 20), "{counts:?}");
+    }
+
+    /// Document 02, A.8: other kinds are held, looked-up and written.
+    #[test]
+    fn other_kinds_are_done_in_two_turns() {
+        for kind in [Insert, Delete, Update] {
+            let states = services(Some(kind), false).map(|it| {
+                let [before, after] = [it.before, it.after].map(|party| standing(party)[0]);
+                (before, after, it.answer != 0)
+            });
+            let counts = counts(states);
+            let expected = [(HOLDING, LOOKED_UP, false), (LOOKED_UP, WRITTEN, true)];
+            assert!(counts.keys().eq(&expected), "{counts:?}");
+            assert!(counts.values().all(|count| *count >= 300), "{counts:?}");
+        }
+    }
+
+    /// Handed back, a looked-up read has found nothing, what the store has or another chute, of an
+    /// item that is there and of one that is not; its turn answers that.
+    #[test]
+    fn looked_up_reads_meet_every_finding() {
+        let met = services(Some(Read), true).filter_map(|it| {
+            let Party::LookedUp { found, .. } = it.before else {
+                return None;
+            };
+            assert_eq!(it.answer, if found == 0 { 1002 } else { found });
+            Some((found != 0, it.chute != 0, found == it.chute))
+        });
+        let counts = counts(met);
+        let expected = [
+            (false, false, true),
+            (false, true, false),
+            (true, false, false),
+            (true, true, false),
+            (true, true, true),
+        ];
+        assert!(counts.keys().eq(&expected), "{counts:?}");
+        assert!(counts.values().all(|count| *count >= 200), "{counts:?}");
+    }
+
+    /// Handed back, a read is done while a worker is looked-up for an insert, a delete or an update
+    /// of its item, and behind its writing; it finds the item and finds none.
+    #[test]
+    fn reads_are_done_before_and_after_a_writer_of_their_item() {
+        let met = services(Some(Read), true)
+            .filter(|it| matches!(it.before, Party::Holding { .. }))
+            .flat_map(|it| it.beside.iter().map(|beside| (*beside, it.chute != 0)));
+        let counts = counts(met);
+        let expected: [(Kind, u8, &[bool]); 6] = [
+            (Insert, LOOKED_UP, &[false, true]),
+            (Insert, WRITTEN, &[true]),
+            (Delete, LOOKED_UP, &[false, true]),
+            (Delete, WRITTEN, &[false]),
+            (Update, LOOKED_UP, &[false, true]),
+            (Update, WRITTEN, &[false, true]),
+        ];
+        for (kind, state, findings) in expected {
+            for found in findings {
+                let met = counts.get(&(((kind.number(), state), true), *found));
+                assert!(met.is_some_and(|count| *count >= 20), "{kind:?} {counts:?}");
+            }
+        }
+    }
+
+    /// What a change makes of the first turn of a worker that holds a command of a kind.
+    fn first_turn(kind: Kind, change: Change<Held>) -> Service {
+        let random = &mut Random::new(1);
+        let mut play = Play::new(&Second);
+        let opening = Opening {
+            size: 1,
+            workers: 1,
+            room: 1,
+            commands: with_key(random, kind, 5),
+        };
+        let mut steps = opening.steps().to_vec();
+        steps.push(Step::Advance(vec![0, 0, 1, 1]));
+        play.take_all(steps).expect("the second program is itself");
+        let run = play.host().run().expect("it is opened");
+        let held = held(&run, 1).expect("the worker holds it");
+        change(1, held, random, &mut play).expect("the second program is itself");
+        noted(&play.steps, service).remove(0)
+    }
+
+    /// A refused command counts as a read of key 0, which has one turn; where there is no command
+    /// there are two; and a looked-up worker has one.
+    #[test]
+    fn a_changed_command_is_served_as_it_stands() {
+        let written = Party::Written { own: 1 };
+        for kind in Kind::ALL {
+            let refused = first_turn(kind, with_a_refused_command);
+            assert_eq!((refused.kind, refused.after), (Some(Read), written));
+            assert_eq!(refused.answer, 1002);
+            let none = first_turn(kind, without_a_command);
+            let looked_up = Party::LookedUp { own: 1, found: 0 };
+            assert_eq!((none.kind, none.after), (None, looked_up));
+            for change in &CHANGES[..3] {
+                let it = first_turn(kind, *change);
+                assert_eq!((it.kind, it.after), (Some(kind), written));
+            }
+        }
+        assert!(services(None, true).count() >= 1000);
+    }
+
+    #[test]
+    fn nearly_all_runs_come_to_their_end() {
+        let finished = PLAYED.iter().filter(|done| done.run.is_finished());
+        assert!(10 * finished.count() as u64 > 9 * COUNT);
+    }
+
+    #[test]
+    fn a_seed_gives_the_same_runs_again_and_another_gives_others() {
+        assert_made_from_the_seed(READS, COUNT);
+    }
+}
