@@ -1,13 +1,18 @@
 -- The writing of a command's answer: from what was served and stored, the model's. Assumes nothing.
 use Prim.Native.Nat.{ℕ, zero, suc, _-_, _≤_}
 use mathlib.Core.Path.{_≡_, refl}
+use mathlib.Core.Bool.{true, false}
 use mathlib.Core.List.{List, _∷_}
-use mathlib.Core.Option.{none, some}
+use mathlib.Core.Option.{Option, none, some}
 use native.Mathlib.Omega.{arith}
 use lib.ListN.{length, set}
+use Rattle.command.specs.declared.Kind.{Kind}
+use Rattle.command.specs.declared.Kind.the-variants.{Insert, Delete, Read, Update}
 use Rattle.command.specs.declared.Command.{Command}
 use Rattle.model.specs.Upd.{upd}
-use Rattle.model.specs.Service.{write, writeKind, writeFor}
+use Rattle.model.specs.Store.{Store}
+use Rattle.model.specs.Service.{isRead, inOneStep, write, writeKind, writeFor}
+use Rattle.model.specs.Proof.Tests.{true-false}
 use Rattle.store.specs.Lists.{storeOf}
 use Rattle.graph.specs.Memory.{answersOf, Writes}
 use Rattle.graph.proofs.Bridge.{set-is-upd}
@@ -32,3 +37,18 @@ pub writes-served : (c : Command) (place found : ℕ) (keys chutes answers : Lis
 unfolding writeFor
 writes-served c place found keys chutes answers used keys′ chutes′ answer used′ from to served o capacity =
     rw (capacity, served, answered answers place answer from to)
+
+-- a command that is written in the step of its lookup is a read: the store stays
+pub writes-read : (c : Option Command) → inOneStep c ≡ true → (place found : ℕ) (keys chutes answers : List ℕ) (used answer : ℕ)
+    → 1 ≤ place → place ≤ length answers → ((capacity key chute : ℕ) (st : Store) → writeKind Read capacity key chute found st ≡ write answer st)
+    → Writes c place found keys chutes answers used keys chutes (set answers (place - 1) answer) used
+unfolding isRead inOneStep
+writes-read none one place found keys chutes answers used answer from to read = absurd (true-false false one refl)
+writes-read (some c) one place found keys chutes answers used answer from to read =
+    writes-served c place found keys chutes answers used keys chutes answer used from to (go (c .kind) one)
+  where
+    go : (k : Kind) → isRead k ≡ true → writeKind k (length keys) (c .key) (c .chute) found (storeOf keys chutes used) ≡ write answer (storeOf keys chutes used)
+    go Insert e = absurd (true-false false e refl)
+    go Delete e = absurd (true-false false e refl)
+    go Read e = read (length keys) (c .key) (c .chute) (storeOf keys chutes used)
+    go Update e = absurd (true-false false e refl)

@@ -23,3 +23,4 @@ pub use loader::loader_walk;
 pub use service::in_one_step;
 pub use service::look_up;
 pub use service::write;
+pub use service::write_read;

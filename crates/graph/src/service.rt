@@ -1,11 +1,14 @@
 // A worker's lookup and its writing of store and answer. Functions here take sequence numbers and no nodes.
 ghost use mathlib.Core.Path.{_≡_};
-ghost use mathlib.Core.Option.{some};
-ghost use Prim.Native.Nat.{_≤_};
+ghost use mathlib.Core.Bool.{true};
+ghost use mathlib.Core.List.{List};
+ghost use mathlib.Core.Option.{Option, some};
+ghost use Prim.Native.Nat.{ℕ, _≤_};
 ghost use lib.ListN.{length};
 ghost use Rattle.command.specs.declared.Command.{Command as Cmd};
-ghost use Rattle.command.specs.declared.Kind.the-variants.{Insert};
+ghost use Rattle.command.specs.declared.Kind.the-variants.{Insert, Read};
 ghost use Rattle.model.specs.Service.{foundFor, inOneStep, writeKind, write as writing};
+ghost use Rattle.model.specs.Store.{Store};
 ghost use Rattle.store.specs.Lists.{storeOf};
 ghost use Rattle.graph.specs.Items.{itemOf};
 ghost use Rattle.graph.specs.Memory.{Writes};
@@ -46,6 +49,16 @@ pub fn in_one_step(item: Item) -> bool
 pub struct Written {
     pub answer: u16,
     pub used: usize,
+}
+
+// The answer of a read after its lookup; the store stays.
+fn answer_of_read(found: u16) -> u16
+    ensures { λ r. ⌜ ((capacity key chute : ℕ) (st : Store) → writeKind Read capacity key chute found st ≡ writing r st) ⌝ }
+{
+    if found == 0 {
+        return 1002;
+    }
+    found
 }
 
 // The answer of an insert after its lookup: an item that was found gets the chute, else the store is changed where there is room.
@@ -91,13 +104,8 @@ fn serve(command: Command, found: u16, keys: &mut [u64], chutes: &mut [u16], use
             }
         }
         Kind::Read => {
-            if found == 0 {
-                return Written { answer: 1002, used };
-            }
-            Written {
-                answer: found,
-                used,
-            }
+            let answer = answer_of_read(found);
+            Written { answer, used }
         }
         Kind::Update => {
             if found == 0 {
@@ -131,4 +139,13 @@ pub fn write(
             written.used
         }
     }
+}
+
+// Writes the answer of a command that is written in the step of its lookup.
+pub fn write_read(place: Seq, found: u16, answers: &mut [u16])
+    requires { ⌜ (1 ≤ place .0) × (place .0 ≤ length (now answers)) ⌝ }
+    ensures { λ _. ⌜ ((item : Option Cmd) (keys chutes : List ℕ) (used : ℕ) → inOneStep item ≡ true → Writes item (place .0) found keys chutes (now (answers .entry)) used keys chutes (now (answers .exit)) used) ⌝ }
+{
+    let i = place.0 - 1;
+    answers[i] = answer_of_read(found);
 }

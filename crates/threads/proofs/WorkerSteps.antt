@@ -4,7 +4,7 @@ use mathlib.Core.Path.{_≡_, refl, sym, ap, _∙_}
 use mathlib.Core.Bool.{Bool, true, false}
 use mathlib.Core.List.{List, [], _∷_}
 use mathlib.Core.Logic.{_⊎_, inl, inr, ⊎-elim}
-use mathlib.Core.Option.{Option}
+use mathlib.Core.Option.{Option, none, some}
 use native.Mathlib.Omega.{arith}
 use lib.ListN.{length}
 use lib.Dec.{eqb}
@@ -21,6 +21,7 @@ use Rattle.model.specs.Setup.{Setup}
 use Rattle.model.specs.Graph.{setSeq, setFree, setNext, setExecuting, setLocked, setWaits}
 use Rattle.model.specs.Service.{foundFor, inOneStep}
 use Rattle.model.specs.Step.{State, node, step, workerStep, moveTo, serveTo, enter, commandOf, holding, lookedUp, return, clearing, stepOn}
+use Rattle.model.specs.Proof.Tests.{true-false}
 use Rattle.model.specs.Proof.Upd.{upd-id, upd-same}
 use Rattle.store.specs.Lists.{storeOf}
 use Rattle.graph.specs.Arrays.{numbers, flags, Nodes, NodesWithin, Shows, Entered, Searches, Walks, ClearsOn}
@@ -53,6 +54,12 @@ entered-cases m thread entered r locked′ h = go (flags (m .graph .locked) 0) r
 -- a thread of another variant than the first is not idle
 pub busy : (thread : Thread) → OneOf (1 ∷ 2 ∷ 3 ∷ 4 ∷ 5 ∷ 6 ∷ 7 ∷ []) (tagOf the-type thread) → thread ≡ Idle → ⊥
 busy thread h idle = miss (1 ∷ 2 ∷ 3 ∷ 4 ∷ 5 ∷ 6 ∷ 7 ∷ []) 0 tt (rw idle at h)
+
+-- what is written in one step is a command
+pub one-step-command : (item : Option Command) → inOneStep item ≡ true → (c : Command) × (item ≡ some c)
+unfolding inOneStep
+one-step-command none one = absurd (true-false false one refl)
+one-step-command (some c) one = (c, refl)
 
 -- what a clearing worker's step leaves
 module _ (at own : Node) (free : ℕ) (next seq : List ℕ) (executing locked : List Bool) (waits : List (List ℕ)) (r : Thread) (free′ : ℕ) (next′ seq′ : List ℕ)
@@ -146,8 +153,9 @@ module _ (list kinds itemKeys itemChutes : List ℕ) (t : ℕ) (other : t ≡ 0 
 
     module _ (item : Option Command) (item-is : item ≡ keptAt kinds itemKeys itemChutes (own .0)) where
       -- what a worker with that command writes after a lookup is what the model writes
-      module _ (thread : Thread) (ready : Ready list kinds itemKeys itemChutes m thread) (small : own .0 ≤ 150) (found : ℕ) (keys′ chutes′ answers′ : List ℕ) (used′ : ℕ)
-          (writes : Writes item (numbers (m .graph .seq) (own .0)) found (m .service .keys) (m .service .chutes) (m .service .answers) (m .service .used) keys′ chutes′ answers′ used′)
+      module _ (thread : Thread) (ready : Ready list kinds itemKeys itemChutes m thread) (small : own .0 ≤ 150) (place : ℕ) (place-is : place ≡ numbers (m .graph .seq) (own .0))
+          (found : ℕ) (keys′ chutes′ answers′ : List ℕ) (used′ : ℕ)
+          (writes : Writes item place found (m .service .keys) (m .service .chutes) (m .service .answers) (m .service .used) keys′ chutes′ answers′ used′)
           (count : length answers′ ≡ length (m .service .answers)) where
         abbrev written : Memory
         written = withStore keys′ chutes′ answers′ used′ m
@@ -155,7 +163,7 @@ module _ (list kinds itemKeys itemChutes : List ℕ) (t : ℕ) (other : t ≡ 0 
         writes-as-model : (o : Setup) (threads : ℕ → Thread) → o .commands ≡ commandsIn list → o .capacity ≡ length (m .service .keys)
             → lookedUp o t (own .0) found (shown m threads) ≡ shown written (upd threads t (Written own))
         unfolding lookedUp serveTo
-        writes-as-model o threads commands capacity = rw (command-kept thread o threads ready small commands, ← item-is, writes o capacity)
+        writes-as-model o threads commands capacity = rw (command-kept thread o threads ready small commands, ← item-is, ← place-is, writes o capacity)
 
         written-ready : Ready list kinds itemKeys itemChutes written (Written own)
         written-ready = store-ready list kinds itemKeys itemChutes m thread ready (Written own) keys′ chutes′ answers′ used′ count small
@@ -170,29 +178,30 @@ module _ (list kinds itemKeys itemChutes : List ℕ) (t : ℕ) (other : t ≡ 0 
             (λ o threads commands capacity is. rw (command-kept (Holding own) o threads ready (ready .within) commands, ← item-is, two, ← found-is))
             (store-ready list kinds itemKeys itemChutes m (Holding own) ready (LookedUp own found) (m .service .keys) (m .service .chutes) (m .service .answers) (m .service .used) refl (ready .within))
 
-        pub holding-writes : inOneStep item ≡ true → (keys′ chutes′ answers′ : List ℕ) (used′ : ℕ)
-            → Writes item (numbers (m .graph .seq) (own .0)) found (m .service .keys) (m .service .chutes) (m .service .answers) (m .service .used) keys′ chutes′ answers′ used′
+        -- the store stays, whatever is written in one step
+        pub holding-writes : inOneStep item ≡ true → (place : ℕ) → place ≡ numbers (m .graph .seq) (own .0) → (answers′ : List ℕ)
+            → Writes item place found (m .service .keys) (m .service .chutes) (m .service .answers) (m .service .used) (m .service .keys) (m .service .chutes) answers′ (m .service .used)
             → length answers′ ≡ length (m .service .answers)
-            → Steps list t (Holding own) m kinds itemKeys itemChutes (Written own) (withStore keys′ chutes′ answers′ used′ m)
+            → Steps list t (Holding own) m kinds itemKeys itemChutes (Written own) (withStore (m .service .keys) (m .service .chutes) answers′ (m .service .used) m)
         unfolding workerStep holding
-        holding-writes one keys′ chutes′ answers′ used′ writes count =
-            worker-steps kinds itemKeys itemChutes (Holding own) (Written own) (withStore keys′ chutes′ answers′ used′ m)
+        holding-writes one place place-is answers′ writes count =
+            worker-steps kinds itemKeys itemChutes (Holding own) (Written own) (withStore (m .service .keys) (m .service .chutes) answers′ (m .service .used) m)
             (λ o threads commands capacity is.
             let same = command-kept (Holding own) o threads ready (ready .within) commands ∙ sym item-is in
             rw (ap inOneStep same ∙ one, ap (λ (c : Option Command). foundFor c (shown m threads .service .store)) same ∙ sym found-is)
-            (writes-as-model (Holding own) ready (ready .within) found keys′ chutes′ answers′ used′ writes count o threads commands capacity))
-            (written-ready (Holding own) ready (ready .within) found keys′ chutes′ answers′ used′ writes count)
+            (writes-as-model (Holding own) ready (ready .within) place place-is found _ _ answers′ _ writes count o threads commands capacity))
+            (written-ready (Holding own) ready (ready .within) place place-is found _ _ answers′ _ writes count)
 
       -- and one that has looked up writes
-      pub looked-up-writes : (found : ℕ) (keys′ chutes′ answers′ : List ℕ) (used′ : ℕ)
-          → Writes item (numbers (m .graph .seq) (own .0)) found (m .service .keys) (m .service .chutes) (m .service .answers) (m .service .used) keys′ chutes′ answers′ used′
+      pub looked-up-writes : (place : ℕ) → place ≡ numbers (m .graph .seq) (own .0) → (found : ℕ) (keys′ chutes′ answers′ : List ℕ) (used′ : ℕ)
+          → Writes item place found (m .service .keys) (m .service .chutes) (m .service .answers) (m .service .used) keys′ chutes′ answers′ used′
           → length answers′ ≡ length (m .service .answers) → Ready list kinds itemKeys itemChutes m (LookedUp own found)
           → Steps list t (LookedUp own found) m kinds itemKeys itemChutes (Written own) (withStore keys′ chutes′ answers′ used′ m)
       unfolding workerStep
-      looked-up-writes found keys′ chutes′ answers′ used′ writes count ready =
+      looked-up-writes place place-is found keys′ chutes′ answers′ used′ writes count ready =
           worker-steps kinds itemKeys itemChutes (LookedUp own found) (Written own) (withStore keys′ chutes′ answers′ used′ m)
-          (λ o threads commands capacity is. writes-as-model (LookedUp own found) ready (ready .within) found keys′ chutes′ answers′ used′ writes count o threads commands capacity)
-          (written-ready (LookedUp own found) ready (ready .within) found keys′ chutes′ answers′ used′ writes count)
+          (λ o threads commands capacity is. writes-as-model (LookedUp own found) ready (ready .within) place place-is found keys′ chutes′ answers′ used′ writes count o threads commands capacity)
+          (written-ready (LookedUp own found) ready (ready .within) place place-is found keys′ chutes′ answers′ used′ writes count)
 
   module _ (at : Node) where
     -- searching, walking and clearing are the model's: the functions along the chain ensure it of every state that the arrays show

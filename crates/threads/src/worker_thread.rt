@@ -1,19 +1,15 @@
 // A worker's step, by the state that it is in.
 ghost use mathlib.Core.Path.{_≡_};
 ghost use mathlib.Core.List.{List};
-ghost use mathlib.Core.Option.{some};
 ghost use Prim.Native.Nat.{ℕ, _≤_};
-ghost use lib.ListN.{length};
 ghost use Rattle.command.specs.declared.Command.{Command};
-ghost use Rattle.model.specs.declared.Thread.the-variants.{Written};
 ghost use Rattle.graph.specs.Arrays.{numbers, Nodes, NodesWithin, ClearsOn};
-ghost use Rattle.graph.specs.Items.{itemOf, Kept};
-ghost use Rattle.graph.specs.Memory.{Ready, Steps, Writes, memory};
+ghost use Rattle.graph.specs.Items.{Kept};
+ghost use Rattle.graph.specs.Memory.{Ready, Steps, memory};
 ghost use Rattle.graph.specs.Worker.{WorkerReady};
 use crate::Stepped;
 use command::Seq;
 use graph::Cleared;
-use graph::Item;
 use graph::clear;
 use graph::enter;
 use graph::forget;
@@ -23,6 +19,7 @@ use graph::look_up;
 use graph::search;
 use graph::walk;
 use graph::write;
+use graph::write_read;
 use model::Counters;
 use model::Thread;
 use node_set::Node;
@@ -57,32 +54,6 @@ fn clear_own(
         forget(kinds, own);
     }
     cleared
-}
-
-// A worker's writing of store and answer, after the lookup for the command of its own node.
-fn write_own(
-    seq: &[u16; 151],
-    item: Item,
-    own: Node,
-    found: u16,
-    keys: &mut [u64],
-    chutes: &mut [u16],
-    answers: &mut [u16],
-    counters: Counters,
-) -> Stepped
-    requires { ⌜ (own .0 ≤ 150) × ((c : Command) → itemOf item ≡ some c → (1 ≤ numbers (now seq) (own .0)) × (numbers (now seq) (own .0) ≤ length (now answers))) ⌝ }
-    ensures thread { λ r. ⌜ r .thread ≡ Written own ⌝ }
-    ensures kept { λ r. ⌜ (r .counters .free ≡ counters .free) × (r .counters .loaded ≡ counters .loaded) ⌝ }
-    ensures writes { λ r. ⌜ Writes (itemOf item) (numbers (now (seq .entry)) (own .0)) found (now (keys .entry)) (now (chutes .entry)) (now (answers .entry)) (counters .used) (now (keys .exit)) (now (chutes .exit)) (now (answers .exit)) (r .counters .used) ⌝ }
-{
-    let place = place_of(seq[own.0 as usize]);
-    let used = write(item, place, found, keys, chutes, answers, counters.used);
-    let free = counters.free;
-    let loaded = counters.loaded;
-    Stepped {
-        thread: Thread::Written { own },
-        counters: Counters { free, loaded, used },
-    }
 }
 
 // One step of a worker, which is in state `thread`.
@@ -121,13 +92,20 @@ pub fn worker_step(
             let item = item_of(kinds, item_keys, item_chutes, own);
             let found = look_up(item, keys, chutes, used);
             if in_one_step(item) {
-                return write_own(seq, item, own, found, keys, chutes, answers, counters);
+                let place = place_of(seq[own.0 as usize]);
+                write_read(place, found, answers);
+                let thread = Thread::Written { own };
+                return Stepped { thread, counters };
             }
             Thread::LookedUp { own, found }
         }
         Thread::LookedUp { own, found } => {
             let item = item_of(kinds, item_keys, item_chutes, own);
-            return write_own(seq, item, own, found, keys, chutes, answers, counters);
+            let place = place_of(seq[own.0 as usize]);
+            let used = write(item, place, found, keys, chutes, answers, used);
+            let thread = Thread::Written { own };
+            let counters = Counters { free, loaded, used };
+            return Stepped { thread, counters };
         }
         Thread::Written { own } => enter(locked, thread, Thread::Walking { at: Node(0), own }),
         Thread::Walking { at, own } => walk(next, locked, at, own),

@@ -32,16 +32,15 @@ remove-requires c κs = search needs
 enum-told-3 : tie.Need-enum-told-3
 enum-told-3 c = search needs
 
-returns-2 : tie.Need-returns-2
-unfolding writeKind
-returns-2 c = rw (c .before .enum-told3 .given .1, eq-eqb _ 0 (c .if2 .taken))
+answer-of-read-requires : tie.Need-answer-of-read-requires
+answer-of-read-requires c κs = search needs
 
 enum-told-4 : tie.Need-enum-told-4
 enum-told-4 c = search needs
 
-returns-3 : tie.Need-returns-3
+returns-2 : tie.Need-returns-2
 unfolding writeKind
-returns-3 c = rw (c .before .enum-told4 .given .1, eq-eqb _ 0 (c .if3 .taken))
+returns-2 c = rw (c .before .enum-told4 .given .1, eq-eqb _ 0 (c .if2 .taken))
 
 replace-requires : tie.Need-replace-requires
 replace-requires c κs = search needs
@@ -52,8 +51,8 @@ same-length c = search needs
 same-length-2 : tie.Need-same-length-2
 same-length-2 c = search needs
 
-returns-4 : tie.Need-returns-4
-returns-4 c =
+returns-3 : tie.Need-returns-3
+returns-3 c =
     let served = insert-called c in
     rw (served .before .before .before .enum-told .given .1) (served .serve-insert .ensures)
 
@@ -63,16 +62,15 @@ same-length-3 c = search needs
 same-length-4 : tie.Need-same-length-4
 same-length-4 c = search needs
 
-returns-5 : tie.Need-returns-5
+returns-4 : tie.Need-returns-4
 unfolding writeKind
-returns-5 c =
+returns-4 c =
     let removed = remove-called c in
     let held = removed .before .before .before in
     rw (held .before .enum-told2 .given .1, ne-eqb _ 0 (held .if1 .left), removed .remove .ensures)
 
-returns-6 : tie.Need-returns-6
-unfolding writeKind
-returns-6 c = rw (c .before .enum-told3 .given .1, ne-eqb _ 0 (c .if2 .left))
+returns-5 : tie.Need-returns-5
+returns-5 c = rw (c .before .enum-told3 .given .1) (c .answer-of-read .ensures _ _ _ _)
 
 same-length-5 : tie.Need-same-length-5
 same-length-5 c = search needs
@@ -80,12 +78,12 @@ same-length-5 c = search needs
 same-length-6 : tie.Need-same-length-6
 same-length-6 c = search needs
 
-returns-7 : tie.Need-returns-7
+returns-6 : tie.Need-returns-6
 unfolding writeKind
-returns-7 c =
+returns-6 c =
     let replaced = c .before .before in
     let held = replaced .before .before .before in
-    rw (held .before .enum-told4 .given .1, ne-eqb _ 0 (held .if3 .left), replaced .replace .ensures)
+    rw (held .before .enum-told4 .given .1, ne-eqb _ 0 (held .if2 .left), replaced .replace .ensures)
 
 pub serve-spec : {M : Type 1} → statement M
 serve-spec =
@@ -97,17 +95,17 @@ serve-spec =
     returns
     remove-requires
     enum-told-3
-    returns-2
+    answer-of-read-requires
     enum-told-4
-    returns-3
+    returns-2
     replace-requires
     same-length
     same-length-2
-    returns-4
+    returns-3
     same-length-3
     same-length-4
+    returns-4
     returns-5
-    returns-6
     same-length-5
     same-length-6
-    returns-7)
+    returns-6)

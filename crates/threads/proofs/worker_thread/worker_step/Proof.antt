@@ -1,9 +1,13 @@
 -- `threads::worker_thread::worker_step` meets its contract, by the worker's state. Assumes nothing.
 use Prim.Native.Nat.{_≤_}
-use mathlib.Core.Path.{sym, _∙_}
+use mathlib.Core.Path.{_≡_, sym, _∙_}
+use mathlib.Core.Bool.{true}
+use native.Mathlib.Omega.{arith}
 use borrow.Author.Needs.{needs}
+use Rattle.model.specs.Service.{inOneStep}
+use Rattle.graph.specs.Items.{itemOf}
 use Rattle.threads.proofs.Readiness.{from-known}
-use Rattle.threads.proofs.WorkerSteps.{worker-waits, idle-enters, written-enters, holding-looks-up, holding-writes, looked-up-writes, searching-steps, walking-steps, clearing-steps}
+use Rattle.threads.proofs.WorkerSteps.{worker-waits, idle-enters, written-enters, one-step-command, holding-looks-up, holding-writes, looked-up-writes, searching-steps, walking-steps, clearing-steps}
 use Rattle.threads.proofs.worker_thread.worker_step.Statement.{statement}
 use Rattle.threads.proofs.worker_thread.worker_step.Tie as tie
 
@@ -15,16 +19,31 @@ entry c = c .before .before .before .before .before
 abbrev searching : tie.After-search-arg4 → tie.After-thread
 searching c = c .before .before .before .before .before
 
--- where the worker holds a node, from the call that writes at once, and the calls between
-abbrev holding : tie.After-write-own-arg4 → tie.After-thread2
-holding c = c .before .before .before .before .before .before .before .before .before .before .before .before
+-- where the worker holds a node, and its calls, from where a read's place is read
+abbrev looking-up : tie.After-struct-known → tie.After-look-up
+looking-up c = c .before .before .before
 
-abbrev looking-up : tie.After-write-own-arg4 → tie.After-look-up
-looking-up c = c .before .before .before .before .before .before
+abbrev item : tie.After-struct-known → tie.After-item-of
+item c = looking-up c .before .before .before
 
--- where the worker has looked up, from the call that writes
-abbrev looked-up : tie.After-write-own-arg8 → tie.After-thread3
-looked-up c = c .before .before .before .before .before .before .before
+abbrev holding : tie.After-struct-known → tie.After-thread2
+holding c = item c .before .before .before
+
+-- where a read's place is read, from the call that reads it
+abbrev reading : tie.After-place-of → tie.After-struct-known
+reading c = c .before .before
+
+-- where the worker has looked up, from where the node's place is read
+abbrev looked-up : tie.After-struct-known2 → tie.After-thread3
+looked-up c = c .before .before .before .before
+
+-- the call that writes, from the return
+abbrev write-called : tie.After-slice-known7 → tie.After-write
+write-called c = c .before .before .before .before .before .before
+
+-- the call that reads the place, from the call that writes
+abbrev place-called : tie.After-write → tie.After-place-of2
+place-called c = c .before .before .before .before
 
 -- where the worker walks, from its step
 abbrev walking : tie.After-walk → tie.After-thread5
@@ -33,6 +52,10 @@ walking c = c .before .before .before .before
 -- where the worker clears, from its step
 abbrev clearing : tie.After-clear-own-arg6 → tie.After-thread6
 clearing c = c .before .before .before .before .before .before .before
+
+-- what is written there is a read
+is-read : (c : tie.After-struct-known) → inOneStep (itemOf (item c .item-of .result)) ≡ true
+is-read c = sym (c .before .before .in-one-step .ensures) ∙ c .before .if1 .taken
 
 enum-told : tie.Need-enum-told
 enum-told c = search needs
@@ -66,12 +89,30 @@ look-up-requires c κs = search needs
 in-one-step-requires : tie.Need-in-one-step-requires
 in-one-step-requires c κs = search needs
 
-write-own-requires : tie.Need-write-own-requires
-write-own-requires c κs =
+cast-place-of : tie.Need-cast-place-of
+cast-place-of c = search needs
+
+mul-place-of : tie.Need-mul-place-of
+mul-place-of c = search needs
+
+element-copy-out-place-of : tie.Need-element-copy-out-place-of
+element-copy-out-place-of c =
     let known = holding c in
+    let within : known .thread2 .given .0 .0 .0 ≤ 150 = rw (known .thread2 .given .1) at (entry (known .before .before) .pre .within) in
+    omega arith
+
+place-of-requires : tie.Need-place-of-requires
+place-of-requires c κs = search needs
+
+write-read-requires : tie.Need-write-read-requires
+write-read-requires c κs =
+    let placed = c .before in
+    let read = reading placed in
+    let known = holding read in
     let start = entry (known .before .before) in
     let within : known .thread2 .given .0 .0 .0 ≤ 150 = rw (known .thread2 .given .1) at (start .pre .within) in
-    (within, λ command e. start .pre .placed (known .thread2 .given .0 .0 .0) command within (sym (looking-up c .before .before .before .item-of .ensures) ∙ e))
+    let command = one-step-command _ (is-read read) in
+    rw (placed .place-of .ensures) (start .pre .placed (known .thread2 .given .0 .0 .0) (command .0) within (sym (item read .item-of .ensures) ∙ command .1))
 
 same-length : tie.Need-same-length
 same-length c = search needs
@@ -84,16 +125,13 @@ same-length-3 c = search needs
 
 returns : tie.Need-returns
 returns c =
-    let written = c .before .before .before .before .before .before in
-    let called = written .before in
-    let known = holding called in
-    let found = looking-up called in
-    let one = called .before .before .before .before in
-    let does = written .write-own .ensures in
+    let written = c .before .before in
+    let placed = written .before .before in
+    let read = reading placed in
+    let known = holding read in
     λ list t other. from-known (known .thread2 .given .1) (λ ready.
-    rw (does .0, does .1 .0 .0, does .1 .0 .1)
-    (holding-writes _ _ _ _ _ other _ (known .thread2 .given .0 .0) _ (found .before .before .before .item-of .ensures) ready _ (found .look-up .ensures)
-    (sym (one .before .in-one-step .ensures) ∙ one .if1 .taken) _ _ _ _ (does .1 .1) (written .write-own .kept .1 .1 .1 .1 .1 .1 .0)))
+    holding-writes _ _ _ _ _ other _ (known .thread2 .given .0 .0) _ (item read .item-of .ensures) ready _ (looking-up read .look-up .ensures) (is-read read)
+    _ (placed .place-of .ensures) _ (written .write-read .ensures _ _ _ _ (is-read read)) (written .write-read .kept .1 .1 .0))
 
 enum-known-thread-3 : tie.Need-enum-known-thread-3
 enum-known-thread-3 c = search needs
@@ -103,12 +141,30 @@ item-of-requires-2 c κs =
     let known = c .before .before in
     rw (known .thread3 .given .1) at (entry (known .before .before) .pre .within)
 
-write-own-requires-2 : tie.Need-write-own-requires-2
-write-own-requires-2 c κs =
+cast-place-of-2 : tie.Need-cast-place-of-2
+cast-place-of-2 c = search needs
+
+mul-place-of-2 : tie.Need-mul-place-of-2
+mul-place-of-2 c = search needs
+
+element-copy-out-place-of-2 : tie.Need-element-copy-out-place-of-2
+element-copy-out-place-of-2 c =
     let known = looked-up c in
+    let within : known .thread3 .given .0 .0 .0 ≤ 150 = rw (known .thread3 .given .1) at (entry (known .before .before) .pre .within) in
+    omega arith
+
+place-of-requires-2 : tie.Need-place-of-requires-2
+place-of-requires-2 c κs = search needs
+
+write-requires : tie.Need-write-requires
+write-requires c κs =
+    λ command e.
+    let placed = c .before .before .before in
+    let item = placed .before .before .before in
+    let known = item .before .before .before in
     let start = entry (known .before .before) in
     let within : known .thread3 .given .0 .0 .0 ≤ 150 = rw (known .thread3 .given .1) at (start .pre .within) in
-    (within, λ command e. start .pre .placed (known .thread3 .given .0 .0 .0) command within (sym (c .before .before .before .before .item-of2 .ensures) ∙ e))
+    rw (placed .place-of2 .ensures) (start .pre .placed (known .thread3 .given .0 .0 .0) command within (sym (item .item-of2 .ensures) ∙ e))
 
 same-length-4 : tie.Need-same-length-4
 same-length-4 c = search needs
@@ -121,14 +177,14 @@ same-length-6 c = search needs
 
 returns-2 : tie.Need-returns-2
 returns-2 c =
-    let written = c .before .before .before .before .before .before in
-    let known = looked-up (written .before) in
+    let written = write-called c in
+    let placed = place-called written in
+    let item = placed .before .before .before in
+    let known = item .before .before .before in
     let fields = known .thread3 .given .0 in
-    let does = written .write-own2 .ensures in
     λ list t other. from-known (known .thread3 .given .1)
-    (rw (does .0, does .1 .0 .0, does .1 .0 .1)
-    (looked-up-writes _ _ _ _ _ other _ (fields .0) _ (written .before .before .before .before .before .item-of2 .ensures) (fields .1 .0) _ _ _ _ (does .1 .1)
-    (written .write-own2 .kept .1 .1 .1 .1 .1 .1 .0)))
+    (looked-up-writes _ _ _ _ _ other _ (fields .0) _ (item .item-of2 .ensures) _ (placed .place-of2 .ensures) (fields .1 .0) _ _ _ _
+    (written .write .ensures) (written .write .kept .1 .1 .1 .1 .1 .0))
 
 enum-known-thread-4 : tie.Need-enum-known-thread-4
 enum-known-thread-4 c = search needs
@@ -220,14 +276,22 @@ worker-step-spec =
     item-of-requires
     look-up-requires
     in-one-step-requires
-    write-own-requires
+    cast-place-of
+    mul-place-of
+    element-copy-out-place-of
+    place-of-requires
+    write-read-requires
     same-length
     same-length-2
     same-length-3
     returns
     enum-known-thread-3
     item-of-requires-2
-    write-own-requires-2
+    cast-place-of-2
+    mul-place-of-2
+    element-copy-out-place-of-2
+    place-of-requires-2
+    write-requires
     same-length-4
     same-length-5
     same-length-6
