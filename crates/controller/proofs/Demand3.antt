@@ -85,7 +85,7 @@ module _ (o : Setup) (acc : Accepted o) (ts : List ℕ) (within : allWithin (o .
   ascending : ascends (steps o ts (opened o) .service .store .used) (steps o ts (opened o) .service .store .keys) ≡ true
   ascending = rw (table-at-any-moment o acc ts within) (laid-ascends (o .capacity) _ (entries-ascending o _))
 
-  read-back : stateIn (listsOf o (steps o ts (opened o))) ≡ steps o ts (opened o)
+  pub read-back : stateIn (listsOf o (steps o ts (opened o))) ≡ steps o ts (opened o)
   read-back = state-read-back o (steps o ts (opened o)) (accepted-formed o acc) formed
 
   -- a call on the lists of a reached state performs its schedule, or refuses an unknown thread
@@ -118,7 +118,7 @@ module _ (o : Setup) (acc : Accepted o) (commands : List ℕ) (same : o .command
   call-reaches call l ts (refused why) e handed r = rw (append-nil ts) r
 
   -- call by call
-  calls-reach : (calls : List Call) (l : Lists) (ts : List ℕ) → Reach o l ts → Proper commands l calls → Reach o (listsAfter calls l) (ts ++ schedules calls)
+  pub calls-reach : (calls : List Call) (l : Lists) (ts : List ℕ) → Reach o l ts → Proper commands l calls → Reach o (listsAfter calls l) (ts ++ schedules calls)
   unfolding listsAfter schedules
   calls-reach [] l ts r proper = rw append-nil r
   calls-reach (call ∷ calls) l ts r proper =
@@ -136,7 +136,7 @@ module _ (o : Setup) (acc : Accepted o) (commands : List ℕ) (same : o .command
     answer-is c = sym (answer-in l c) ∙ ap (λ (s : State). s .service .answers c) state-is
 
     -- a schedule that names known threads is accepted
-    more-accepted : (more : List ℕ) → allWithin (o .workers) more ≡ true → advanceOn l commands more ≡ accepted (listsOf o (steps o (ts ++ more) (opened o)))
+    pub more-accepted : (more : List ℕ) → allWithin (o .workers) more ≡ true → advanceOn l commands more ≡ accepted (listsOf o (steps o (ts ++ more) (opened o)))
     more-accepted more within = rw (r .1) (call-performs o acc ts (r .0) commands same long more ∙ rw within)
 
     -- each part is the model's

@@ -1,5 +1,6 @@
 pub mod AcceptedOpening
 pub mod Demand3
+pub mod OneTurn
 pub mod HandedBack
 pub mod OpeningAnswer
 pub mod OpeningState

@@ -2,3 +2,4 @@ pub mod Calls
 pub mod Performed
 pub mod Opened
 pub mod Demand3
+pub mod OneTurn

@@ -6,4 +6,5 @@ pub mod Graph
 pub mod Service
 pub mod Step
 pub mod Statement
+pub mod OneTurn
 pub mod Proof

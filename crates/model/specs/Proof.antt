@@ -10,6 +10,7 @@ pub mod Service
 pub mod Consistent
 pub mod Chain
 pub mod Formed
+pub mod OneTurn
 pub mod Finish
 pub mod Theorem
 pub mod Bounds

@@ -12,6 +12,7 @@ pub enum Thread {
     Loading { at: Node, own: Node },
     Searching { at: Node },
     Holding { own: Node },
+    // No schedule leads here with a read, which is written in the step of its lookup.
     LookedUp { own: Node, found: u16 },
     Written { own: Node },
     // "Walking to its own record".

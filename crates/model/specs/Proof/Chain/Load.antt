@@ -66,7 +66,7 @@ module _ (o : Setup) (s : State) (g : Ghost) (i : Inv o s g) (here : s .threads 
   free-node : (1 ≤ f) × (f ≤ o .size) × (s .graph .seq f ≡ 0)
   free-node = i .freeList .is-unused f (first-in (s .graph .next) f (g .frees) (i .freeList .chain) some-free)
 
-  f-out : g .linked f ≡ false
+  pub f-out : g .linked f ≡ false
   f-out = unused-out o s g i f (free-node .2)
 
   -- a node with a command is another one, and keeps its sequence number

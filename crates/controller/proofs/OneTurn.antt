@@ -1,0 +1,58 @@
+-- Reads in one turn over calls, proved: the lists that calls leave are those of a state that the model's schedules reach, and one more turn
+-- is the model's step. Assumes nothing.
+use Prim.Native.Nat.{ℕ, _*_, _≤_}
+use mathlib.Core.Path.{_≡_, refl, sym, ap, _∙_}
+use mathlib.Core.Bool.{true}
+use mathlib.Core.List.{List, [], _∷_, _++_}
+use mathlib.Core.Option.{some}
+use lib.ListN.{length}
+use borrow.Author.Tests.{le-leb}
+use Rattle.command.specs.declared.Command.{Command}
+use Rattle.command.specs.Read.{commandsIn}
+use Rattle.node_set.specs.declared.Node.{Node}
+use Rattle.model.specs.declared.Thread.{Thread}
+use Rattle.model.specs.Setup.{Setup}
+use Rattle.model.specs.Step.{State, opened, commandOf, step, steps}
+use Rattle.model.specs.Statement.{Accepted, allWithin}
+use Rattle.model.specs.Proof.Finish.Schedule.{steps-append, within-append}
+use Rattle.model.specs.Proof.OneTurn.{reads-in-one-turn}
+use Rattle.state_bytes.specs.Layout.{Lists, listsOf, stateIn}
+use Rattle.controller.specs.Demand3.{listsAfter, schedules}
+use Rattle.controller.specs.OneTurn.{AfterTurn, InTurns, ReadsInOneTurnOverCalls}
+use Rattle.controller.proofs.AcceptedOpening.{IsOpened, accepted-opening}
+use Rattle.controller.proofs.Demand3.{Reach, opening-reaches, read-back, calls-reach, state-is, more-accepted}
+
+module _ (o : Setup) (acc : Accepted o) (commands : List ℕ) (same : o .commands ≡ commandsIn commands) (long : length commands ≡ 16 * length (o .commands)) (l : Lists) (ts : List ℕ)
+    (r : Reach o l ts) (t : ℕ) (low : 1 ≤ t) (high : t ≤ o .workers) where
+  -- the turn's schedule names a known thread
+  known : allWithin (o .workers) (t ∷ []) ≡ true
+  unfolding allWithin
+  known = rw (le-leb t (o .workers) high)
+
+  -- what the model's step leaves is read of the lists that the call leaves
+  after-turn : (v : Thread) → step o t (steps o ts (opened o)) .threads t ≡ v → AfterTurn commands l t v
+  unfolding steps
+  after-turn v e =
+      let next = ts ++ (t ∷ []) in (
+        listsOf o (steps o next (opened o)),
+        more-accepted o acc commands same long l ts r (t ∷ []) known,
+        ap (λ (s : State). s .threads t) (read-back o acc next (within-append (o .workers) ts (t ∷ []) (r .0) known) ∙ steps-append o ts (t ∷ []) (opened o)) ∙ e,
+      )
+
+  in-turns : (own : Node) (c : Command) → commandOf o (stateIn l .graph) (own .0) ≡ some c → InTurns commands l t own c
+  in-turns own c command =
+      let is = state-is o acc commands same long l ts r in
+      let thread = ap (λ (s : State). s .threads t) is in
+      let model = reads-in-one-turn o acc ts (r .0) t low own c (sym (ap (λ (s : State). commandOf o (s .graph) (own .0)) is) ∙ command) in
+      record {
+        one = λ read here. after-turn _ (model .one read (sym thread ∙ here));
+        never = λ read found here. model .never read found (sym thread ∙ here);
+        two = λ other here. let k = model .two other (sym thread ∙ here) in (k .0, after-turn _ (k .1));
+      }
+
+pub reads-in-one-turn-over-calls : ReadsInOneTurnOverCalls
+reads-in-one-turn-over-calls size workers capacity commands lent l e calls proper t low high own c command =
+    let o : Setup = record { size = size; workers = workers; capacity = capacity; commands = commandsIn commands } in
+    let is : IsOpened o commands l = accepted-opening size workers capacity commands lent l e in
+    let reached = calls-reach o (is .setup) commands refl (is .long) calls l [] (opening-reaches o l (is .lists)) proper in
+    in-turns o (is .setup) commands refl (is .long) (listsAfter calls l) (schedules calls) reached t low high own c command
