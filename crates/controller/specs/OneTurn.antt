@@ -10,7 +10,6 @@ use Rattle.command.specs.Read.{commandsIn}
 use Rattle.node_set.specs.declared.Node.{Node}
 use Rattle.model.specs.declared.Thread.{Thread}
 use Rattle.model.specs.declared.Thread.the-variants.{Holding, LookedUp, Written}
-use Rattle.model.specs.Setup.{Setup}
 use Rattle.model.specs.Step.{commandOf}
 use Rattle.state_bytes.specs.Layout.{Lists, stateIn}
 use Rattle.controller.specs.Calls.{accepted, openOn, advanceOn}
