@@ -8,30 +8,31 @@ use Rattle.command.specs.declared.Kind.the-variants.{Read}
 use Rattle.command.specs.declared.Command.{Command}
 use Rattle.command.specs.Read.{commandsIn}
 use Rattle.node_set.specs.declared.Node.{Node}
-use Rattle.model.specs.declared.Thread.{Thread}
-use Rattle.model.specs.declared.Thread.the-variants.{Holding, LookedUp, Written}
-use Rattle.model.specs.Step.{commandOf}
+use Rattle.model.specs.declared.Thread.the-variants.{Holding, LookedUp}
+use Rattle.model.specs.Setup.{Setup}
+use Rattle.model.specs.Step.{State, commandOf}
+use Rattle.model.specs.OneTurn.{ReadDone, OnlyLooked}
 use Rattle.state_bytes.specs.Layout.{Lists, stateIn}
 use Rattle.controller.specs.Calls.{accepted, openOn, advanceOn}
 use Rattle.controller.specs.Demand3.{Call, listsAfter, Proper}
 
--- a call with one turn of worker t is accepted, and leaves it so
-abbrev pub AfterTurn : List ℕ → Lists → ℕ → Thread → Type 0
-AfterTurn commands l t thread = (m : Lists) × (advanceOn l commands (t ∷ []) ≡ accepted m) × (stateIn m .threads t ≡ thread)
+-- a call with one turn of worker t is accepted, and leaves lists of which this holds
+abbrev pub AfterTurn : List ℕ → Lists → ℕ → (State → Type 0) → Type 0
+AfterTurn commands l t P = (m : Lists) × (advanceOn l commands (t ∷ []) ≡ accepted m) × P (stateIn m)
 
 -- worker t, whose node has command c in the lists
-pub record InTurns (commands : List ℕ) (l : Lists) (t : ℕ) (own : Node) (c : Command) : Type 0 where
-  -- holding a read: one turn leaves it written
-  pub one : c .kind ≡ Read → stateIn l .threads t ≡ Holding own → AfterTurn commands l t (Written own)
+pub record InTurns (o : Setup) (commands : List ℕ) (l : Lists) (t : ℕ) (own : Node) (c : Command) : Type 0 where
+  -- holding a read: one turn leaves it written, and the command answered as the serial run answers it
+  pub one : c .kind ≡ Read → stateIn l .threads t ≡ Holding own → AfterTurn commands l t (ReadDone o t own (stateIn l))
   -- and it is never looked-up with one
   pub never : c .kind ≡ Read → (found : ℕ) → stateIn l .threads t ≡ LookedUp own found → ⊥
-  -- holding another command: one turn leaves it looked-up
-  pub two : (c .kind ≡ Read → ⊥) → stateIn l .threads t ≡ Holding own → (found : ℕ) × AfterTurn commands l t (LookedUp own found)
+  -- holding another command: one turn leaves it looked-up, and store and answers as they were
+  pub two : (c .kind ≡ Read → ⊥) → stateIn l .threads t ≡ Holding own → AfterTurn commands l t (OnlyLooked t own (stateIn l))
 
 -- every accepted opening, and every proper list of calls from what it left
 abbrev pub ReadsInOneTurnOverCalls : Type 0
 ReadsInOneTurnOverCalls =
     (size workers capacity : ℕ) (commands : List ℕ) (lent l : Lists) → openOn size workers capacity commands lent ≡ accepted l →
     (calls : List Call) → Proper commands l calls → (t : ℕ) → 1 ≤ t → t ≤ workers → (own : Node) (c : Command) →
-    commandOf (record { size = size; workers = workers; capacity = capacity; commands = commandsIn commands }) (stateIn (listsAfter calls l) .graph) (own .0) ≡ some c →
-    InTurns commands (listsAfter calls l) t own c
+    let o : Setup = record { size = size; workers = workers; capacity = capacity; commands = commandsIn commands } in
+    commandOf o (stateIn (listsAfter calls l) .graph) (own .0) ≡ some c → InTurns o commands (listsAfter calls l) t own c

@@ -1,5 +1,6 @@
 -- The marked cases (a) to (l) of document 01, as one table: the definitions of identifiers, dependence, serial run and steps on the values
--- that the document names, the program's whole text on its example, and the turns that the example needs. `proofs/Cases.antt` proves it. Assumes nothing.
+-- that the document names, the program's whole text on its example, and the turns that the example needs. `proofs/Cases.antt` proves it.
+-- Assumes nothing.
 use Prim.Native.Nat.{ℕ, _+_}
 use mathlib.Core.Path.{_≡_}
 use mathlib.Core.Bool.{true, false}

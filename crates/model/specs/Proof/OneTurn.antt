@@ -21,15 +21,15 @@ use Rattle.model.specs.Graph.{Graph, setNext, setSeq, setExecuting, setL
 use Rattle.model.specs.Service.{foundFor, isRead, inOneStep}
 use Rattle.model.specs.Step.{State, node, opened, moveTo, serveTo, commandOf, stepOn, load, loaderIdle, link, addDependence, loaderWalk, loaderStep}
 use Rattle.model.specs.Step.{enter, ready, examine, leave, searching, holding, lookedUp, bypass, walking, return, clearing, workerStep, step, steps}
-use Rattle.model.specs.Statement.{Accepted, allWithin}
+use Rattle.model.specs.Statement.{Accepted, allWithin, serialAnswer}
 use Rattle.model.specs.OneTurn.{ReadsInOneTurn}
 use Rattle.model.specs.Proof.Tests.{true-false, none-some, neither}
 use Rattle.model.specs.Proof.Upd.{upd-same, upd-other, upd-cases}
 use Rattle.model.specs.Proof.Chain.Invariant.{Ghost, Inv, looked, clears}
-use Rattle.model.specs.Proof.Chain.Facts.{looked-own}
+use Rattle.model.specs.Proof.Chain.Facts.{looked-own, command-place}
 use Rattle.model.specs.Proof.Chain.Load.{f-out}
-use Rattle.model.specs.Proof.Chain.Ghost.{ghostStep}
-use Rattle.model.specs.Proof.Chain.Keep.{keeps}
+use Rattle.model.specs.Proof.Chain.Ghost.{ghostStep, workerGhost}
+use Rattle.model.specs.Proof.Chain.Keep.{keeps, steps-keep}
 use Rattle.model.specs.Proof.Chain.Opening.{openedGhost, opened-meets}
 use Rattle.model.specs.Proof.Formed.Store.{either}
 
@@ -138,18 +138,39 @@ other-is Update n = refl
 
 -- a holding worker's step, by that test
 module _ (o : Setup) (s : State) (t : ℕ) (low : 1 ≤ t) (own : Node) (here : s .threads t ≡ Holding own) where
-  holds : (b : Bool) → inOneStep (commandOf o (s .graph) (own .0)) ≡ b
-      → step o t s .threads t ≡ cond b (Written own) (LookedUp own (foundFor (commandOf o (s .graph) (own .0)) (s .service .store)))
+  abbrev tried : Bool
+  tried = inOneStep (commandOf o (s .graph) (own .0))
+
+  abbrev found : ℕ
+  found = foundFor (commandOf o (s .graph) (own .0)) (s .service .store)
+
+  writes-now : tried ≡ true → step o t s .threads t ≡ Written own
   unfolding step workerStep holding lookedUp serveTo
-  holds true e = rw (ne-eqb t 0 (λ (z : t ≡ 0). omega arith), here, e) (upd-same (s .threads) t (Written own))
-  holds false e = rw (ne-eqb t 0 (λ (z : t ≡ 0). omega arith), here, e) (upd-same (s .threads) t (LookedUp own (foundFor (commandOf o (s .graph) (own .0)) (s .service .store))))
+  writes-now e = rw (ne-eqb t 0 (λ (z : t ≡ 0). omega arith), here, e) (upd-same (s .threads) t (Written own))
+
+  looks-first : tried ≡ false → (step o t s .threads t ≡ LookedUp own found) × (step o t s .service ≡ s .service)
+  unfolding step workerStep holding serveTo
+  looks-first e = rw (ne-eqb t 0 (λ (z : t ≡ 0). omega arith), here, e) (upd-same (s .threads) t (LookedUp own found), refl)
+
+  -- the command counts as answered from that step on, so its answer is the serial run's
+  answered-now : Accepted o → t ≤ o .workers → (g : Ghost) → Inv o s g → 1 ≤ s .graph .seq (own .0) → tried ≡ true
+      → step o t s .service .answers (s .graph .seq (own .0)) ≡ serialAnswer o (s .graph .seq (own .0))
+  unfolding ghostStep workerGhost
+  answered-now acc high g i used e =
+      let b = i .order .below (own .0) in
+      let l = i .order .loaded-count in
+      let w : ghostStep o t s g .written (s .graph .seq (own .0)) ≡ true = rw (ne-eqb t 0 (λ (z : t ≡ 0). omega arith), here, e) (upd-same (g .written) (s .graph .seq (own .0)) true) in
+      keeps o acc t high s g i .service .answered (s .graph .seq (own .0)) used (omega arith) ∙ ap (λ (d : Bool). cond d (serialAnswer o (s .graph .seq (own .0))) 0) w
 
 pub reads-in-one-turn : ReadsInOneTurn
 unfolding inOneStep commandOf
-reads-in-one-turn o acc ts w t low own c command =
+reads-in-one-turn o acc ts w t low high own c command =
     let s = steps o ts (opened o) in
+    let i = steps-keep o acc ts w (opened o) (openedGhost o) (opened-meets o acc) in
+    let used = command-place (o .commands) (s .graph .seq (own .0)) c command in
+    let is : c .kind ≡ Read → inOneStep (commandOf o (s .graph) (own .0)) ≡ true = λ read. ap inOneStep command ∙ read-is (c .kind) read in
     record {
-      one = λ read here. holds o s t low own here true (ap inOneStep command ∙ read-is (c .kind) read);
-      never = λ read found here. true-false _ (ap inOneStep command ∙ read-is (c .kind) read) (reached-two o acc ts w t (own .0) (ap looked here));
-      two = λ other here. (foundFor (commandOf o (s .graph) (own .0)) (s .service .store), holds o s t low own here false (ap inOneStep command ∙ other-is (c .kind) other));
+      one = λ read here. (writes-now o s t low own here (is read), answered-now o s t low own here acc high _ i used (is read));
+      never = λ read found here. true-false _ (is read) (reached-two o acc ts w t (own .0) (ap looked here));
+      two = λ other here. let k = looks-first o s t low own here (ap inOneStep command ∙ other-is (c .kind) other) in ((found o s t low own here, k .0), k .1);
     }
