@@ -18,6 +18,12 @@ isUpdate Delete = false
 isUpdate Read = false
 isUpdate Update = true
 
+unfoldable pub isRead : Kind → Bool
+isRead Insert = false
+isRead Delete = false
+isRead Read = true
+isRead Update = false
+
 -- "insert or delete with every command; two updates of one key; an update and a read of one key. All other pairs are independent."
 -- Of two commands that are no insert or delete, the pairs named are those of one key with an update among them.
 unfoldable pub areDependent : Command → Command → Bool

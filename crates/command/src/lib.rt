@@ -5,7 +5,7 @@ ghost use mathlib.Core.Bool.{_&&_};
 ghost use lib.Dec.{leb};
 ghost use Rattle.s10.specs.Outcome.{accepted};
 ghost use Rattle.command.specs.Read.{refusalFor, commandOutcome, knownKind, kindOf, chuteFits, withChute, readCommand, listOutcome, firstRefusal, readings, kindNumber};
-ghost use Rattle.command.specs.Dependent.{isInsertOrDelete, isUpdate, areDependent};
+ghost use Rattle.command.specs.Dependent.{isInsertOrDelete, isUpdate, isRead, areDependent};
 use s10::Identifier;
 
 // A command's place in the list, from 1 ("delivery place" of document 01); 0 is none.
@@ -140,6 +140,15 @@ impl Kind {
             Kind::Delete => 2,
             Kind::Read => 3,
             Kind::Update => 4,
+        }
+    }
+
+    pub fn is_read(self) -> bool
+        ensures { λ r. ⌜ r ≡ isRead self ⌝ }
+    {
+        match self {
+            Kind::Read => true,
+            Kind::Insert | Kind::Delete | Kind::Update => false,
         }
     }
 

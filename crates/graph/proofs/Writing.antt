@@ -9,9 +9,10 @@ use lib.ListN.{length, set}
 use Rattle.command.specs.declared.Kind.{Kind}
 use Rattle.command.specs.declared.Kind.the-variants.{Insert, Delete, Read, Update}
 use Rattle.command.specs.declared.Command.{Command}
+use Rattle.command.specs.Dependent.{isRead}
 use Rattle.model.specs.Upd.{upd}
 use Rattle.model.specs.Store.{Store}
-use Rattle.model.specs.Service.{isRead, inOneStep, write, writeKind, writeFor}
+use Rattle.model.specs.Service.{inOneStep, write, writeKind, writeFor}
 use Rattle.model.specs.Proof.Tests.{true-false}
 use Rattle.store.specs.Lists.{storeOf}
 use Rattle.graph.specs.Memory.{answersOf, Writes}

@@ -35,12 +35,7 @@ pub fn in_one_step(item: Item) -> bool
         Item::Nothing => false,
         Item::Of(command) => {
             let kind = command.kind;
-            match kind {
-                Kind::Insert => false,
-                Kind::Delete => false,
-                Kind::Read => true,
-                Kind::Update => false,
-            }
+            kind.is_read()
         }
     }
 }

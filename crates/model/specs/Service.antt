@@ -1,13 +1,14 @@
 -- What commands read and write: the store and the answers, and what a lookup finds and a write changes. Nothing here knows of a chain or
 -- of threads. Assumes nothing.
 use Prim.Native.Nat.{ℕ}
-use mathlib.Core.Bool.{Bool, true, false, cond}
+use mathlib.Core.Bool.{Bool, false, cond}
 use mathlib.Core.List.{[]}
 use mathlib.Core.Option.{Option, none, some}
 use lib.Dec.{eqb, leb}
 use Rattle.command.specs.declared.Kind.{Kind}
 use Rattle.command.specs.declared.Kind.the-variants.{Insert, Delete, Read, Update}
 use Rattle.command.specs.declared.Command.{Command}
+use Rattle.command.specs.Dependent.{isRead}
 use Rattle.model.specs.Upd.{upd}
 use Rattle.model.specs.Setup.{Setup}
 use Rattle.model.specs.Store.{Store, layOut, lookUp, insert, remove, replace}
@@ -29,12 +30,6 @@ foundFor (some c) st = lookUp (c .key) st
 
 -- whether a command is written in the step of its lookup: "A worker's look and writing become one turn for kind 3; other kinds keep two."
 -- (02, A.8)
-unfoldable pub isRead : Kind → Bool
-isRead Insert = false
-isRead Delete = false
-isRead Read = true
-isRead Update = false
-
 unfoldable pub inOneStep : Option Command → Bool
 unfolding isRead
 inOneStep none = false
