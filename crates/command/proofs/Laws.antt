@@ -1,7 +1,7 @@
 -- The laws of `specs/Laws.antt`. Assumes nothing.
 use Prim.Native.Nat.{ℕ, zero, suc, _+_, _/_, _≤_, _<_}
 use mathlib.Core.Path.{_≡_, refl, sym, ap, subst, _∙_}
-use mathlib.Core.Bool.{Bool, true, false, cond, _&&_, or-comm, and-eq-true-iff}
+use mathlib.Core.Bool.{Bool, true, false, cond, _&&_, and-comm, and-eq-true-iff}
 use mathlib.Core.List.{List, [], _∷_, map}
 use mathlib.Core.Option.{Option, none, some}
 use native.Mathlib.Omega.{arith}
@@ -17,7 +17,7 @@ use Rattle.command.specs.declared.Kind.{Kind}
 use Rattle.command.specs.declared.Kind.the-variants.{Insert, Delete, Read, Update}
 use Rattle.command.specs.declared.Command.{Command}
 use Rattle.command.specs.Read.{CommandOutcome, accepted, refused, kindOf, chuteFits, chuteOf, withKind, withChute, readCommand, parts, partsOf, readings, allAccepted, listRefused, firstRefusal, commandFrom, commandsIn}
-use Rattle.command.specs.Dependent.{isInsertOrDelete, isUpdate, areDependent}
+use Rattle.command.specs.Dependent.{isInsertOrDelete, isRead, areDependent}
 use Rattle.command.specs.Laws.{DependenceIsSymmetric, KindOfItsNumber, AcceptedChuteFits, AcceptedChuteIsAtMostLast, AcceptedKeyIsAtMostLargest, CharacterIsTheIdentifiers, AllAccepted, NoRefusalIsAllAccepted, RefusedBeginsInside}
 
 -- equality goes both ways
@@ -32,7 +32,7 @@ eqb-comm m n = cases (eqb m n) refl
 pub dependence-is-symmetric : DependenceIsSymmetric
 unfolding areDependent
 dependence-is-symmetric a b =
-    rw (or-comm (isInsertOrDelete (a .kind)) (isInsertOrDelete (b .kind)), eqb-comm (a .key) (b .key), or-comm (isUpdate (a .kind)) (isUpdate (b .kind)))
+    rw (and-comm (isInsertOrDelete (a .kind)) (isInsertOrDelete (b .kind)), eqb-comm (a .key) (b .key), and-comm (isRead (a .kind)) (isRead (b .kind)))
 
 -- the tests of a number find each kind at its own
 pub kind-of-its-number : KindOfItsNumber

@@ -1,22 +1,15 @@
--- Which commands are dependent: document 01, "Command list and store". Assumes nothing.
-use mathlib.Core.Bool.{Bool, true, false, _&&_, _||_}
+-- Which commands are dependent: documents 01, "Command list and store", and 02, A.5. Assumes nothing.
+use mathlib.Core.Bool.{Bool, true, false, not, _&&_, _||_}
 use lib.Dec.{eqb}
 use Rattle.command.specs.declared.Kind.{Kind}
 use Rattle.command.specs.declared.Kind.the-variants.{Insert, Delete, Read, Update}
 use Rattle.command.specs.declared.Command.{Command}
 
--- "insert or delete with every command"
 unfoldable pub isInsertOrDelete : Kind → Bool
 isInsertOrDelete Insert = true
 isInsertOrDelete Delete = true
 isInsertOrDelete Read = false
 isInsertOrDelete Update = false
-
-unfoldable pub isUpdate : Kind → Bool
-isUpdate Insert = false
-isUpdate Delete = false
-isUpdate Read = false
-isUpdate Update = true
 
 unfoldable pub isRead : Kind → Bool
 isRead Insert = false
@@ -24,9 +17,10 @@ isRead Delete = false
 isRead Read = true
 isRead Update = false
 
--- "insert or delete with every command; two updates of one key; an update and a read of one key. All other pairs are independent."
--- Of two commands that are no insert or delete, the pairs named are those of one key with an update among them.
+-- "inserts and deletes depend on one another [..] and on any command for their own key; reads and updates of other keys are independent of
+-- them" (02, A.5); "two updates of one key; an update and a read of one key. All other pairs are independent."
+-- Of two commands of one key, these are all pairs but two reads.
 unfoldable pub areDependent : Command → Command → Bool
-unfolding isInsertOrDelete isUpdate
+unfolding isInsertOrDelete isRead
 areDependent a b =
-    isInsertOrDelete (a .kind) || isInsertOrDelete (b .kind) || (eqb (a .key) (b .key) && (isUpdate (a .kind) || isUpdate (b .kind)))
+    (isInsertOrDelete (a .kind) && isInsertOrDelete (b .kind)) || (eqb (a .key) (b .key) && not (isRead (a .kind) && isRead (b .kind)))

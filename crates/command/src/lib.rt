@@ -5,7 +5,7 @@ ghost use mathlib.Core.Bool.{_&&_};
 ghost use lib.Dec.{leb};
 ghost use Rattle.s10.specs.Outcome.{accepted};
 ghost use Rattle.command.specs.Read.{refusalFor, commandOutcome, knownKind, kindOf, chuteFits, withChute, readCommand, listOutcome, firstRefusal, readings, kindNumber};
-ghost use Rattle.command.specs.Dependent.{isInsertOrDelete, isUpdate, isRead, areDependent};
+ghost use Rattle.command.specs.Dependent.{isInsertOrDelete, isRead, areDependent};
 use s10::Identifier;
 
 // A command's place in the list, from 1 ("delivery place" of document 01); 0 is none.
@@ -107,13 +107,13 @@ impl Command {
     {
         let kind = self.kind;
         let other_kind = other.kind;
-        if kind.is_insert_or_delete() || other_kind.is_insert_or_delete() {
+        if kind.is_insert_or_delete() && other_kind.is_insert_or_delete() {
             return true;
         }
         if self.key != other.key {
             return false;
         }
-        kind.is_update() || other_kind.is_update()
+        !(kind.is_read() && other_kind.is_read())
     }
 }
 
@@ -158,15 +158,6 @@ impl Kind {
         match self {
             Kind::Insert | Kind::Delete => true,
             Kind::Read | Kind::Update => false,
-        }
-    }
-
-    fn is_update(self) -> bool
-        ensures { λ r. ⌜ r ≡ isUpdate self ⌝ }
-    {
-        match self {
-            Kind::Update => true,
-            Kind::Insert | Kind::Delete | Kind::Read => false,
         }
     }
 

@@ -67,8 +67,8 @@ pub record Marked : Type 0 where
   pub f : areDependent (command Read 1 0) (command Read 1 0) ≡ false
   -- "an update and a read of one key are dependent"
   pub g : areDependent (command Update 1 7) (command Read 1 0) ≡ true
-  -- "so are an insert and a read of another key"
-  pub h : areDependent (command Insert 1 7) (command Read 2 0) ≡ true
+  -- "an insert and a read of another key": "becomes independent" (02, A.5)
+  pub h : areDependent (command Insert 1 7) (command Read 2 0) ≡ false
   -- "insert of a present item into a full store": "becomes 1004, with the chute changed even in a full store" (02, A.7), in the serial run and as
   -- the steps write it
   pub i : (serve 1 (command Insert 1 7) full ≡ served 1004 corrected) × (writtenInFull (command Insert 1 7) ≡ write 1004 (layOut 1 corrected))

@@ -1,19 +1,22 @@
--- The commuting law of part T for the service and the dependence of document 01: independent commands are reads and updates, and of
--- different keys if an update is among them. It holds for every list of entries. Assumes nothing.
+-- The commuting law of part T for the service and the dependence of documents 01 and 02: of two independent commands both are reads, or
+-- their keys differ and one of them is no insert and no delete. It holds for every list of entries, ascending or not, and every capacity.
+-- Assumes nothing.
 use Prim.Native.Nat.{ℕ}
 use mathlib.Core.Path.{_≡_, refl, sym, _∙_, ap}
 use mathlib.Core.Logic.{_⊎_, inl, inr, ⊎-elim}
-use mathlib.Core.Bool.{Bool, true, false, cond, _&&_, _||_, true≢false, or-true, and-true}
+use mathlib.Core.Bool.{Bool, true, false, cond, not, _&&_, true≢false, false≢true, and-eq-true-iff}
 use mathlib.Core.List.{List, [], _∷_}
-use lib.Dec.{eqb}
-use borrow.Author.Tests.{eqb-false, ne-eqb}
+use lib.ListN.{length}
+use lib.Dec.{eqb, leb, ltb}
+use borrow.Author.Tests.{eqb-true, ne-eqb}
 use Rattle.command.specs.declared.Kind.{Kind}
 use Rattle.command.specs.declared.Kind.the-variants.{Insert, Delete, Read, Update}
 use Rattle.command.specs.declared.Command.{Command}
-use Rattle.command.specs.Dependent.{areDependent, isInsertOrDelete, isUpdate}
+use Rattle.command.specs.Dependent.{areDependent, isInsertOrDelete, isRead}
 use Rattle.command.proofs.Laws.{dependence-is-symmetric}
-use Rattle.model.specs.Serial.{Entry, present, chuteAt, setChute, served, serveKind, serve}
-use Rattle.model.specs.Proof.Tests.{neither, eqb-cases}
+use Rattle.model.specs.Serial.{Entry, present, chuteAt, putIn, takeOut, setChute, Served, served, serveKind, serve}
+use Rattle.model.specs.Proof.Tests.{true-false, neither, eqb-cases}
+use Rattle.model.specs.Proof.Serial.{cond-cases, length-setChute, serve-keeps}
 use Rattle.model.specs.Proof.Trace.{Commuting}
 
 -- the service in the terms of part T: what a command does to the entries, and what it answers
@@ -25,36 +28,127 @@ replyOf capacity c es = serve capacity c es .answer
 
 -- ---- which commands are independent
 
--- of two independent commands the first is no insert and no delete
-not-insert-or-delete : (a b : Command) → areDependent a b ≡ false → isInsertOrDelete (a .kind) ≡ false
+-- one of two tests fails
+not-both : (s t : Bool) → s && t ≡ false → (s ≡ false) ⊎ (t ≡ false)
+not-both true t e = inr e
+not-both false t e = inl refl
+
+-- of two independent commands one is no insert and no delete
+one-is-neither : (a b : Command) → areDependent a b ≡ false → (isInsertOrDelete (a .kind) ≡ false) ⊎ (isInsertOrDelete (b .kind) ≡ false)
 unfolding areDependent
-not-insert-or-delete a b e = neither _ _ (neither _ _ e .0) .0
+one-is-neither a b e = not-both (isInsertOrDelete (a .kind)) (isInsertOrDelete (b .kind)) (neither _ _ e .0)
 
--- and the second has another key if it is an update
-other-key : (a b : Command) → areDependent a b ≡ false → isUpdate (b .kind) ≡ true → a .key ≡ b .key → ⊥
+-- and their keys differ, or both are reads
+other-key : (a b : Command) → areDependent a b ≡ false → (a .key ≡ b .key → ⊥) ⊎ ((isRead (a .kind) ≡ true) × (isRead (b .kind) ≡ true))
 unfolding areDependent
-other-key a b e u =
-    let kinds = isInsertOrDelete (a .kind) || isInsertOrDelete (b .kind) in
-    let f = neither kinds (eqb (a .key) (b .key) && (isUpdate (a .kind) || isUpdate (b .kind))) e .1 in
-    eqb-false (a .key) (b .key) (rw (u, or-true, and-true) at f)
+other-key a b e = ⊎-elim (λ p. inr (reads (p .1))) (λ p. inl (p .0)) (eqb-cases (a .key) (b .key))
+  where
+    both : Bool
+    both = isRead (a .kind) && isRead (b .kind)
 
--- ---- an update of another key
+    not-false : (t : Bool) → not t ≡ false → t ≡ true
+    not-false true h = refl
+    not-false false h = absurd (true≢false h)
 
--- no chute's change makes a key present or absent
-present-set : (key other chute : ℕ) (es : List Entry) → present key (setChute other chute es) ≡ present key es
+    reads : eqb (a .key) (b .key) ≡ true → (isRead (a .kind) ≡ true) × (isRead (b .kind) ≡ true)
+    reads k =
+        let f = neither (isInsertOrDelete (a .kind) && isInsertOrDelete (b .kind)) (eqb (a .key) (b .key) && not both) e .1 in
+        and-eq-true-iff (isRead (a .kind)) (isRead (b .kind)) .0 (not-false both (rw k at f))
+
+-- ---- a command and another key
+
+-- what a lookup of a key finds in two lists of entries is the same
+abbrev Same : ℕ → List Entry → List Entry → Type 0
+Same key es fs = (present key es ≡ present key fs) × (chuteAt key es ≡ chuteAt key fs)
+
+-- one entry more in front of both
+same-cons : (key : ℕ) (e : Entry) (es fs : List Entry) → Same key es fs → Same key (e ∷ es) (e ∷ fs)
+unfolding present chuteAt
+same-cons key e es fs h = (rw (h .0), rw (h .1))
+
+-- an entry of another key in front of one
+same-other : (key : ℕ) (e : Entry) (es : List Entry) → (e .key ≡ key → ⊥) → Same key (e ∷ es) es
+unfolding present chuteAt
+same-other key e es h = (rw (ne-eqb (e .key) key h), rw (ne-eqb (e .key) key h))
+
+same-putIn : (key : ℕ) (new : Entry) (es : List Entry) → (new .key ≡ key → ⊥) → Same key (putIn new es) es
+unfolding putIn
+same-putIn key new [] h = same-other key new [] h
+same-putIn key new (e ∷ es) h =
+    cond-cases (λ (l : List Entry). Same key l (e ∷ es)) (ltb (new .key) (e .key))
+    (λ _. same-other key new (e ∷ es) h) (λ _. same-cons key e (putIn new es) es (same-putIn key new es h))
+
+same-takeOut : (key other : ℕ) (es : List Entry) → (other ≡ key → ⊥) → Same key (takeOut other es) es
+unfolding takeOut
+same-takeOut key other [] h = (refl, refl)
+same-takeOut key other (e ∷ es) h =
+    cond-cases (λ (l : List Entry). Same key l (e ∷ es)) (eqb (e .key) other)
+    (λ t. let s = same-other key e es (λ q. h (sym (eqb-true _ _ t) ∙ q)) in (sym (s .0), sym (s .1)))
+    (λ _. same-cons key e (takeOut other es) es (same-takeOut key other es h))
+
+same-setChute : (key other chute : ℕ) (es : List Entry) → (other ≡ key → ⊥) → Same key (setChute other chute es) es
+unfolding setChute
+same-setChute key other chute [] h = (refl, refl)
+same-setChute key other chute (e ∷ es) h =
+    cond-cases (λ (l : List Entry). Same key l (e ∷ es)) (eqb (e .key) other)
+    (λ t.
+    let s = same-other key e es (λ q. h (sym (eqb-true _ _ t) ∙ q)) in
+    let n = same-other key (record { key = other; chute = chute }) es h in
+    (n .0 ∙ sym (s .0), n .1 ∙ sym (s .1)))
+    (λ _. same-cons key e (setChute other chute es) es (same-setChute key other chute es h))
+
+-- no command changes what a lookup of another key finds
+serve-same : (capacity key : ℕ) (c : Command) (es : List Entry) → (c .key ≡ key → ⊥) → Same key (effectOf capacity c es) es
+serve-same capacity key c es h =
+    serve-keeps (λ (l : List Entry). Same key l es) capacity c es (refl, refl) (λ _ _ _. same-putIn key _ es h) (λ _. same-takeOut key (c .key) es h)
+    (λ _. same-setChute key (c .key) (c .chute) es h)
+
+-- a test passes or fails
+test : (t : Bool) → (t ≡ true) ⊎ (t ≡ false)
+test true = inl refl
+test false = inr refl
+
+-- ---- reads and updates
+
+-- a read changes nothing
+read-of : (k : Kind) (capacity key chute : ℕ) → isRead k ≡ true → (es : List Entry) → serveKind k capacity key chute es .entries ≡ es
+unfolding isRead serveKind
+read-of Insert capacity key chute r es = absurd (false≢true r)
+read-of Delete capacity key chute r es = absurd (false≢true r)
+read-of Read capacity key chute r es = cond-cases (λ (s : Served). s .entries ≡ es) (present key es) (λ _. refl) (λ _. refl)
+read-of Update capacity key chute r es = absurd (false≢true r)
+
+-- an absent key gets no chute
+set-absent : (key chute : ℕ) (es : List Entry) → present key es ≡ false → setChute key chute es ≡ es
 unfolding present setChute
-present-set key other chute [] = refl
-present-set key other chute (e ∷ es) =
-    ⊎-elim (λ p. rw (p .1, p .0)) (λ p. rw (p .1, present-set key other chute es)) (eqb-cases (e .key) other)
+set-absent key chute [] h = refl
+set-absent key chute (e ∷ es) h =
+    ⊎-elim (λ p. absurd (true≢false (rw (p .1) at h))) (λ p. simp (p .1, set-absent key chute es (rw (p .1) at h))) (eqb-cases (e .key) key)
 
--- another key keeps its chute
-chute-set-other : (key other chute : ℕ) (es : List Entry) → (key ≡ other → ⊥) → chuteAt key (setChute other chute es) ≡ chuteAt key es
-unfolding chuteAt setChute
-chute-set-other key other chute [] h = refl
-chute-set-other key other chute (e ∷ es) h =
-    ⊎-elim (λ p. rw (p .1, p .0, ne-eqb other key (λ q. h (sym q)))) (λ p. rw (p .1, chute-set-other key other chute es h)) (eqb-cases (e .key) other)
+-- an update sets a chute
+update-of : (capacity key chute : ℕ) (es : List Entry) → serveKind Update capacity key chute es .entries ≡ setChute key chute es
+unfolding serveKind
+update-of capacity key chute es =
+    cond-cases (λ (s : Served). s .entries ≡ setChute key chute es) (present key es) (λ _. refl) (λ a. sym (set-absent key chute es a))
 
--- two keys get their chutes in either order
+-- a command that is no insert and no delete is one of the two
+change-of : (k : Kind) (capacity key chute : ℕ) → isInsertOrDelete k ≡ false
+    → ((es : List Entry) → serveKind k capacity key chute es .entries ≡ es) ⊎ ((es : List Entry) → serveKind k capacity key chute es .entries ≡ setChute key chute es)
+unfolding isInsertOrDelete isRead
+change-of Insert capacity key chute f = absurd (true≢false f)
+change-of Delete capacity key chute f = absurd (true≢false f)
+change-of Read capacity key chute f = inl (read-of Read capacity key chute refl)
+change-of Update capacity key chute f = inr (update-of capacity key chute)
+
+-- and keeps the number of entries
+length-kept : (capacity : ℕ) (c : Command) (es : List Entry) → isInsertOrDelete (c .kind) ≡ false → length (effectOf capacity c es) ≡ length es
+unfolding serve
+length-kept capacity c es f =
+    ⊎-elim (λ p. ap length (p es)) (λ p. ap length (p es) ∙ length-setChute (c .key) (c .chute) es) (change-of (c .kind) capacity (c .key) (c .chute) f)
+
+-- ---- another key's chute, set before or after a command
+
+-- another chute is set
 set-set-commute : (x u y v : ℕ) (es : List Entry) → (x ≡ y → ⊥) → setChute x u (setChute y v es) ≡ setChute y v (setChute x u es)
 unfolding setChute
 set-set-commute x u y v [] h = refl
@@ -64,89 +158,111 @@ set-set-commute x u y v (e ∷ es) h =
     ⊎-elim (λ q. simp (p .1, q .1, ne-eqb y x (λ r. h (sym r)))) (λ q. simp (p .1, q .1, set-set-commute x u y v es h)) (eqb-cases (e .key) y))
     (eqb-cases (e .key) x)
 
--- an absent key gets no chute
-set-absent : (key chute : ℕ) (es : List Entry) → present key es ≡ false → setChute key chute es ≡ es
-unfolding present setChute
-set-absent key chute [] h = refl
-set-absent key chute (e ∷ es) h =
-    ⊎-elim (λ p. absurd (true≢false (rw (p .1) at h))) (λ p. simp (p .1, set-absent key chute es (rw (p .1) at h))) (eqb-cases (e .key) key)
+-- an entry is put in
+put-set-commute : (new : Entry) (y v : ℕ) (es : List Entry) → (new .key ≡ y → ⊥) → putIn new (setChute y v es) ≡ setChute y v (putIn new es)
+unfolding putIn setChute
+put-set-commute new y v [] h = rw (ne-eqb (new .key) y h)
+put-set-commute new y v (e ∷ es) h =
+    let apart = ne-eqb (new .key) y h in
+    let rest = put-set-commute new y v es h in
+    ⊎-elim
+    (λ p.
+    let same = ap (ltb (new .key)) (sym (p .0)) in
+    ⊎-elim (λ q. simp (p .1, q, same ∙ q, apart)) (λ q. simp (p .1, q, same ∙ q)) (test (ltb (new .key) (e .key))))
+    (λ p. ⊎-elim (λ q. simp (p .1, q, apart)) (λ q. simp (p .1, q, rest)) (test (ltb (new .key) (e .key))))
+    (eqb-cases (e .key) y)
+
+-- one is taken out
+take-set-commute : (x y v : ℕ) (es : List Entry) → (x ≡ y → ⊥) → takeOut x (setChute y v es) ≡ setChute y v (takeOut x es)
+unfolding takeOut setChute
+take-set-commute x y v [] h = refl
+take-set-commute x y v (e ∷ es) h =
+    ⊎-elim (λ p. simp (p .1, ne-eqb (e .key) x (λ q. h (sym q ∙ p .0)), ne-eqb y x (λ q. h (sym q))))
+    (λ p. ⊎-elim (λ q. simp (p .1, q .1)) (λ q. simp (p .1, q .1, take-set-commute x y v es h)) (eqb-cases (e .key) x))
+    (eqb-cases (e .key) y)
+
+-- any command
+set-passes : (k : Kind) (capacity key chute y v : ℕ) (es : List Entry) → (key ≡ y → ⊥)
+    → serveKind k capacity key chute (setChute y v es) .entries ≡ setChute y v (serveKind k capacity key chute es .entries)
+unfolding isRead serveKind
+set-passes Insert capacity key chute y v es h =
+    rw (same-setChute key y v es (λ q. h (sym q)) .0, length-setChute y v es) (one (present key es) (leb capacity (length es)))
+  where
+    new : Entry
+    new = record { key = key; chute = chute }
+
+    one : (p f : Bool)
+        → cond p (served 1004 (setChute key chute (setChute y v es))) (cond f (served 1003 (setChute y v es)) (served 1000 (putIn new (setChute y v es)))) .entries
+        ≡ setChute y v (cond p (served 1004 (setChute key chute es)) (cond f (served 1003 es) (served 1000 (putIn new es))) .entries)
+    one true f = set-set-commute key chute y v es h
+    one false true = refl
+    one false false = put-set-commute new y v es h
+set-passes Delete capacity key chute y v es h = rw (same-setChute key y v es (λ q. h (sym q)) .0) (one (present key es))
+  where
+    one : (p : Bool) → cond p (served 1000 (takeOut key (setChute y v es))) (served 1002 (setChute y v es)) .entries
+        ≡ setChute y v (cond p (served 1000 (takeOut key es)) (served 1002 es) .entries)
+    one true = take-set-commute key y v es h
+    one false = refl
+set-passes Read capacity key chute y v es h =
+    read-of Read capacity key chute refl (setChute y v es) ∙ ap (setChute y v) (sym (read-of Read capacity key chute refl es))
+set-passes Update capacity key chute y v es h =
+    update-of capacity key chute (setChute y v es) ∙ (set-set-commute key chute y v es h ∙ ap (setChute y v) (sym (update-of capacity key chute es)))
 
 -- ---- the law
 
--- a read changes nothing, an update sets a chute
-change-of : (k : Kind) (capacity key chute : ℕ) → isInsertOrDelete k ≡ false
-    → ((es : List Entry) → serveKind k capacity key chute es .entries ≡ es)
-    ⊎ ((isUpdate k ≡ true) × ((es : List Entry) → serveKind k capacity key chute es .entries ≡ setChute key chute es))
-unfolding isInsertOrDelete isUpdate serveKind
-change-of Insert capacity key chute f = absurd (true≢false f)
-change-of Delete capacity key chute f = absurd (true≢false f)
-change-of Read capacity key chute f = inl (λ es. one es (present key es))
-  where
-    one : (es : List Entry) (t : Bool) → cond t (served (chuteAt key es) es) (served 1002 es) .entries ≡ es
-    one es true = refl
-    one es false = refl
-change-of Update capacity key chute f = inr (refl, λ es. one es (present key es) refl)
-  where
-    one : (es : List Entry) (t : Bool) → present key es ≡ t
-        → cond t (served 1000 (setChute key chute es)) (served 1002 es) .entries ≡ setChute key chute es
-    one es true h = refl
-    one es false h = sym (set-absent key chute es h)
-
--- an independent command changes nothing, or the chute of another key
-change : (capacity : ℕ) (a b : Command) → areDependent a b ≡ false
-    → ((es : List Entry) → effectOf capacity b es ≡ es)
-    ⊎ ((a .key ≡ b .key → ⊥) × ((es : List Entry) → effectOf capacity b es ≡ setChute (b .key) (b .chute) es))
+-- a lookup finds the same before and after an independent command
+look-same : (capacity : ℕ) (a b : Command) (es : List Entry) → areDependent a b ≡ false → Same (a .key) (effectOf capacity b es) es
 unfolding serve
-change capacity a b e =
-    ⊎-elim (λ p. inl p) (λ p. inr (other-key a b e (p .0), p .1))
-    (change-of (b .kind) capacity (b .key) (b .chute) (not-insert-or-delete b a (dependence-is-symmetric b a ∙ e)))
+look-same capacity a b es e =
+    ⊎-elim (λ h. serve-same capacity (a .key) b es (λ q. h (sym q)))
+    (λ r. let k = read-of (b .kind) capacity (b .key) (b .chute) (r .1) es in (ap (present (a .key)) k, ap (chuteAt (a .key)) k))
+    (other-key a b e)
 
--- so it keeps what a lookup finds
 pub look-keeps : (capacity : ℕ) (a b : Command) (es : List Entry) → areDependent a b ≡ false
     → chuteAt (a .key) (effectOf capacity b es) ≡ chuteAt (a .key) es
-look-keeps capacity a b es e =
-    ⊎-elim (λ p. ap (chuteAt (a .key)) (p es))
-    (λ p. ap (chuteAt (a .key)) (p .1 es) ∙ chute-set-other (a .key) (b .key) (b .chute) es (p .0)) (change capacity a b e)
+look-keeps capacity a b es e = look-same capacity a b es e .1
 
-pub look-keeps-present : (capacity : ℕ) (a b : Command) (es : List Entry) → areDependent a b ≡ false
-    → present (a .key) (effectOf capacity b es) ≡ present (a .key) es
-look-keeps-present capacity a b es e =
-    ⊎-elim (λ p. ap (present (a .key)) (p es))
-    (λ p. ap (present (a .key)) (p .1 es) ∙ present-set (a .key) (b .key) (b .chute) es) (change capacity a b e)
+-- a command passes one of another key that is no insert and no delete
+passes : (capacity : ℕ) (a b : Command) (es : List Entry) → (a .key ≡ b .key → ⊥) → isInsertOrDelete (b .kind) ≡ false
+    → effectOf capacity a (effectOf capacity b es) ≡ effectOf capacity b (effectOf capacity a es)
+unfolding serve
+passes capacity a b es h f =
+    ⊎-elim (λ p. ap (effectOf capacity a) (p es) ∙ sym (p _))
+    (λ p. ap (effectOf capacity a) (p es) ∙ (set-passes (a .kind) capacity (a .key) (a .chute) (b .key) (b .chute) es h ∙ sym (p _)))
+    (change-of (b .kind) capacity (b .key) (b .chute) f)
 
--- and the two commands may change places
+-- so independent commands may change places
 pub effects-commute : (capacity : ℕ) (a b : Command) (es : List Entry) → areDependent a b ≡ false
     → effectOf capacity a (effectOf capacity b es) ≡ effectOf capacity b (effectOf capacity a es)
+unfolding serve
 effects-commute capacity a b es e =
-    ⊎-elim (λ p. ap (effectOf capacity a) (p es) ∙ sym (p _))
-    (λ p.
-    ⊎-elim (λ q. q _ ∙ ap (effectOf capacity b) (sym (q es)))
-    (λ q. simp (p .1, q .1, set-set-commute (a .key) (a .chute) (b .key) (b .chute) es (p .0)))
-    (change capacity b a (dependence-is-symmetric b a ∙ e)))
-    (change capacity a b e)
+    ⊎-elim
+    (λ h. ⊎-elim (λ f. sym (passes capacity b a es (λ q. h (sym q)) f)) (λ f. passes capacity a b es h f) (one-is-neither a b e))
+    (λ r. let k = read-of (b .kind) capacity (b .key) (b .chute) (r .1) in ap (effectOf capacity a) (k es) ∙ sym (k _))
+    (other-key a b e)
 
--- an answer that a test picks does not hang on the entries
-answer-cond : (t : Bool) (x y : ℕ) (es fs es′ fs′ : List Entry)
-    → cond t (served x es) (served y fs) .answer ≡ cond t (served x es′) (served y fs′) .answer
-answer-cond true x y es fs es′ fs′ = refl
-answer-cond false x y es fs es′ fs′ = refl
+-- what a test picks has one answer where both have
+answer-cond : (t : Bool) (x y x′ y′ : Served) → x .answer ≡ x′ .answer → y .answer ≡ y′ .answer → cond t x y .answer ≡ cond t x′ y′ .answer
+answer-cond true x y x′ y′ p q = p
+answer-cond false x y x′ y′ p q = q
 
--- the answer of a read and of an update is made of what a lookup finds
-answer-of : (k : Kind) (capacity key chute : ℕ) (es fs : List Entry) → isInsertOrDelete k ≡ false
-    → present key es ≡ present key fs → chuteAt key es ≡ chuteAt key fs
+-- an answer is made of what a lookup finds and, for an insert, of the number of entries
+answer-of : (k : Kind) (capacity key chute : ℕ) (es fs : List Entry) → Same key es fs → (isInsertOrDelete k ≡ true → length es ≡ length fs)
     → serveKind k capacity key chute es .answer ≡ serveKind k capacity key chute fs .answer
 unfolding isInsertOrDelete serveKind
-answer-of Insert capacity key chute es fs f p q = absurd (true≢false f)
-answer-of Delete capacity key chute es fs f p q = absurd (true≢false f)
-answer-of Read capacity key chute es fs f p q = rw (p, q) (answer-cond (present key fs) _ _ _ _ _ _)
-answer-of Update capacity key chute es fs f p q = rw p (answer-cond (present key fs) _ _ _ _ _ _)
+answer-of Insert capacity key chute es fs s n =
+    rw (s .0, n refl) (answer-cond (present key fs) _ _ _ _ refl (answer-cond (leb capacity (length fs)) _ _ _ _ refl refl))
+answer-of Delete capacity key chute es fs s n = rw (s .0) (answer-cond (present key fs) _ _ _ _ refl refl)
+answer-of Read capacity key chute es fs s n = rw (s .0) (answer-cond (present key fs) _ _ _ _ (s .1) refl)
+answer-of Update capacity key chute es fs s n = rw (s .0) (answer-cond (present key fs) _ _ _ _ refl refl)
 
+-- and independent commands leave one another's answers
 pub replies-kept : (capacity : ℕ) (a b : Command) (es : List Entry) → areDependent a b ≡ false
     → replyOf capacity a (effectOf capacity b es) ≡ replyOf capacity a es
 unfolding serve
 replies-kept capacity a b es e =
-    answer-of (a .kind) capacity (a .key) (a .chute) _ es (not-insert-or-delete a b e) (look-keeps-present capacity a b es e)
-    (look-keeps capacity a b es e)
+    answer-of (a .kind) capacity (a .key) (a .chute) _ es (look-same capacity a b es e)
+    (λ i. ⊎-elim (λ f. absurd (true-false _ i f)) (λ f. length-kept capacity b es f) (one-is-neither a b e))
 
 pub service-commutes : (capacity : ℕ) → Commuting (effectOf capacity) (replyOf capacity) areDependent
 service-commutes capacity = record {
