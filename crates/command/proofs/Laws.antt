@@ -1,7 +1,7 @@
 -- The laws of `specs/Laws.antt`. Assumes nothing.
 use Prim.Native.Nat.{ℕ, zero, suc, _+_, _/_, _≤_, _<_}
 use mathlib.Core.Path.{_≡_, refl, sym, ap, subst, _∙_}
-use mathlib.Core.Bool.{Bool, true, false, cond, _&&_, and-comm, and-eq-true-iff}
+use mathlib.Core.Bool.{Bool, true, false, cond, _&&_, or-true, and-false, and-comm, and-eq-true-iff, false≢true}
 use mathlib.Core.List.{List, [], _∷_, map}
 use mathlib.Core.Option.{Option, none, some}
 use native.Mathlib.Omega.{arith}
@@ -18,7 +18,7 @@ use Rattle.command.specs.declared.Kind.the-variants.{Insert, Delete, Rea
 use Rattle.command.specs.declared.Command.{Command}
 use Rattle.command.specs.Read.{CommandOutcome, accepted, refused, kindOf, chuteFits, chuteOf, withKind, withChute, readCommand, parts, partsOf, readings, allAccepted, listRefused, firstRefusal, commandFrom, commandsIn}
 use Rattle.command.specs.Dependent.{isInsertOrDelete, isRead, areDependent}
-use Rattle.command.specs.Laws.{DependenceIsSymmetric, KindOfItsNumber, AcceptedChuteFits, AcceptedChuteIsAtMostLast, AcceptedKeyIsAtMostLargest, CharacterIsTheIdentifiers, AllAccepted, NoRefusalIsAllAccepted, RefusedBeginsInside}
+use Rattle.command.specs.Laws.{DependenceIsSymmetric, DependentPairs, KindOfItsNumber, AcceptedChuteFits, AcceptedChuteIsAtMostLast, AcceptedKeyIsAtMostLargest, CharacterIsTheIdentifiers, AllAccepted, NoRefusalIsAllAccepted, RefusedBeginsInside}
 
 -- equality goes both ways
 eqb-comm : (m n : ℕ) → eqb m n ≡ eqb n m
@@ -33,6 +33,25 @@ pub dependence-is-symmetric : DependenceIsSymmetric
 unfolding areDependent
 dependence-is-symmetric a b =
     rw (and-comm (isInsertOrDelete (a .kind)) (isInsertOrDelete (b .kind)), eqb-comm (a .key) (b .key), and-comm (isRead (a .kind)) (isRead (b .kind)))
+
+-- an insert or a delete is no read
+pub no-read : (kind : Kind) → isInsertOrDelete kind ≡ true → isRead kind ≡ false
+unfolding isInsertOrDelete isRead
+no-read Insert w = refl
+no-read Delete w = refl
+no-read Read w = absurd (false≢true w)
+no-read Update w = refl
+
+-- each sentence, by the kinds and the keys
+pub dependent-pairs : DependentPairs
+unfolding areDependent isInsertOrDelete isRead
+dependent-pairs = record {
+  writers = λ a b w v. simp (w, v);
+  ownKey = λ a b w k. simp (eq-eqb _ _ k, no-read (a .kind) w, or-true);
+  otherKeys = λ a b v k. simp (v, and-false, ne-eqb _ _ k);
+  updates = λ a b u v k. simp (u, eq-eqb _ _ k);
+  reads = λ a b r s. simp (r, s, and-false);
+}
 
 -- the tests of a number find each kind at its own
 pub kind-of-its-number : KindOfItsNumber

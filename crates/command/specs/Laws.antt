@@ -1,7 +1,8 @@
 -- What holds of every command and list that is read. Statements only: `proofs/Laws.antt` proves them. Assumes nothing.
 use Prim.Native.Nat.{ℕ, _+_, _*_, _≤_, _<_}
 use mathlib.Core.Path.{_≡_}
-use mathlib.Core.Bool.{true}
+use mathlib.Core.Bool.{true, false}
+use mathlib.Core.Logic.{_⊎_}
 use mathlib.Core.List.{List, [], _∷_}
 use mathlib.Core.Option.{some}
 use lib.ListN.{length, take, drop}
@@ -10,13 +11,27 @@ use Rattle.s10.specs.Text.{largestKey}
 use Rattle.s10.specs.Outcome.{readText}
 use Rattle.s10.specs.Outcome as Identifier
 use Rattle.command.specs.declared.Kind.{Kind}
+use Rattle.command.specs.declared.Kind.the-variants.{Read, Update}
 use Rattle.command.specs.declared.Command.{Command}
 use Rattle.command.specs.Read.{CommandOutcome, accepted, refused, kindOf, kindNumber, chuteFits, readCommand, readings, allAccepted, listRefused, firstRefusal}
-use Rattle.command.specs.Dependent.{areDependent}
+use Rattle.command.specs.Dependent.{isInsertOrDelete, areDependent}
 
 -- Of two commands each depends on the other, or neither does.
 abbrev pub DependenceIsSymmetric : Type 0
 DependenceIsSymmetric = (a b : Command) → areDependent a b ≡ areDependent b a
+
+-- The pairs that the documents name, one sentence after another; with the symmetry these are all pairs.
+pub record DependentPairs : Type 0 where
+  -- "inserts and deletes depend on one another"
+  pub writers : (a b : Command) → isInsertOrDelete (a .kind) ≡ true → isInsertOrDelete (b .kind) ≡ true → areDependent a b ≡ true
+  -- "and on any command for their own key"
+  pub ownKey : (a b : Command) → isInsertOrDelete (a .kind) ≡ true → a .key ≡ b .key → areDependent a b ≡ true
+  -- "reads and updates of other keys are independent of them", and of one another
+  pub otherKeys : (a b : Command) → isInsertOrDelete (b .kind) ≡ false → (a .key ≡ b .key → ⊥) → areDependent a b ≡ false
+  -- "two updates of one key; an update and a read of one key"
+  pub updates : (a b : Command) → a .kind ≡ Update → (b .kind ≡ Update) ⊎ (b .kind ≡ Read) → a .key ≡ b .key → areDependent a b ≡ true
+  -- "All other pairs are independent": two reads of one key
+  pub reads : (a b : Command) → a .kind ≡ Read → b .kind ≡ Read → areDependent a b ≡ false
 
 -- A kind is that of its number.
 abbrev pub KindOfItsNumber : Type 0

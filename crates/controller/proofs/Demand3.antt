@@ -153,12 +153,18 @@ module _ (o : Setup) (acc : Accepted o) (commands : List ℕ) (same : o .command
         }
 
 -- the opening's lists are those of the empty schedule, and every proper list of calls goes on from there
+pub opening-and-calls-reach : (size workers capacity : ℕ) (commands : List ℕ) (lent l : Lists) → openOn size workers capacity commands lent ≡ accepted l
+    → (calls : List Call) → Proper commands l calls
+    → let o : Setup = record { size = size; workers = workers; capacity = capacity; commands = commandsIn commands } in
+    IsOpened o commands l × Reach o (listsAfter calls l) (schedules calls)
+opening-and-calls-reach size workers capacity commands lent l e calls proper =
+    let is = accepted-opening size workers capacity commands lent l e in
+    (is, calls-reach _ (is .setup) commands refl (is .long) calls l [] (opening-reaches _ l (is .lists)) proper)
+
 pub demand-3-over-calls : Demand3OverCalls
 demand-3-over-calls size workers capacity commands lent l e calls proper =
-    let o : Setup = record { size = size; workers = workers; capacity = capacity; commands = commandsIn commands } in
-    let is : IsOpened o commands l = accepted-opening size workers capacity commands lent l e in
-    let reached = calls-reach o (is .setup) commands refl (is .long) calls l [] (opening-reaches o l (is .lists)) proper in
-    holds o (is .setup) commands refl (is .long) (listsAfter calls l) (schedules calls) reached
+    let r = opening-and-calls-reach size workers capacity commands lent l e calls proper in
+    holds _ (r .0 .setup) commands refl (r .0 .long) (listsAfter calls l) (schedules calls) (r .1)
 
 -- an accepted opening, then one call: a schedule of known threads is performed, and what is read of the lists left is the state reached
 pub opening-performs : (size workers capacity : ℕ) (commands : List ℕ) (lent l : Lists) → openOn size workers capacity commands lent ≡ accepted l

@@ -1,6 +1,7 @@
 pub mod AcceptedOpening
 pub mod Demand3
 pub mod OneTurn
+pub mod WaitsFor
 pub mod HandedBack
 pub mod OpeningAnswer
 pub mod OpeningState

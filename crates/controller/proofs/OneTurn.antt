@@ -19,8 +19,7 @@ use Rattle.model.specs.Proof.OneTurn.{reads-in-one-turn}
 use Rattle.state_bytes.specs.Layout.{Lists, listsOf, stateIn}
 use Rattle.controller.specs.Demand3.{listsAfter, schedules}
 use Rattle.controller.specs.OneTurn.{AfterTurn, InTurns, ReadsInOneTurnOverCalls}
-use Rattle.controller.proofs.AcceptedOpening.{IsOpened, accepted-opening}
-use Rattle.controller.proofs.Demand3.{Reach, opening-reaches, read-back, calls-reach, state-is, more-accepted}
+use Rattle.controller.proofs.Demand3.{Reach, read-back, state-is, more-accepted, opening-and-calls-reach}
 
 module _ (o : Setup) (acc : Accepted o) (commands : List ℕ) (same : o .commands ≡ commandsIn commands) (long : length commands ≡ 16 * length (o .commands)) (l : Lists) (ts : List ℕ)
     (r : Reach o l ts) (t : ℕ) (low : 1 ≤ t) (high : t ≤ o .workers) where
@@ -55,7 +54,5 @@ module _ (o : Setup) (acc : Accepted o) (commands : List ℕ) (same : o .command
 
 pub reads-in-one-turn-over-calls : ReadsInOneTurnOverCalls
 reads-in-one-turn-over-calls size workers capacity commands lent l e calls proper t low high own c command =
-    let o : Setup = record { size = size; workers = workers; capacity = capacity; commands = commandsIn commands } in
-    let is : IsOpened o commands l = accepted-opening size workers capacity commands lent l e in
-    let reached = calls-reach o (is .setup) commands refl (is .long) calls l [] (opening-reaches o l (is .lists)) proper in
-    in-turns o (is .setup) commands refl (is .long) (listsAfter calls l) (schedules calls) reached t low high own c command
+    let r = opening-and-calls-reach size workers capacity commands lent l e calls proper in
+    in-turns _ (r .0 .setup) commands refl (r .0 .long) (listsAfter calls l) (schedules calls) (r .1) t low high own c command

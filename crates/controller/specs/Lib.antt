@@ -3,3 +3,4 @@ pub mod Performed
 pub mod Opened
 pub mod Demand3
 pub mod OneTurn
+pub mod WaitsFor

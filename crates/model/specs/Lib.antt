@@ -7,4 +7,5 @@ pub mod Service
 pub mod Step
 pub mod Statement
 pub mod OneTurn
+pub mod WaitsFor
 pub mod Proof

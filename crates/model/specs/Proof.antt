@@ -11,6 +11,7 @@ pub mod Consistent
 pub mod Chain
 pub mod Formed
 pub mod OneTurn
+pub mod WaitsFor
 pub mod Finish
 pub mod Theorem
 pub mod Bounds
