@@ -15,7 +15,7 @@ use Rattle.command.specs.declared.Command.{Command}
 use Rattle.command.specs.Dependent.{areDependent, isInsertOrDelete, isRead}
 use Rattle.command.proofs.Laws.{dependence-is-symmetric}
 use Rattle.model.specs.Serial.{Entry, present, chuteAt, putIn, takeOut, setChute, Served, served, serveKind, serve}
-use Rattle.model.specs.Proof.Tests.{true-false, neither, eqb-cases}
+use Rattle.model.specs.Proof.Tests.{true-false, neither, not-both, passes-or-fails, eqb-cases}
 use Rattle.model.specs.Proof.Serial.{cond-cases, length-setChute, serve-keeps}
 use Rattle.model.specs.Proof.Trace.{Commuting}
 
@@ -27,11 +27,6 @@ abbrev pub replyOf : ℕ → Command → List Entry → ℕ
 replyOf capacity c es = serve capacity c es .answer
 
 -- ---- which commands are independent
-
--- one of two tests fails
-not-both : (s t : Bool) → s && t ≡ false → (s ≡ false) ⊎ (t ≡ false)
-not-both true t e = inr e
-not-both false t e = inl refl
 
 -- of two independent commands one is no insert and no delete
 one-is-neither : (a b : Command) → areDependent a b ≡ false → (isInsertOrDelete (a .kind) ≡ false) ⊎ (isInsertOrDelete (b .kind) ≡ false)
@@ -103,11 +98,6 @@ serve-same capacity key c es h =
     serve-keeps (λ (l : List Entry). Same key l es) capacity c es (refl, refl) (λ _ _ _. same-putIn key _ es h) (λ _. same-takeOut key (c .key) es h)
     (λ _. same-setChute key (c .key) (c .chute) es h)
 
--- a test passes or fails
-test : (t : Bool) → (t ≡ true) ⊎ (t ≡ false)
-test true = inl refl
-test false = inr refl
-
 -- ---- reads and updates
 
 -- a read changes nothing
@@ -168,8 +158,8 @@ put-set-commute new y v (e ∷ es) h =
     ⊎-elim
     (λ p.
     let same = ap (ltb (new .key)) (sym (p .0)) in
-    ⊎-elim (λ q. simp (p .1, q, same ∙ q, apart)) (λ q. simp (p .1, q, same ∙ q)) (test (ltb (new .key) (e .key))))
-    (λ p. ⊎-elim (λ q. simp (p .1, q, apart)) (λ q. simp (p .1, q, rest)) (test (ltb (new .key) (e .key))))
+    ⊎-elim (λ q. simp (p .1, q, same ∙ q, apart)) (λ q. simp (p .1, q, same ∙ q)) (passes-or-fails (ltb (new .key) (e .key))))
+    (λ p. ⊎-elim (λ q. simp (p .1, q, apart)) (λ q. simp (p .1, q, rest)) (passes-or-fails (ltb (new .key) (e .key))))
     (eqb-cases (e .key) y)
 
 -- one is taken out

@@ -2,7 +2,7 @@
 use Prim.Native.Nat.{ℕ, _≤_, _<_}
 use native.Mathlib.Omega.{arith}
 use mathlib.Core.Path.{_≡_, refl}
-use mathlib.Core.Bool.{Bool, true, false, _||_, true≢false}
+use mathlib.Core.Bool.{Bool, true, false, _&&_, _||_, true≢false}
 use mathlib.Core.Option.{Option, none, some}
 use mathlib.Core.Logic.{_⊎_, inl, inr}
 use lib.Dec.{eqb, leb}
@@ -21,6 +21,21 @@ true-false t p q = let z : _≡_ {A = ℕ} 0 1 = cc in absurd (omega arith)
 pub neither : (s t : Bool) → (s || t) ≡ false → (s ≡ false) × (t ≡ false)
 neither true t e = absurd (true≢false e)
 neither false t e = (refl, e)
+
+-- two tests of which one passes
+pub one-passes : (s t : Bool) → (s || t) ≡ true → (s ≡ true) ⊎ (t ≡ true)
+one-passes true t e = inl refl
+one-passes false t e = inr e
+
+-- two tests that do not both pass
+pub not-both : (s t : Bool) → s && t ≡ false → (s ≡ false) ⊎ (t ≡ false)
+not-both true t e = inr e
+not-both false t e = inl refl
+
+-- a test passes or fails
+pub passes-or-fails : (t : Bool) → (t ≡ true) ⊎ (t ≡ false)
+passes-or-fails true = inl refl
+passes-or-fails false = inr refl
 
 -- no value is both none and some
 pub none-some : {A : Type 0} {x : A} (a : Option A) → a ≡ none → a ≡ some x → ⊥

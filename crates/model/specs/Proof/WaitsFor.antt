@@ -3,7 +3,7 @@
 use Prim.Native.Nat.{ℕ, _<_}
 use native.Mathlib.Omega.{arith}
 use mathlib.Core.Path.{_≡_, refl, ap, _∙_}
-use mathlib.Core.Bool.{Bool, true, false, not, _&&_, _||_, false≢true, and-eq-true-iff}
+use mathlib.Core.Bool.{Bool, true, false, not, _&&_, false≢true, and-eq-true-iff}
 use mathlib.Core.Option.{Option, none, some}
 use mathlib.Core.Logic.{_⊎_, inl, inr, ⊎-elim}
 use lib.Dec.{eqb}
@@ -16,7 +16,7 @@ use Rattle.model.specs.declared.Thread.the-variants.{Idle, Loading, Sear
 use Rattle.model.specs.Setup.{Setup, bothDependent}
 use Rattle.model.specs.Step.{State, opened, commandOf, steps}
 use Rattle.model.specs.WaitsFor.{WaitsFor, WaitsOnlyForDependent}
-use Rattle.model.specs.Proof.Tests.{true-false, none-some, le-cases}
+use Rattle.model.specs.Proof.Tests.{true-false, one-passes, none-some, le-cases}
 use Rattle.model.specs.Proof.Chain.Invariant.{Ghost, Inv, at, loads, clears, Pending, Waited}
 use Rattle.model.specs.Proof.Chain.Keep.{steps-keep}
 use Rattle.model.specs.Proof.Chain.Opening.{openedGhost, opened-meets}
@@ -32,10 +32,6 @@ dependent-because a b e = ⊎-elim writers one-key (one-passes _ (eqb (a .key) (
   where
     both : Bool
     both = isRead (a .kind) && isRead (b .kind)
-
-    one-passes : (s t : Bool) → (s || t) ≡ true → (s ≡ true) ⊎ (t ≡ true)
-    one-passes true t h = inl refl
-    one-passes false t h = inr h
 
     not-true : (t : Bool) → not t ≡ true → t ≡ false
     not-true true h = absurd (false≢true h)
