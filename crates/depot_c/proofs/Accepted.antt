@@ -11,7 +11,7 @@ use Rattle.command.specs.Read.{firstRefusal, readings, commandsIn}
 use Rattle.command.specs.Read as Command
 use Rattle.model.specs.Setup.{Setup}
 use Rattle.model.specs.Statement.{allWithin}
-use Rattle.model.specs.Proof.Serial.{cond-cases}
+use Rattle.model.specs.Proof.Tests.{cond-cases}
 use Rattle.state_bytes.specs.Layout.{Lists, lengthsFit, stateFits, handedBackFit}
 use Rattle.controller.specs.Calls.{CallOutcome, accepted, refused, refusalIn, openedWith, openOn, advanceOn}
 use Rattle.depot_c.specs.Boundary.{answerOf}

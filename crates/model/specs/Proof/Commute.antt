@@ -15,8 +15,8 @@ use Rattle.command.specs.declared.Command.{Command}
 use Rattle.command.specs.Dependent.{areDependent, isInsertOrDelete, isRead}
 use Rattle.command.proofs.Laws.{dependence-is-symmetric}
 use Rattle.model.specs.Serial.{Entry, present, chuteAt, putIn, takeOut, setChute, Served, served, serveKind, serve}
-use Rattle.model.specs.Proof.Tests.{true-false, neither, not-both, passes-or-fails, eqb-cases}
-use Rattle.model.specs.Proof.Serial.{cond-cases, length-setChute, serve-keeps}
+use Rattle.model.specs.Proof.Tests.{true-false, neither, not-both, passes-or-fails, eqb-cases, cond-cases}
+use Rattle.model.specs.Proof.Serial.{length-setChute, serve-keeps}
 use Rattle.model.specs.Proof.Trace.{Commuting}
 
 -- the service in the terms of part T: what a command does to the entries, and what it answers

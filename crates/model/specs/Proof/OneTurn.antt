@@ -24,7 +24,7 @@ use Rattle.model.specs.Step.{State, node, opened, moveTo, serveTo, comma
 use Rattle.model.specs.Step.{enter, ready, examine, leave, searching, holding, lookedUp, bypass, walking, return, clearing, workerStep, step, steps}
 use Rattle.model.specs.Statement.{Accepted, allWithin, serialAnswer}
 use Rattle.model.specs.OneTurn.{ReadsInOneTurn}
-use Rattle.model.specs.Proof.Tests.{true-false, none-some, neither}
+use Rattle.model.specs.Proof.Tests.{true-false, none-some, neither, cond-cases}
 use Rattle.model.specs.Proof.Upd.{upd-same, upd-other, upd-cases}
 use Rattle.model.specs.Proof.Chain.Invariant.{Ghost, Inv, looked, clears}
 use Rattle.model.specs.Proof.Chain.Facts.{looked-own, command-place}
@@ -32,7 +32,6 @@ use Rattle.model.specs.Proof.Chain.Load.{f-out}
 use Rattle.model.specs.Proof.Chain.Ghost.{ghostStep, workerGhost}
 use Rattle.model.specs.Proof.Chain.Keep.{keeps, steps-keep}
 use Rattle.model.specs.Proof.Chain.Opening.{openedGhost, opened-meets}
-use Rattle.model.specs.Proof.Formed.Store.{either}
 
 -- every worker that has looked up has a command that is written in two steps
 abbrev InTwo : Setup → (ℕ → Thread) → (ℕ → ℕ) → Type 0
@@ -61,7 +60,7 @@ module _ (o : Setup) (s : State) (g : Ghost) (i : Inv o s g) (p : InTwoAt o s) w
   loader-two : (th : Thread) → s .threads 0 ≡ th → InTwoAt o (loaderStep o th s)
   unfolding loaderStep loaderIdle load loaderWalk link addDependence stepOn moveTo setNext setSeq setExecuting setLocked setWaits setFree setLoaded
   loader-two Idle e =
-      either (InTwoAt o) (leb (length (o .commands)) (s .graph .loaded) || eqb (s .graph .free) 0 || s .graph .locked 0) (λ _. p) (λ b.
+      cond-cases (InTwoAt o) (leb (length (o .commands)) (s .graph .loaded) || eqb (s .graph .free) 0 || s .graph .locked 0) (λ _. p) (λ b.
       let k = neither (leb (length (o .commands)) (s .graph .loaded) || eqb (s .graph .free) 0) (s .graph .locked 0) b in
       let j = neither (leb (length (o .commands)) (s .graph .loaded)) (eqb (s .graph .free) 0) (k .0) in
       changes 0 (Loading (node 0) (node (s .graph .free))) refl (s .graph .free) (s .graph .loaded + 1)
@@ -69,8 +68,8 @@ module _ (o : Setup) (s : State) (g : Ghost) (i : Inv o s g) (p : InTwoAt o s) w
   loader-two (Loading a x) e =
       let y = s .graph .next (a .0) in
       let v = Loading (node y) (node (x .0)) in
-      either (InTwoAt o) (eqb y 0) (λ _. stays 0 Idle refl) (λ _. either (InTwoAt o) (s .graph .locked y) (λ _. p)
-      (λ _. either (λ (h : Graph). InTwo o (upd (s .threads) 0 v) (h .seq)) (bothDependent (commandOf o (stepOn (a .0) y (s .graph)) y) (commandOf o (stepOn (a .0) y (s .graph)) (x .0))) (λ _. stays 0 v refl) (λ _. stays 0 v refl)))
+      cond-cases (InTwoAt o) (eqb y 0) (λ _. stays 0 Idle refl) (λ _. cond-cases (InTwoAt o) (s .graph .locked y) (λ _. p)
+      (λ _. cond-cases (λ (h : Graph). InTwo o (upd (s .threads) 0 v) (h .seq)) (bothDependent (commandOf o (stepOn (a .0) y (s .graph)) y) (commandOf o (stepOn (a .0) y (s .graph)) (x .0))) (λ _. stays 0 v refl) (λ _. stays 0 v refl)))
   loader-two (Searching a) e = p
   loader-two (Holding x) e = p
   loader-two (LookedUp x f) e = p
@@ -89,29 +88,29 @@ module _ (o : Setup) (s : State) (g : Ghost) (i : Inv o s g) (p : InTwoAt o s) w
 
     worker-two : (th : Thread) → s .threads t ≡ th → InTwoAt o (workerStep o t th s)
     unfolding workerStep enter searching leave examine holding lookedUp walking bypass clearing return commandOf stepOn moveTo serveTo setNext setSeq setExecuting setLocked setWaits setFree
-    worker-two Idle e = either (InTwoAt o) (s .graph .locked 0) (λ _. p) (λ _. stays t (Searching (node 0)) refl)
+    worker-two Idle e = cond-cases (InTwoAt o) (s .graph .locked 0) (λ _. p) (λ _. stays t (Searching (node 0)) refl)
     worker-two (Loading a x) e = p
     worker-two (Searching a) e =
         let y = s .graph .next (a .0) in
-        either (InTwoAt o) (eqb y 0) (λ _. stays t Idle refl) (λ _. either (InTwoAt o) (s .graph .locked y) (λ _. p)
-        (λ _. either (InTwoAt o) (ready (s .graph) y) (λ _. stays t (Holding (node y)) refl) (λ _. stays t (Searching (node y)) refl)))
+        cond-cases (InTwoAt o) (eqb y 0) (λ _. stays t Idle refl) (λ _. cond-cases (InTwoAt o) (s .graph .locked y) (λ _. p)
+        (λ _. cond-cases (InTwoAt o) (ready (s .graph) y) (λ _. stays t (Holding (node y)) refl) (λ _. stays t (Searching (node y)) refl)))
     worker-two (Holding x) e =
-        either (InTwoAt o) (inOneStep (commandOf o (s .graph) (x .0))) (λ _. stays t (Written (node (x .0))) refl) (looks (x .0) (foundFor (commandOf o (s .graph) (x .0)) (s .service .store)))
+        cond-cases (InTwoAt o) (inOneStep (commandOf o (s .graph) (x .0))) (λ _. stays t (Written (node (x .0))) refl) (looks (x .0) (foundFor (commandOf o (s .graph) (x .0)) (s .service .store)))
     worker-two (LookedUp x f) e = stays t (Written (node (x .0))) refl
-    worker-two (Written x) e = either (InTwoAt o) (s .graph .locked 0) (λ _. p) (λ _. stays t (Walking (node 0) x) refl)
+    worker-two (Written x) e = cond-cases (InTwoAt o) (s .graph .locked 0) (λ _. p) (λ _. stays t (Walking (node 0) x) refl)
     worker-two (Walking a x) e =
         let y = s .graph .next (a .0) in
-        either (InTwoAt o) (eqb y 0 || s .graph .locked y) (λ _. p)
-        (λ _. either (InTwoAt o) (eqb y (x .0)) (λ _. stays t (Clearing (node (a .0)) (node (x .0))) refl) (λ _. stays t (Walking (node y) (node (x .0))) refl))
+        cond-cases (InTwoAt o) (eqb y 0 || s .graph .locked y) (λ _. p)
+        (λ _. cond-cases (InTwoAt o) (eqb y (x .0)) (λ _. stays t (Clearing (node (a .0)) (node (x .0))) refl) (λ _. stays t (Walking (node y) (node (x .0))) refl))
     worker-two (Clearing a x) e =
         let y = s .graph .next (a .0) in
-        either (InTwoAt o) (eqb y 0) (λ _. changes t Idle refl (x .0) 0 (i .clearing .out t (x .0) (ap clears e)))
-        (λ _. either (InTwoAt o) (s .graph .locked y) (λ _. p) (λ _. stays t (Clearing (node y) (node (x .0))) refl))
+        cond-cases (InTwoAt o) (eqb y 0) (λ _. changes t Idle refl (x .0) 0 (i .clearing .out t (x .0) (ap clears e)))
+        (λ _. cond-cases (InTwoAt o) (s .graph .locked y) (λ _. p) (λ _. stays t (Clearing (node y) (node (x .0))) refl))
 
 -- every step, and every schedule, keeps it
 step-two : (o : Setup) (s : State) (g : Ghost) → Inv o s g → InTwoAt o s → (t : ℕ) → InTwoAt o (step o t s)
 unfolding step
-step-two o s g i p t = either (InTwoAt o) (eqb t 0) (λ _. loader-two o s g i p (s .threads 0) refl) (λ _. worker-two o s g i p t (s .threads t) refl)
+step-two o s g i p t = cond-cases (InTwoAt o) (eqb t 0) (λ _. loader-two o s g i p (s .threads 0) refl) (λ _. worker-two o s g i p t (s .threads t) refl)
 
 steps-two : (o : Setup) → Accepted o → (ts : List ℕ) → allWithin (o .workers) ts ≡ true → (s : State) (g : Ghost) → Inv o s g → InTwoAt o s → InTwoAt o (steps o ts s)
 unfolding steps allWithin

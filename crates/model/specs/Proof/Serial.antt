@@ -3,7 +3,7 @@
 use Prim.Native.Nat.{ℕ, suc, _+_, _≤_, _<_}
 use native.Mathlib.Omega.{arith}
 use mathlib.Core.Path.{_≡_, refl}
-use mathlib.Core.Bool.{Bool, true, false, cond, false≢true, and-eq-true-iff}
+use mathlib.Core.Bool.{Bool, true, false, false≢true, and-eq-true-iff}
 use mathlib.Mathlib.Data.Bool.Basic.{or-eq-false-eq-eq-false-and-eq-false}
 use mathlib.Core.Logic.{_↔_, _⊎_, inl, inr, ⊎-elim}
 use mathlib.Core.List.{List, [], _∷_}
@@ -15,6 +15,7 @@ use Rattle.command.specs.declared.Kind.the-variants.{Insert, Delete, Read, Upda
 use Rattle.command.specs.declared.Command.{Command}
 use Rattle.command.specs.Read.{chuteFits}
 use Rattle.model.specs.Serial.{Entry, present, chuteAt, putIn, takeOut, setChute, Served, serveKind, serve}
+use Rattle.model.specs.Proof.Tests.{cond-cases}
 
 -- every entry has the property
 abbrev pub All : (Entry → Type 0) → List Entry → Type 0
@@ -29,11 +30,6 @@ Ascending (e ∷ es) = All (λ (x : Entry). e .key < x .key) es × Ascending es
 -- every chute is from 1 up
 abbrev pub AllPositive : List Entry → Type 0
 AllPositive es = All (λ (x : Entry). 1 ≤ x .chute) es
-
--- What a test picks has a property that both have, each as far as it is picked.
-pub cond-cases {ℓ κ} : {A : Type ℓ} (P : A → Type κ) {x y : A} (b : Bool) → (b ≡ true → P x) → (b ≡ false → P y) → P (cond b x y)
-cond-cases P true f g = f refl
-cond-cases P false f g = g refl
 
 -- A property that follows from another for each entry follows for all.
 pub all-map : {P Q : Entry → Type 0} → ((e : Entry) → P e → Q e) → (es : List Entry) → All P es → All Q es

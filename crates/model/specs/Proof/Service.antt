@@ -3,7 +3,7 @@
 use Prim.Native.Nat.{ℕ, zero, suc, _≤_, _<_}
 use native.Mathlib.Omega.{arith}
 use mathlib.Core.Path.{_≡_, refl, sym, _∙_, ap}
-use mathlib.Core.Logic.{_⊎_, ⊎-elim}
+use mathlib.Core.Logic.{⊎-elim}
 use mathlib.Core.Bool.{Bool, true, false}
 use mathlib.Core.List.{List, [], _∷_}
 use mathlib.Core.Option.{none, some}
@@ -18,11 +18,11 @@ use Rattle.model.specs.Serial.{entriesAfter, answersAfter, serialAnswers
 use Rattle.model.specs.Upd.{upd}
 use Rattle.model.specs.Setup.{Setup, commandAt}
 use Rattle.model.specs.Statement.{Accepted, EachCommand, serialAnswer}
-use Rattle.model.specs.Proof.Tests.{none-some, eqb-cases}
+use Rattle.model.specs.Proof.Tests.{none-some, eqb-cases, cond-cases}
 use Rattle.model.specs.Proof.Upd.{upd-same, upd-other}
 use Rattle.model.specs.Proof.Trace.{Placed, Closed, run, runOnly}
 use Rattle.model.specs.Proof.Trace.{runOnly-agrees, runOnly-all, runOnly-none, runOnly-keeps, next-reply, next-effect}
-use Rattle.model.specs.Proof.Serial.{Ascending, AllPositive, BringsPositive, cond-cases, fitting-brings-positive, serve-ascending, serve-fits, serve-positive, chuteAt-present}
+use Rattle.model.specs.Proof.Serial.{Ascending, AllPositive, BringsPositive, fitting-brings-positive, serve-ascending, serve-fits, serve-positive, chuteAt-present}
 use Rattle.model.specs.Proof.Commute.{effectOf, replyOf, service-commutes}
 
 -- the entries after the commands of W alone, in delivery order

@@ -2,7 +2,7 @@
 use Prim.Native.Nat.{ℕ, _≤_, _<_}
 use native.Mathlib.Omega.{arith}
 use mathlib.Core.Path.{_≡_, refl}
-use mathlib.Core.Bool.{Bool, true, false, _&&_, _||_, true≢false}
+use mathlib.Core.Bool.{Bool, true, false, cond, _&&_, _||_, true≢false}
 use mathlib.Core.Option.{Option, none, some}
 use mathlib.Core.Logic.{_⊎_, inl, inr}
 use lib.Dec.{eqb, leb}
@@ -36,6 +36,11 @@ not-both false t e = inl refl
 pub passes-or-fails : (t : Bool) → (t ≡ true) ⊎ (t ≡ false)
 passes-or-fails true = inl refl
 passes-or-fails false = inr refl
+
+-- what a test picks has a property that both have, each as far as it is picked
+pub cond-cases {ℓ κ} : {A : Type ℓ} (P : A → Type κ) {x y : A} (b : Bool) → (b ≡ true → P x) → (b ≡ false → P y) → P (cond b x y)
+cond-cases P true f g = f refl
+cond-cases P false f g = g refl
 
 -- no value is both none and some
 pub none-some : {A : Type 0} {x : A} (a : Option A) → a ≡ none → a ≡ some x → ⊥

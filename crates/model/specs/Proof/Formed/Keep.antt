@@ -18,11 +18,11 @@ use Rattle.model.specs.Service.{Service, foundFor, inOneStep, writeFor}
 use Rattle.model.specs.Step.{State, node, moveTo, serveTo, commandOf, stepOn, load, loaderIdle, link, addDependence, loaderWalk, loaderStep}
 use Rattle.model.specs.Step.{enter, ready, examine, leave, searching, holding, lookedUp, bypass, walking, return, clearing, workerStep, step, steps}
 use Rattle.model.specs.Statement.{allWithin}
-use Rattle.model.specs.Proof.Tests.{true-false, neither}
+use Rattle.model.specs.Proof.Tests.{true-false, neither, cond-cases}
 use Rattle.model.specs.Proof.Chain.Invariant.{isLoader, isWorker}
 use Rattle.model.specs.Proof.Chain.Facts.{command-place}
 use Rattle.model.specs.Proof.Formed.{ThreadFormed, ThreadAt, AnswerAt, SetupFormed, GraphFormed, ServiceFormed, Formed}
-use Rattle.model.specs.Proof.Formed.Store.{either, lookUp-fits, writeKind-formed}
+use Rattle.model.specs.Proof.Formed.Store.{lookUp-fits, writeKind-formed}
 use Rattle.model.specs.Proof.Formed.Set.{upd-keeps, moved-formed, served-formed, next-set, seq-set, executing-set, locked-set, waits-set, free-set, loaded-set}
 
 module _ (o : Setup) (fit : SetupFormed o) where
@@ -46,7 +46,7 @@ module _ (o : Setup) (fit : SetupFormed o) where
     pub add-formed : (x y : ℕ) → x ≤ o .size → y ≤ o .size → GraphFormed o (addDependence o x y g)
     unfolding addDependence
     add-formed x y h j =
-        either (GraphFormed o) (bothDependent (commandOf o g y) (commandOf o g x))
+        cond-cases (GraphFormed o) (bothDependent (commandOf o g y) (commandOf o g x))
         (λ _. waits-set o fit k x (upd (g .waits x) y true) h (changed-set x y true h j)) (λ _. k)
 
     -- the worker's own node gets the first free node as its next, and all else of it is emptied
@@ -85,7 +85,7 @@ module _ (o : Setup) (fit : SetupFormed o) where
     pub loader-formed : (th : Thread) → s .threads 0 ≡ th → Formed o (loaderStep o th s)
     unfolding loaderStep loaderIdle loaderWalk
     loader-formed Idle e =
-        either (Formed o) (leb (length (o .commands)) (s .graph .loaded) || eqb (s .graph .free) 0 || s .graph .locked 0) (λ _. k) (λ b.
+        cond-cases (Formed o) (leb (length (o .commands)) (s .graph .loaded) || eqb (s .graph .free) 0 || s .graph .locked 0) (λ _. k) (λ b.
         let h = neither (leb (length (o .commands)) (s .graph .loaded) || eqb (s .graph .free) 0) (s .graph .locked 0) b .0 in
         load-formed (leb-false (length (o .commands)) (s .graph .loaded) (neither (leb (length (o .commands)) (s .graph .loaded)) (eqb (s .graph .free) 0) h .0)))
     loader-formed (Loading a x) e =
@@ -93,8 +93,8 @@ module _ (o : Setup) (fit : SetupFormed o) where
         let y = s .graph .next (a .0) in
         let j = k .graph .next (a .0) .0 in
         let v = Loading (node y) (node (x .0)) in
-        either (Formed o) (eqb y 0) (λ _. link-formed (a .0) (x .0) (h .0) (h .1))
-        (λ _. either (Formed o) (s .graph .locked y) (λ _. k)
+        cond-cases (Formed o) (eqb y 0) (λ _. link-formed (a .0) (x .0) (h .0) (h .1))
+        (λ _. cond-cases (Formed o) (s .graph .locked y) (λ _. k)
         (λ _. moved-formed k 0 v (loader-at v (j, h .1) refl) (add-formed (step-on-formed (k .graph) (a .0) y (h .0) j) (x .0) y (h .1) j)))
     loader-formed (Searching a) e = k
     loader-formed (Holding x) e = k
@@ -140,14 +140,14 @@ module _ (o : Setup) (fit : SetupFormed o) where
       -- the head is a node
       pub enter-formed : (v : Thread) → ThreadFormed (o .size) v → isWorker v ≡ true → Formed o (enter t v s)
       unfolding enter
-      enter-formed v h r = either (Formed o) (s .graph .locked 0) (λ _. k) (λ _. worker-moved v h r (locked-set o fit (k .graph) 0 true (omega arith)))
+      enter-formed v h r = cond-cases (Formed o) (s .graph .locked 0) (λ _. k) (λ _. worker-moved v h r (locked-set o fit (k .graph) 0 true (omega arith)))
 
       -- both nodes are the worker's or next indexes
       pub examine-formed : (a y : ℕ) → a ≤ o .size → y ≤ o .size → Formed o (examine t a y s)
       unfolding examine
       examine-formed a y h j =
           let on = step-on-formed (k .graph) a y h j in
-          either (Formed o) (ready (s .graph) y) (λ _. worker-moved (Holding (node y)) j refl (locked-set o fit (executing-set o fit on y true j) y false j))
+          cond-cases (Formed o) (ready (s .graph) y) (λ _. worker-moved (Holding (node y)) j refl (locked-set o fit (executing-set o fit on y true j) y false j))
           (λ _. worker-moved (Searching (node y)) j refl on)
 
       -- an idle thread has no node
@@ -173,12 +173,12 @@ module _ (o : Setup) (fit : SetupFormed o) where
       worker-formed (Searching a) e =
           let h = says k t e in
           let y = s .graph .next (a .0) in
-          either (Formed o) (eqb y 0) (λ _. leave-formed (a .0) h)
-          (λ _. either (Formed o) (s .graph .locked y) (λ _. k) (λ _. examine-formed (a .0) y h (k .graph .next (a .0) .0)))
+          cond-cases (Formed o) (eqb y 0) (λ _. leave-formed (a .0) h)
+          (λ _. cond-cases (Formed o) (s .graph .locked y) (λ _. k) (λ _. examine-formed (a .0) y h (k .graph .next (a .0) .0)))
       worker-formed (Holding x) e =
           let c = commandOf o (s .graph) (x .0) in
           let found = foundFor c (s .service .store) in
-          either (Formed o) (inOneStep c) (λ _. writes-formed (x .0) found (says k t e))
+          cond-cases (Formed o) (inOneStep c) (λ _. writes-formed (x .0) found (says k t e))
           (λ _. worker-served (LookedUp (node (x .0)) found) (says k t e, found-fits (k .service) c) refl (k .service))
       worker-formed (LookedUp x f) e = writes-formed (x .0) f (says k t e .0)
       worker-formed (Written x) e = enter-formed (Walking (node 0) x) (omega arith, says k t e) refl
@@ -186,15 +186,15 @@ module _ (o : Setup) (fit : SetupFormed o) where
           let h = says k t e in
           let y = s .graph .next (a .0) in
           let j = k .graph .next (a .0) .0 in
-          either (Formed o) (eqb y 0 || s .graph .locked y) (λ _. k)
-          (λ _. either (Formed o) (eqb y (x .0)) (λ _. bypass-formed (a .0) (x .0) (h .0) (h .1))
+          cond-cases (Formed o) (eqb y 0 || s .graph .locked y) (λ _. k)
+          (λ _. cond-cases (Formed o) (eqb y (x .0)) (λ _. bypass-formed (a .0) (x .0) (h .0) (h .1))
           (λ _. worker-moved (Walking (node y) (node (x .0))) (j, h .1) refl (step-on-formed (k .graph) (a .0) y (h .0) j)))
       worker-formed (Clearing a x) e =
           let h = says k t e in
           let y = s .graph .next (a .0) in
           let j = k .graph .next (a .0) .0 in
-          either (Formed o) (eqb y 0) (λ _. worker-moved Idle tt refl (return-formed (locked-set o fit (k .graph) (a .0) false (h .0)) (x .0) (h .1)))
-          (λ _. either (Formed o) (s .graph .locked y) (λ _. k)
+          cond-cases (Formed o) (eqb y 0) (λ _. worker-moved Idle tt refl (return-formed (locked-set o fit (k .graph) (a .0) false (h .0)) (x .0) (h .1)))
+          (λ _. cond-cases (Formed o) (s .graph .locked y) (λ _. k)
           (λ _. worker-moved (Clearing (node y) (node (x .0))) (j, h .1) refl
           (waits-set o fit (step-on-formed (k .graph) (a .0) y (h .0) j) y (upd (s .graph .waits y) (x .0) false) j (changed-set (k .graph) y (x .0) false j (h .1)))))
 
@@ -204,7 +204,7 @@ module _ (o : Setup) (fit : SetupFormed o) where
 pub step-formed : (o : Setup) → SetupFormed o → (t : ℕ) → t ≤ o .workers → (s : State) → Formed o s → Formed o (step o t s)
 unfolding step
 step-formed o fit t high s k =
-    either (Formed o) (eqb t 0) (λ _. loader-formed o fit k (s .threads 0) refl)
+    cond-cases (Formed o) (eqb t 0) (λ _. loader-formed o fit k (s .threads 0) refl)
     (λ b. let n = eqb-false t 0 b in worker-formed o fit t (omega (arith, n)) high k (s .threads t) refl)
 
 -- by induction on the schedule

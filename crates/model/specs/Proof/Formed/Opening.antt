@@ -11,9 +11,9 @@ use Rattle.model.specs.Graph.{firstNext, noNode, openedGraph}
 use Rattle.model.specs.Service.{openedService}
 use Rattle.model.specs.Step.{opened}
 use Rattle.model.specs.Statement.{Accepted}
-use Rattle.model.specs.Proof.Tests.{true-false}
+use Rattle.model.specs.Proof.Tests.{true-false, cond-cases}
 use Rattle.model.specs.Proof.Formed.{NumberAt, SetupFormed, Formed}
-use Rattle.model.specs.Proof.Formed.Store.{either, layOut-formed}
+use Rattle.model.specs.Proof.Formed.Store.{layOut-formed}
 
 -- the tests of an accepted opening are those of the layout, or narrower
 pub accepted-formed : (o : Setup) → Accepted o → SetupFormed o
@@ -29,7 +29,7 @@ accepted-formed o acc = record {
 first-next-formed : (size n : ℕ) → size ≤ 150 → NumberAt size n (firstNext size n)
 unfolding firstNext
 first-next-formed size n h =
-    either (NumberAt size n) (leb 1 n && ltb n size)
+    cond-cases (NumberAt size n) (leb 1 n && ltb n size)
     (λ e. let l = ltb-true n size (and-eq-true-iff (leb 1 n) (ltb n size) .0 e .1) in (omega arith, λ p. absurd (omega arith))) (λ _. (omega arith, λ _. refl))
 
 -- everything is 0, idle or empty, but the free list, which starts at node 1

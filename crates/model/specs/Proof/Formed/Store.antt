@@ -13,12 +13,8 @@ use Rattle.command.specs.declared.Kind.{Kind}
 use Rattle.command.specs.declared.Kind.the-variants.{Insert, Delete, Read, Update}
 use Rattle.model.specs.Store.{Store, layOut, room, inUse, halve, keyPlace, holds, lookUp, shiftUp, shiftDown, insert, remove, replace}
 use Rattle.model.specs.Service.{Write, writeKind}
+use Rattle.model.specs.Proof.Tests.{cond-cases}
 use Rattle.model.specs.Proof.Store.{keyOf, chuteOf, length-laid}
-
--- of two values that a test picks from
-pub either : {A : Type 0} (P : A → Type 0) {v w : A} (b : Bool) → (b ≡ true → P v) → (b ≡ false → P w) → P (cond b v w)
-either P true p q = p refl
-either P false p q = q refl
 
 -- ---- lists of numbers of two bytes
 
@@ -138,13 +134,13 @@ module _ {capacity : ℕ} (st : Store) (k : StoreFormed capacity st) where
   -- a lookup finds an element, or 0
   pub lookUp-fits : (key : ℕ) → lookUp key st < 65536
   unfolding lookUp
-  lookUp-fits key = either (λ (n : ℕ). n < 65536) (holds key st) (λ _. k .chutes-fit (keyPlace key st)) (λ _. omega arith)
+  lookUp-fits key = cond-cases (λ (n : ℕ). n < 65536) (holds key st) (λ _. k .chutes-fit (keyPlace key st)) (λ _. omega arith)
 
   -- removing shifts within the places in use, of which a held key's is one
   pub remove-formed : (key : ℕ) → StoreFormed capacity (remove key st)
   unfolding remove
   remove-formed key =
-      either (StoreFormed capacity) (holds key st)
+      cond-cases (StoreFormed capacity) (holds key st)
       (λ e.
       let place = held-in-use key st e in
       let fits : inUse st ≤ capacity = omega (arith, inUse-used, k .used-fits) in
@@ -160,7 +156,7 @@ module _ {capacity : ℕ} (st : Store) (k : StoreFormed capacity st) where
   pub replace-formed : (key chute : ℕ) → chute < 65536 → StoreFormed capacity (replace key chute st)
   unfolding replace
   replace-formed key chute f =
-      either (StoreFormed capacity) (holds key st)
+      cond-cases (StoreFormed capacity) (holds key st)
       (λ _. record {
         keys-length = k .keys-length;
         chutes-length = length-set (st .chutes) (keyPlace key st) chute ∙ k .chutes-length;
@@ -173,8 +169,8 @@ module _ {capacity : ℕ} (st : Store) (k : StoreFormed capacity st) where
   pub insert-formed : (key chute : ℕ) → chute < 65536 → StoreFormed capacity (insert key chute st)
   unfolding insert
   insert-formed key chute f =
-      either (StoreFormed capacity) (holds key st) (λ _. replace-formed key chute f)
-      (λ _. either (StoreFormed capacity) (leb (room st) (inUse st)) (λ _. k)
+      cond-cases (StoreFormed capacity) (holds key st) (λ _. replace-formed key chute f)
+      (λ _. cond-cases (StoreFormed capacity) (leb (room st) (inUse st)) (λ _. k)
       (λ e.
       let more : inUse st < room st = leb-false (room st) (inUse st) e in
       let place = placeOf-within key st in
@@ -194,7 +190,7 @@ module _ {capacity : ℕ} (st : Store) (k : StoreFormed capacity st) where
   pub writeKind-formed : (kind : Kind) (room key chute found : ℕ) → chute < 65536 → StoreFormed capacity (writeKind kind room key chute found st .store)
   unfolding writeKind
   writeKind-formed Insert room key chute found f =
-      either After (eqb found 0) (λ _. either After (leb room (st .used)) (λ _. k) (λ _. insert-formed key chute f)) (λ _. replace-formed key chute f)
-  writeKind-formed Delete room key chute found f = either After (eqb found 0) (λ _. k) (λ _. remove-formed key)
-  writeKind-formed Read room key chute found f = either After (eqb found 0) (λ _. k) (λ _. k)
-  writeKind-formed Update room key chute found f = either After (eqb found 0) (λ _. k) (λ _. replace-formed key chute f)
+      cond-cases After (eqb found 0) (λ _. cond-cases After (leb room (st .used)) (λ _. k) (λ _. insert-formed key chute f)) (λ _. replace-formed key chute f)
+  writeKind-formed Delete room key chute found f = cond-cases After (eqb found 0) (λ _. k) (λ _. remove-formed key)
+  writeKind-formed Read room key chute found f = cond-cases After (eqb found 0) (λ _. k) (λ _. k)
+  writeKind-formed Update room key chute found f = cond-cases After (eqb found 0) (λ _. k) (λ _. replace-formed key chute f)
