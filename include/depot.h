@@ -185,10 +185,10 @@ uint64_t depot_open(uint8_t *state, size_t state_length, uint8_t *keys, size_t k
  * That some dealing finishes does not mean that each repeated pattern does. With one worker, 1 0 1 repeated from the opening never
  * loads a command: the loader's turn always falls while the worker stands on the head. Two turns each, 0 0 1 1, never load the
  * second of two inserts at graph size 1. Deal round-robin, one turn each (0, 1, .. up to the worker count, and again), some
- * thousands of turns a call: in a search made apart from this repository, when a read still took two turns, it finished from every
- * run reached (up to 4 records, 4 workers and 6 commands) and in millions of random runs (up to 20 records, 8 workers, 40
- * commands), never in more than n (2 w + s + 6) + 2 rounds, with n commands, w workers and graph size s.
- * tests/second/tests/patterns.rs runs 2,000 such runs, with reads in one turn. It is not proved.
+ * thousands of turns a call: in a search made apart from this repository, when a read still took two turns and inserts and deletes
+ * still waited for every command, it finished from every run reached (up to 4 records, 4 workers and 6 commands) and in millions
+ * of random runs (up to 20 records, 8 workers, 40 commands), never in more than n (2 w + s + 6) + 2 rounds, with n commands, w
+ * workers and graph size s. tests/second/tests/patterns.rs runs 2,000 such runs as things are now. It is not proved.
  *
  * Writes state, keys, chutes, answers; reads commands (those of the opening) and schedule.
  * Refuses 6 (a length that is not the opening's, by the state's own settings), then 12 (the state breaks its layout), then 11
@@ -206,6 +206,8 @@ uint64_t depot_advance(uint8_t *state, size_t state_length, uint8_t *keys, size_
 
 /* The panel report (pending counts): for each record in the chain, in chain order, how many records it waits for, one byte each;
  * 0 after the last. A record that waits for none is 0 too, so the counts do not say how long the chain is.
+ * A command waits for each earlier one of the same item, but a read not for a read; inserts and deletes also wait for one another,
+ * whatever their items. Reads and updates of other items pass them.
  *
  * Writes counts, DEPOT_COUNTS_LENGTH bytes; reads the rest.
  * Refuses 6 (as depot_advance, and for the length of counts), then 12.

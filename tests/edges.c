@@ -234,6 +234,31 @@ static void test_example(void)
     free_all(&l);
 }
 
+/* Document 02, A.5: while worker 1 is between the lookup and the writing of an insert, worker 2 answers the read of another item
+ * that was delivered later; the read of the same item waits. */
+static void test_passing(void)
+{
+    const struct settings s = {3, 2, 1};
+    const uint8_t schedule[18] = {0, 0, 0, 0, 0, 0, 0, 0, 0, 1, 1, 1, 2, 2, 2, 2, 2, 1};
+    struct lists l = make_all(3, 1);
+    put_command(&l, 0, DEPOT_INSERT, 1, 7);
+    put_command(&l, 1, DEPOT_READ, 1, 0);
+    put_command(&l, 2, DEPOT_READ, 0, 0);
+    expect(OPEN, &l, s, 0, "refused an insert and two reads");
+    advance(&l, schedule, 17, 0, "up to the answer of the last read");
+    check(depot_short_at(l.at[ANSWERS].bytes, 0) == DEPOT_NOT_YET, "passing", "the insert is written", 0);
+    check(depot_short_at(l.at[ANSWERS].bytes, 1) == DEPOT_NOT_YET, "passing", "the read of its item is answered", 0);
+    check(depot_short_at(l.at[ANSWERS].bytes, 2) == DEPOT_NO_SUCH_ITEM, "passing", "the read of another item", 0);
+    report(&l, COUNTS, DEPOT_COUNTS_LENGTH, 0, "passing");
+    check(l.at[OWN].bytes[0] == 0 && l.at[OWN].bytes[1] == 1 && l.at[OWN].bytes[2] == 0, "passing", "counts", 0);
+    report(&l, STATUS, DEPOT_STATUS_LENGTH, 0, "passing");
+    check(l.at[OWN].bytes[0] == DEPOT_LOOKED_UP && l.at[OWN].bytes[1] == 1, "passing", "status of worker 1", 0);
+    check(l.at[OWN].bytes[2] == DEPOT_WRITTEN && l.at[OWN].bytes[3] == 3, "passing", "status of worker 2", 0);
+    advance(&l, schedule + 17, 1, 0, "the insert's writing");
+    check(depot_short_at(l.at[ANSWERS].bytes, 0) == DEPOT_DONE, "passing", "answer of the insert", 0);
+    free_all(&l);
+}
+
 /* A dealing that loads as many commands as the graph holds, then has worker 1 remove them one by one from the chain's front. */
 static struct list filling_and_emptying(size_t nodes)
 {
@@ -499,6 +524,7 @@ int main(void)
     const struct settings small = {5, 3, 4}, large = {DEPOT_MOST_NODES, DEPOT_MOST_WORKERS, 4};
     test_empty_lists();
     test_example();
+    test_passing();
     test_largest();
     test_all_parties();
     test_settings();

@@ -2,7 +2,7 @@
 //! one process, and their lists are compared at the end; a difference ends with status 1.
 //!
 //! `bench [runs [part [turns]]]`: 11 runs, all parts and whole lists unless said. The parts are
-//! `steps`, `calls`, `growth` and `reads`; `turns` is the most that is dealt of a list.
+//! `steps`, `calls`, `growth`, `reads` and `mailing`; `turns` is the most that is dealt of a list.
 
 use std::env;
 use std::path::PathBuf;
@@ -19,6 +19,7 @@ mod input;
 mod lists;
 mod measure;
 mod tables;
+mod waiting;
 
 fn main() -> ExitCode {
     match run(&env::args().skip(1).collect::<Vec<String>>()) {
@@ -36,7 +37,7 @@ fn run(arguments: &[String]) -> Result<(), String> {
             program: PathBuf::new(), // the program is not run here
         },
         runs: number(arguments.first(), 11)?,
-        most_turns: number(arguments.get(2), 50_000_000)?,
+        most_turns: number(arguments.get(2), 100_000_000)?,
     };
     tables::print(&bench, arguments.get(1).map(String::as_str))
 }

@@ -5,7 +5,7 @@ use std::time::Duration;
 use second::run::Settings;
 
 use crate::input::{Input, Kinds, Order};
-use crate::measure::{Bench, CALL_STEPS, Times};
+use crate::measure::{Bench, CALL_STEPS, StepTimes, Times};
 
 const MOST_COMMANDS: usize = 4096;
 /// The most turns dealt of a list where many settings are measured.
@@ -23,17 +23,18 @@ const fn settings(size: u8, workers: u8, room: u16) -> Settings {
 /// Measures and prints one part, or all.
 pub fn print(bench: &Bench, part: Option<&str>) -> Result<(), String> {
     type Part = fn(&Bench) -> Result<(), String>;
-    let parts: [(&str, Part); 4] = [
+    let parts: [(&str, Part); 5] = [
         ("steps", steps),
         ("calls", calls),
         ("growth", growth),
         ("reads", reads),
+        ("mailing", mailing),
     ];
     if let Some(part) = part
         && parts.iter().all(|(name, _)| *name != part)
     {
         return Err(format!(
-            "no part `{part}`; the parts are steps, calls, growth and reads"
+            "no part `{part}`; the parts are steps, calls, growth, reads and mailing"
         ));
     }
     println!("Medians of {} runs, processor time.", bench.runs);
@@ -59,12 +60,34 @@ fn reads(bench: &Bench) -> Result<(), String> {
     table_of_steps(bench, Kinds::Reads)
 }
 
-fn table_of_steps(bench: &Bench, kinds: Kinds) -> Result<(), String> {
+/// The same of a list that inserts new items by turns with reads of others, and how long these wait.
+fn mailing(bench: &Bench) -> Result<(), String> {
     println!(
-        "| Size, workers, room | Schedule | Steps | Waits | Proved, steps/s | Plain, steps/s \
-         | Ratio of times | Plain turns alone, steps/s | Ratio |"
+        "Mailing: a list of {MOST_COMMANDS} commands, every second an insert of a new item, the \
+         others reads of other items, in calls of {CALL_STEPS}.\n"
     );
-    println!("|---|---|---|---|---|---|---|---|---|");
+    table_of_steps(bench, Kinds::Mailing)
+}
+
+const STEPS: [&str; 9] = [
+    "Size, workers, room",
+    "Schedule",
+    "Steps",
+    "Waits",
+    "Proved, steps/s",
+    "Plain, steps/s",
+    "Ratio of times",
+    "Plain turns alone, steps/s",
+    "Ratio",
+];
+
+fn table_of_steps(bench: &Bench, kinds: Kinds) -> Result<(), String> {
+    let mut headings = STEPS.map(str::to_string).to_vec();
+    if kinds == Kinds::Mailing {
+        headings.push("Mean steps from a read's linking to its answer".to_string());
+    }
+    print_row(&headings);
+    println!("|{}", "---|".repeat(headings.len()));
     let orders = [
         ("random", Order::Random),
         ("round-robin", Order::RoundRobin),
@@ -74,24 +97,40 @@ fn table_of_steps(bench: &Bench, kinds: Kinds) -> Result<(), String> {
     for settings in [LARGEST, settings(8, 4, 4096), settings(2, 1, 4096)] {
         for (name, order) in orders {
             let input = Input::new(settings, kinds, MOST_COMMANDS, order, bench.most_turns);
-            let times = bench.steps(&input)?;
-            let steps = input.schedule.len();
-            println!(
-                "| {}, {}, {} | {name} | {steps}{} | {} | {} | {} | {:.2} | {} | {:.2} |",
-                settings.size,
-                settings.workers,
-                settings.room,
-                if input.done { "" } else { " (not done)" },
-                percent(input.waits, steps),
-                rate(steps, times.calls.proved),
-                rate(steps, times.calls.plain),
-                times.calls.ratio(),
-                rate(steps, times.turns.plain),
-                times.turns.ratio(),
-            );
+            let mut row = row_of_steps(name, &input, &bench.steps(&input)?);
+            if kinds == Kinds::Mailing {
+                let mean = input.waiting.mean();
+                row.push(mean.map_or(String::new(), |mean| format!("{mean:.0}")));
+            }
+            print_row(&row);
         }
     }
     Ok(())
+}
+
+fn row_of_steps(name: &str, input: &Input, times: &StepTimes) -> Vec<String> {
+    let Settings {
+        size,
+        workers,
+        room,
+    } = input.settings;
+    let steps = input.schedule.len();
+    let done = if input.done { "" } else { " (not done)" };
+    vec![
+        format!("{size}, {workers}, {room}"),
+        name.to_string(),
+        format!("{steps}{done}"),
+        percent(input.waits, steps),
+        rate(steps, times.calls.proved),
+        rate(steps, times.calls.plain),
+        format!("{:.2}", times.calls.ratio()),
+        rate(steps, times.turns.plain),
+        format!("{:.2}", times.turns.ratio()),
+    ]
+}
+
+fn print_row(cells: &[String]) {
+    println!("| {} |", cells.join(" | "));
 }
 
 /// Opening, and a call with an empty schedule.

@@ -13,6 +13,7 @@ pub const KEY: usize = 8;
 pub const NUMBER: usize = 2;
 
 /// Where the fields stand.
+pub const USED: usize = 8;
 pub const FREE: usize = 10;
 pub const NEXT: usize = 11;
 pub const PLACE: usize = 162;
@@ -140,7 +141,7 @@ fn read_whole(lists: Lists) -> Option<Run> {
         loaded,
         records: read_records(state, settings.size, count)?,
         parties: read_parties(&state[PARTY..], settings.size)?,
-        store: read_store(lists, number(state, 8), settings.room)?,
+        store: read_store(lists, number(state, USED), settings.room)?,
         answers: numbers(lists.answers).collect(),
         commands: lists
             .commands

@@ -9,7 +9,7 @@ pub const LENGTH: usize = 16;
 pub const LARGEST_CHUTE: u16 = 512;
 
 /// What a command does; the value of each is its number in document 01.
-#[derive(Clone, Copy, Debug, PartialEq, Eq)]
+#[derive(Clone, Copy, Debug, PartialEq, Eq, Hash)]
 pub enum Kind {
     Insert = 1,
     Delete = 2,
@@ -86,12 +86,20 @@ pub fn encode(kind: u8, text: &[u8], chute: u16) -> Vec<u8> {
 }
 
 /// Whether two commands must keep their order.
+///
+/// Of inserts and deletes, document 02's A.5: "From now on inserts and deletes depend on one
+/// another, on kinds 5 and 6, and on any command for their own key; reads and updates of other keys
+/// are independent of them." There is no kind 5 or 6 yet. Of the rest, document 01: "two updates of
+/// one key; an update and a read of one key. All other pairs are independent."
 pub fn dependent(first: &Command, second: &Command) -> bool {
     let same_key = first.key == second.key;
     match (first.kind, second.kind) {
-        (Kind::Insert | Kind::Delete, _) | (_, Kind::Insert | Kind::Delete) => true,
+        (Kind::Insert | Kind::Delete, Kind::Insert | Kind::Delete) => true,
+        (Kind::Insert | Kind::Delete, Kind::Read | Kind::Update)
+        | (Kind::Read | Kind::Update, Kind::Insert | Kind::Delete)
+        | (Kind::Update, Kind::Update | Kind::Read)
+        | (Kind::Read, Kind::Update) => same_key,
         (Kind::Read, Kind::Read) => false,
-        (Kind::Update, Kind::Update | Kind::Read) | (Kind::Read, Kind::Update) => same_key,
     }
 }
 
@@ -203,25 +211,41 @@ mod tests {
         assert!(pair(Kind::Read, Kind::Update, 5));
     }
 
-    /// Document 01, marked case (h).
+    /// Document 01, marked case (h), as document 02's A.5 has it.
     #[test]
-    fn an_insert_and_a_read_of_another_key_are_dependent() {
-        assert!(pair(Kind::Insert, Kind::Read, 6));
-        assert!(pair(Kind::Read, Kind::Insert, 6));
+    fn an_insert_and_a_read_of_another_key_are_independent() {
+        assert!(!pair(Kind::Insert, Kind::Read, 6));
+        assert!(!pair(Kind::Read, Kind::Insert, 6));
     }
 
-    /// Document 01, section "Command list and store": all pairs of kinds, in the order insert,
-    /// delete, read, update, for one key and for two.
+    /// Documents 01 and 02, A.5: all pairs of kinds, and whether they are dependent with one key
+    /// and with two.
     #[test]
-    fn dependence_is_as_the_document_lists_it() {
-        let row = |first, key| Kind::ALL.map(|second| pair(first, second, key));
-        for key in [5, 6] {
-            assert_eq!(row(Kind::Insert, key), [true; 4]);
-            assert_eq!(row(Kind::Delete, key), [true; 4]);
+    fn dependence_is_as_the_documents_list_it() {
+        use Kind::{Delete, Insert, Read, Update};
+        let table = [
+            (Insert, Insert, [true, true]),
+            (Insert, Delete, [true, true]),
+            (Insert, Read, [true, false]),
+            (Insert, Update, [true, false]),
+            (Delete, Insert, [true, true]),
+            (Delete, Delete, [true, true]),
+            (Delete, Read, [true, false]),
+            (Delete, Update, [true, false]),
+            (Read, Insert, [true, false]),
+            (Read, Delete, [true, false]),
+            (Read, Read, [false, false]),
+            (Read, Update, [true, false]),
+            (Update, Insert, [true, false]),
+            (Update, Delete, [true, false]),
+            (Update, Read, [true, false]),
+            (Update, Update, [true, false]),
+        ];
+        for (first, second, [one, two]) in table {
+            assert_eq!(pair(first, second, 5), one, "{first:?} {second:?}");
+            for key in [0, 4, 6, 5 + (1 << 32), identifier::LARGEST_KEY] {
+                assert_eq!(pair(first, second, key), two, "{first:?} {second:?}, {key}");
+            }
         }
-        assert_eq!(row(Kind::Read, 5), [true, true, false, true]);
-        assert_eq!(row(Kind::Read, 6), [true, true, false, false]);
-        assert_eq!(row(Kind::Update, 5), [true; 4]);
-        assert_eq!(row(Kind::Update, 6), [true, true, false, false]);
     }
 }

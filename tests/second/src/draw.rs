@@ -253,7 +253,7 @@ mod tests {
             "answer 1000",
             "answer 7",
             "waits for 1",
-            "1 (an insert) until turn 12",
+            "1 (same item) until turn 12",
         ] {
             assert!(picture.contains(&format!(">{words}<")), "{words}");
         }
@@ -276,6 +276,25 @@ mod tests {
             assert!(picture.contains(&format!(">{words}<")), "{words}");
         }
         assert_eq!(picture.matches(": looked up<").count(), 1);
+    }
+
+    /// Document 02, A.5: the delete waits for the insert of another item, the reads for commands of
+    /// their own item alone.
+    #[test]
+    fn waits_are_told_with_their_reasons() {
+        let list = "insert AA000000005AA 7\nread RR473124829GB\nread AA000000005AA\n\
+                    delete RR473124829GB\nread RR473124829GB";
+        let loads = vec!["0"; 20].join(",");
+        let options = format!("--size 5 --workers 1 --room 4 --turns-file {loads}");
+        let picture = draw(&input(&options, list));
+        assert_eq!(marks_below_legend(&picture, "arrow"), 4);
+        for words in [
+            "1 (same item) to the end",
+            "1 (an insert) to the end; 2 (same item) to the end",
+            "4 (same item) to the end",
+        ] {
+            assert_eq!(picture.matches(&format!(">{words}<")).count(), 1, "{words}");
+        }
     }
 
     /// Document 02, A.7: the answers stand at the records and in the table.

@@ -37,12 +37,14 @@ pub enum Sort {
     Announcements,
     /// Runs in which reads are done beside other commands.
     Reads,
+    /// Runs in which reads and updates pass inserts and deletes of other items, or are passed.
+    Passes,
     /// An input of the program.
     Programs,
 }
 
 impl Sort {
-    pub const ALL: [Sort; 9] = [
+    pub const ALL: [Sort; 10] = [
         Sort::Identifiers,
         Sort::Keys,
         Sort::Commands,
@@ -51,6 +53,7 @@ impl Sort {
         Sort::Runs,
         Sort::Announcements,
         Sort::Reads,
+        Sort::Passes,
         Sort::Programs,
     ];
 
@@ -64,6 +67,7 @@ impl Sort {
             Sort::Runs => "runs",
             Sort::Announcements => "announcements",
             Sort::Reads => "reads",
+            Sort::Passes => "passes",
             Sort::Programs => "programs",
         }
     }
@@ -223,17 +227,22 @@ mod tests {
     }
 
     /// After a pair is loaded, record 1 is in the set of record 2 exactly if they are dependent.
+    /// Every two kinds are met with one key and with two, and are always dependent there or never.
     #[test]
     fn pairs_show_dependence_and_independence() {
-        let mut counts = [0; 2];
+        let mut counts = BTreeMap::<(u8, u8, bool, bool), usize>::new();
         for (_, case) in cases(1).iter().filter(|(sort, _)| *sort == Sort::Pairs) {
             let run = outcome(case).0.run().expect("a right pair is opened");
+            let [first, second] = [&run.commands[0], &run.commands[1]];
             let found = run.records.set[2] == [2, 0, 0];
-            assert_eq!(found, dependent(&run.commands[0], &run.commands[1]));
+            assert_eq!(found, dependent(first, second));
             assert!(found || run.records.set[2] == [0; 3]);
-            counts[usize::from(found)] += 1;
+            let [one, other] = [first, second].map(|it| it.kind.number());
+            let met = (one, other, first.key == second.key, found);
+            *counts.entry(met).or_default() += 1;
         }
-        assert!(counts.iter().all(|count| *count > 1_000), "{counts:?}");
+        assert_eq!(counts.len(), 2 * 16, "{counts:?}");
+        assert!(counts.values().all(|count| *count >= 20), "{counts:?}");
     }
 
     /// A right insert that is opened alone is served, so that its key and chute are seen.

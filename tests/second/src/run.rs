@@ -46,6 +46,9 @@ pub struct Records {
 
 /// What a party is doing. `at` is the record it stands on and has locked, `own` the record it
 /// loads or removes, `found` the chute that its look-up found, 0 for none.
+///
+/// Document 02, A.5: "A store entry may now move between a worker's look and its writing, so the
+/// look keeps what was found and not its place in the store."
 #[derive(Clone, Copy, Debug, PartialEq, Eq, Hash)]
 pub enum Party {
     Idle,
@@ -218,15 +221,20 @@ impl Run {
     }
 
     /// Writes store and answer. The answer follows from what the look-up found, as the chute that a
-    /// read answers does, and the store does what the answer says.
+    /// read answers does, and the store does what the answer says, to the entry of the command's key
+    /// at whatever place it stands now.
     ///
-    /// This holds too in a run that no dealing reaches, where the store may not have what an
-    /// insert's look-up found:
-    /// - It found nothing, and the item is there. With a place free the answer is 1000, and the
-    ///   entry that is there gets the chute: a done insert leaves its item with its chute, and
+    /// This holds too in a run that no dealing reaches, where the store may not have what the
+    /// look-up found:
+    /// - An insert found nothing, and the item is there. With a place free the answer is 1000, and
+    ///   the entry that is there gets the chute: a done insert leaves its item with its chute, and
     ///   ascending keys hold no key twice. In a full store it is 1003, which changes no entry.
     /// - It found a chute, and the item is not there. The answer is 1004, which sets the chute of
     ///   an entry and puts none in: with or without a free place nothing changes, as by an update.
+    /// - A delete or an update found nothing, and the item is there. The answer is 1002, which
+    ///   changes no entry.
+    /// - It found a chute, and the item is not there. The answer is 1000, and there is no entry to
+    ///   take out or to set.
     ///
     /// There a worker may also be looked-up for a read: its turn answers what the look-up found and
     /// does not look again, as the turn of every looked-up worker.
@@ -586,6 +594,99 @@ mod tests {
         assert_eq!(run.answers, [1000, 1004, 8]);
     }
 
+    /// A run whose store has items 4 and 5, with chutes 40 and 50, and whose commands are loaded.
+    fn beside(workers: u8, room: u16, commands: &[Command]) -> Run {
+        let count = commands.len();
+        let mut run = Run::open(settings(count as u8, workers, room), commands.to_vec());
+        run.store.insert(4, 40);
+        run.store.insert(5, 50);
+        run.advance(&vec![0; count * (count + 3) / 2]);
+        assert_eq!((run.chain().count(), run.parties[0]), (count, Party::Idle));
+        run
+    }
+
+    /// Document 02, A.5, by turns: worker 1 is between the look-up and the writing of an insert or a
+    /// delete, with and without a place free. Worker 2 answers the read of another item that was
+    /// delivered later; the read of the same item waits.
+    #[test]
+    fn a_read_is_answered_between_look_up_and_writing_of_an_insert_or_delete() {
+        let cases = [
+            (Kind::Insert, 6, 3, 1000),
+            (Kind::Insert, 6, 2, 1003),
+            (Kind::Insert, 4, 2, 1004),
+            (Kind::Delete, 4, 2, 1000),
+            (Kind::Delete, 6, 2, 1002),
+        ];
+        for (kind, key, room, answer) in cases {
+            let commands = [
+                command(kind, key, 9),
+                command(Kind::Read, key, 0),
+                command(Kind::Read, 5, 0),
+            ];
+            let mut run = beside(2, room, &commands);
+            let sets = [1, 2, 3].map(|record| run.records.set[record]);
+            assert_eq!(sets, [[0; 3], [2, 0, 0], [0; 3]]);
+            run.advance(&[1, 1, 1, 2, 2, 2, 2]);
+            assert_eq!(run.parties[2], Party::Holding { own: 3 });
+            assert!(matches!(run.parties[1], Party::LookedUp { own: 1, .. }));
+            run.advance(&[2]);
+            assert_eq!(run.answers, [0, 0, 50], "{kind:?} of {key}");
+            run.advance(&[1]);
+            assert_eq!(run.answers, [answer, 0, 50], "{kind:?} of {key}");
+        }
+    }
+
+    /// Document 02, A.5, by turns: an update is looked-up, an entry is put in or taken out below its
+    /// own or above, and the update is written.
+    #[test]
+    fn an_update_is_written_where_its_entry_stands_then() {
+        let cases = [
+            (Kind::Insert, 3, [3, 4, 5], [9, 40, 8]),
+            (Kind::Insert, 6, [4, 5, 6], [40, 8, 9]),
+            (Kind::Delete, 4, [5, 0, 0], [8, 0, 0]),
+        ];
+        for (kind, key, keys, chutes) in cases {
+            let commands = [command(kind, key, 9), command(Kind::Update, 5, 8)];
+            let mut run = beside(2, 3, &commands);
+            run.advance(&[1, 1, 1, 2, 2, 2, 2]);
+            let looked_up = Party::LookedUp { own: 2, found: 50 };
+            assert_eq!(run.parties[2], looked_up);
+            run.advance(&[1]);
+            assert_eq!(
+                (run.parties[2], &run.answers[..]),
+                (looked_up, &[1000, 0][..])
+            );
+            run.advance(&[2]);
+            assert_eq!(run.answers, [1000; 2]);
+            assert_eq!(
+                (run.store.keys, run.store.chutes),
+                (keys.to_vec(), chutes.to_vec())
+            );
+        }
+    }
+
+    /// Document 02, A.5: inserts and deletes wait for one another, and so does what follows on
+    /// their items; an update of another item waits for none of them.
+    #[test]
+    fn inserts_and_deletes_keep_their_order() {
+        let commands = [
+            command(Kind::Insert, 6, 9),
+            command(Kind::Delete, 4, 0),
+            command(Kind::Update, 5, 8),
+            command(Kind::Update, 4, 7),
+            command(Kind::Insert, 5, 6),
+        ];
+        let mut run = beside(3, 3, &commands);
+        let sets = [1, 2, 3, 4, 5].map(|record| run.records.set[record][0]);
+        assert_eq!(sets, [0, 0b10, 0, 0b100, 0b1110]);
+        run.advance(&[1, 1, 1, 2, 2, 2, 2, 2, 2]);
+        assert!(matches!(run.parties[1], Party::LookedUp { own: 1, .. }));
+        assert_eq!(run.parties[2], Party::Written { own: 3 });
+        run.advance(&[3; 7]);
+        assert_eq!(run.parties[3], Party::Idle, "all others wait");
+        assert_eq!(run.answers, [0, 0, 1000, 0, 0]);
+    }
+
     /// A store with two entries.
     fn store(keys: &[u64], chutes: &[u16]) -> Store {
         Store {
@@ -626,6 +727,20 @@ mod tests {
             assert_eq!(written(INSERT, 3, [4, 6], found), (1004, part_full));
             let full = store(&[4, 6], &[40, 60]);
             assert_eq!(written(INSERT, 2, [4, 6], found), (1004, full));
+        }
+    }
+
+    /// As the answers say: 1002 changes no entry, and 1000 none where the item is not there.
+    #[test]
+    fn a_delete_or_update_answers_what_it_found() {
+        for kind in [Kind::Delete, Kind::Update] {
+            let it = command(kind, 5, 9);
+            let present = store(&[4, 5, 0], &[40, 50, 0]);
+            assert_eq!(written(it, 3, [4, 5], 0), (1002, present));
+            for found in [1, 9, 50, 512, 513, u16::MAX] {
+                let absent = store(&[4, 6, 0], &[40, 60, 0]);
+                assert_eq!(written(it, 3, [4, 6], found), (1000, absent));
+            }
         }
     }
 

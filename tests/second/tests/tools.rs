@@ -4,6 +4,7 @@
 use std::io::Write;
 use std::process::{Command, Stdio};
 
+use second::program;
 use second::text::input::EXAMPLE;
 
 const TEXT: &str = env!("CARGO_BIN_EXE_depot_text");
@@ -40,6 +41,33 @@ fn the_example_is_packed_unpacked_and_drawn() {
     let (status, picture, words) = run(DRAW, &[], EXAMPLE);
     assert_eq!((status, words), (Some(0), String::new()));
     assert!(picture.starts_with(b"<svg ") && picture.ends_with(b"</svg>\n"));
+}
+
+/// The worked example of README.md: the picture that is kept is that of its list and turns, at the
+/// end of which nothing is left in the chain. Command 3, a read, is answered between the look-up and
+/// the writing of command 2, an insert of another item.
+#[test]
+fn the_worked_example_is_drawn_as_it_is_kept() {
+    const FOLDER: &str = concat!(env!("CARGO_MANIFEST_DIR"), "/../../examples");
+    let kept = |name: &str| std::fs::read(format!("{FOLDER}/{name}")).expect("the example's file");
+    let turns = format!("{FOLDER}/wait.turns");
+    let settings = ["pack", "--size", "5", "--workers", "2", "--room", "4"];
+    let options = [&settings[..], &["--turns-file", &turns]].concat();
+    let (_, packed, _) = run(TEXT, &options, &kept("wait.txt"));
+    let (_, picture, _) = run(DRAW, &[], &packed);
+    assert!(
+        picture == kept("wait.svg"),
+        "depot_draw draws another picture"
+    );
+    assert!(program::output(&packed).ends_with("\nstore 2 chain 0\n"));
+    let picture = String::from_utf8(picture).unwrap();
+    for told in [
+        "turn 44, worker 1: looked up",
+        "turn 46, worker 2: looks up and writes answer 3 of command 3",
+        "turn 54, worker 1: writes answer 1000 of command 2",
+    ] {
+        assert!(picture.contains(&format!(">{told}<")), "{told}");
+    }
 }
 
 #[test]

@@ -8,9 +8,9 @@ use crate::text::input::Input;
 use crate::text::show_command;
 
 const HEADING: &str = "What became of each command, and at which turn";
-const RULE: &str = "An insert or a delete waits for every command before it, and every later one \
-waits for it. An update and an update or read of the same item wait for one another; all else goes \
-side by side.";
+const RULE: &str = "A command waits for every earlier one of the same item, but a read not for a \
+read. Inserts and deletes also wait for one another, whatever their items. All else goes side by \
+side.";
 /// The most commands that the table names.
 const MOST: usize = 24;
 /// Where each column begins, and its heading.
@@ -94,14 +94,13 @@ impl Page<'_> {
     }
 }
 
-/// Why a command waits for an earlier one that it depends on.
+/// Why a command waits for an earlier one that it depends on. None waits for a read or an update of
+/// another item.
 fn why(earlier: &Command, later: &Command) -> &'static str {
-    match (earlier.kind, later.kind) {
-        (Kind::Insert, _) => "an insert",
-        (Kind::Delete, _) => "a delete",
-        (_, Kind::Insert) => "inserts wait for all",
-        (_, Kind::Delete) => "deletes wait for all",
-        _ => "same item",
+    match (earlier.kind, earlier.key == later.key) {
+        (Kind::Insert, false) => "an insert",
+        (Kind::Delete, false) => "a delete",
+        (Kind::Read | Kind::Update, false) | (_, true) => "same item",
     }
 }
 

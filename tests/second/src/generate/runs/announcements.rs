@@ -2,9 +2,9 @@
 //! part-full stores, with and without reads of the item before it and after it. They are dealt in
 //! orders of every sort, and some are handed back with a look-up that the store contradicts.
 
-use super::changes;
-use super::dealings::{self, Entry, Played, WAYS, commands, keys, with_changes};
+use super::dealings::{Dealing, Entry, Played, WAYS, commands, keys};
 use super::openings::Opening;
+use super::{changes, schedules};
 use crate::command::Kind::{Delete, Insert, Read, Update};
 use crate::play::Play;
 use crate::random::Random;
@@ -45,16 +45,17 @@ const LAST: [&[Entry]; 4] = [
     &[(Delete, ITEM), (Insert, ABSENT), (Insert, ITEM)],
 ];
 
+/// Behind each look-up of an insert, the lists are handed over once with another finding.
+const DEALING: Dealing<u16> = Dealing {
+    to_the_end: schedules::to_the_end,
+    seen: insert_looked_up,
+    changes: &[changes::found],
+};
+
 /// Plays the run of a number below the count.
 pub fn play(number: u64, random: &mut Random, play: &mut Play) -> Played {
     let opening = opening(number % FORMS, random);
-    dealings::play(opening, number / FORMS % WAYS, contradicted, random, play)
-}
-
-/// To the end; behind each look-up of an insert, the lists are handed over once with another
-/// finding, on a copy.
-fn contradicted(random: &mut Random, play: &mut Play) -> Played {
-    with_changes(insert_looked_up, &[changes::found], random, play)
+    DEALING.play(opening, number / FORMS, random, play)
 }
 
 /// What a party's look-up for an insert found, if the party has just made one.

@@ -1,13 +1,14 @@
 //! Handed-back lists that were changed: single bytes at every offset, settings with lists that fit
-//! them or do not, and what a look-up found. What is accepted is stepped on.
+//! them or do not, what a look-up found, and the store. What is accepted is stepped on.
 
 use super::openings::Opening;
 use super::{apart, reports, schedules};
-use crate::bytes::{KEY, NUMBER, PARTY, PARTY_BYTES, STATE};
+use crate::bytes::{KEY, NUMBER, PARTY, PARTY_BYTES, STATE, USED, write_numbers, write_words};
 use crate::command::{LARGEST_CHUTE, LENGTH};
 use crate::play::{Difference, Play};
 use crate::random::Random;
 use crate::script::{List, Step};
+use crate::store::Store;
 
 /// Offsets that one run changes.
 const OFFSETS: u64 = 24;
@@ -178,16 +179,29 @@ fn value(random: &mut Random, play: &Play, offset: usize) -> u8 {
     if value == now { now ^ 1 } else { value }
 }
 
-/// Gives a byte of a list a value.
+/// Gives a byte of a list a value, if it has another.
 fn set(play: &mut Play, list: List, offset: usize, value: u8) -> Result<(), Difference> {
     let bits = value ^ play.host().list(list)[offset];
-    play.take(Step::Change { list, offset, bits })?;
+    if bits != 0 {
+        play.take(Step::Change { list, offset, bits })?;
+    }
     Ok(())
 }
 
 fn number(play: &Play, offset: usize) -> u16 {
     let state = play.host().list(List::State);
     u16::from_be_bytes([state[offset], state[offset + 1]])
+}
+
+/// Makes the store another one of the same room.
+pub fn set_store(play: &mut Play, store: &Store) -> Result<(), Difference> {
+    let mut keys = vec![0; store.keys.len() * KEY];
+    let mut chutes = vec![0; store.chutes.len() * NUMBER];
+    write_words(&store.keys, &mut keys);
+    write_numbers(&store.chutes, &mut chutes);
+    set_bytes(play, List::Keys, 0, &keys)?;
+    set_bytes(play, List::Chutes, 0, &chutes)?;
+    set_number(play, USED, store.used)
 }
 
 /// Gives two bytes of the state a number.

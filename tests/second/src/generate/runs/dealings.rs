@@ -7,6 +7,7 @@ use super::{apart, feed, reports, schedules};
 use crate::command::Kind;
 use crate::generate::commands::with_key;
 use crate::generate::random_key;
+use crate::host::Host;
 use crate::identifier::LARGEST_KEY;
 use crate::play::{Difference, Play};
 use crate::random::Random;
@@ -30,51 +31,82 @@ pub type Entry = (Kind, usize);
 /// the turns dealt then.
 pub type Change<T> = fn(u8, T, &mut Random, &mut Play) -> Played;
 
-/// Opens and deals in the way of a number; the last way is the one that is given.
-pub fn play(
-    opening: Opening,
-    way: u64,
-    last: fn(&mut Random, &mut Play) -> Played,
-    random: &mut Random,
-    play: &mut Play,
-) -> Played {
-    let input = opening.input(&[]);
-    opening.open(play)?;
-    match way % WAYS {
-        0 => call_by_call(random, play)?,
-        1 => in_any_order(random, play)?,
-        2 => also_by_the_program(input, random, play)?,
-        _ => last(random, play)?,
-    }
-    reports(play)?;
-    play.take(Step::Serial)?;
-    Ok(())
+/// How the runs of a sort are dealt.
+pub struct Dealing<T: 'static> {
+    /// Turns to the end of a run, or as many as are allowed.
+    pub to_the_end: fn(&mut Random, &Host, usize) -> Vec<u8>,
+    /// What is seen of a party behind its turn, and the changes that are made where it is.
+    pub seen: fn(&Run, u8) -> Option<T>,
+    pub changes: &'static [Change<T>],
 }
 
-/// To the end; behind each turn after which something is seen of its party, the lists are handed
-/// over with each of the changes, on a copy.
-pub fn with_changes<T: Copy>(
-    seen: fn(&Run, u8) -> Option<T>,
-    changes: &[Change<T>],
-    random: &mut Random,
-    play: &mut Play,
-) -> Played {
-    let Some(mut run) = play.host().run() else {
-        return Ok(());
-    };
-    let mut piece = Vec::new();
-    for party in schedules::to_the_end(random, play.host(), MOST) {
-        run.turn(party);
-        piece.push(party);
-        if let Some(seen) = seen(&run, party) {
-            play.take(Step::Advance(mem::take(&mut piece)))?;
-            for change in changes {
-                apart(play, |play| change(party, seen, random, play))?;
+impl<T: Copy> Dealing<T> {
+    /// Opens and deals in the way of a number.
+    pub fn play(&self, opening: Opening, way: u64, random: &mut Random, play: &mut Play) -> Played {
+        let input = opening.input(&[]);
+        opening.open(play)?;
+        match way % WAYS {
+            0 => self.call_by_call(random, play)?,
+            1 => in_any_order(random, play)?,
+            2 => self.also_by_the_program(input, random, play)?,
+            _ => self.with_changes(random, play)?,
+        }
+        reports(play)?;
+        play.take(Step::Serial)?;
+        Ok(())
+    }
+
+    /// To the end, held against the serial run after each call; a short run has a call for each
+    /// turn.
+    fn call_by_call(&self, random: &mut Random, play: &mut Play) -> Played {
+        let schedule = (self.to_the_end)(random, play.host(), MOST);
+        for piece in schedule.chunks(schedule.len() / CALLS + 1) {
+            play.take(Step::Advance(piece.to_vec()))?;
+            play.take(Step::Serial)?;
+        }
+        Ok(())
+    }
+
+    /// To the end by calls and by the program; its input is given up to the turns.
+    fn also_by_the_program(
+        &self,
+        mut input: Vec<u8>,
+        random: &mut Random,
+        play: &mut Play,
+    ) -> Played {
+        let schedule = (self.to_the_end)(random, play.host(), MOST);
+        feed(random, play, &schedule)?;
+        input.extend(schedule);
+        play.take(Step::Program(input))?;
+        Ok(())
+    }
+
+    /// To the end; behind each turn after which something is seen of its party, the lists are
+    /// handed over with each of the changes, on a copy.
+    fn with_changes(&self, random: &mut Random, play: &mut Play) -> Played {
+        let Some(mut run) = play.host().run() else {
+            return Ok(());
+        };
+        let mut piece = Vec::new();
+        for party in (self.to_the_end)(random, play.host(), MOST) {
+            run.turn(party);
+            piece.push(party);
+            if let Some(seen) = (self.seen)(&run, party) {
+                play.take(Step::Advance(mem::take(&mut piece)))?;
+                for change in self.changes {
+                    apart(play, |play| change(party, seen, random, play))?;
+                }
             }
         }
+        play.take(Step::Advance(piece))?;
+        Ok(())
     }
-    play.take(Step::Advance(piece))?;
-    Ok(())
+}
+
+/// Turns of any sort, in most cases to the end.
+fn in_any_order(random: &mut Random, play: &mut Play) -> Played {
+    let schedule = schedules::any(random, play.host());
+    feed(random, play, &schedule)
 }
 
 /// A list of such commands; chutes are any that are right.
@@ -99,38 +131,12 @@ pub fn keys(random: &mut Random, count: usize) -> Vec<u64> {
     keys
 }
 
-/// To the end, held against the serial run after each call; a short run has a call for each turn.
-fn call_by_call(random: &mut Random, play: &mut Play) -> Played {
-    let schedule = schedules::to_the_end(random, play.host(), MOST);
-    for piece in schedule.chunks(schedule.len() / CALLS + 1) {
-        play.take(Step::Advance(piece.to_vec()))?;
-        play.take(Step::Serial)?;
-    }
-    Ok(())
-}
-
-/// Turns of any sort, in most cases to the end.
-fn in_any_order(random: &mut Random, play: &mut Play) -> Played {
-    let schedule = schedules::any(random, play.host());
-    feed(random, play, &schedule)
-}
-
-/// To the end by calls and by the program; its input is given up to the turns.
-fn also_by_the_program(mut input: Vec<u8>, random: &mut Random, play: &mut Play) -> Played {
-    let schedule = schedules::to_the_end(random, play.host(), MOST);
-    feed(random, play, &schedule)?;
-    input.extend(schedule);
-    play.take(Step::Program(input))?;
-    Ok(())
-}
-
 /// What the tests of such runs look at.
 #[cfg(test)]
 pub mod testing {
     use super::*;
     use crate::depot::Second;
     use crate::generate::runs;
-    use crate::host::Host;
 
     /// The steps of a run, and how it stands after them.
     pub struct Done {

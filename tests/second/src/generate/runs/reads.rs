@@ -1,13 +1,12 @@
-//! Reads, each done in one turn: of items that are there and that are not, beside other reads and
-//! updates in each of their states and beside the clearing of inserts and deletes. They are dealt in
-//! orders of every sort, and some are handed back as no dealing leaves them: looked-up with any
-//! finding, beside a worker that is about to write the same item, with another command, a refused
-//! one or none.
+//! Reads, each done in one turn: of items that are there and that are not, beside other commands in
+//! each of their states. They are dealt in orders of every sort, and some are handed back as no
+//! dealing leaves them: looked-up with any finding, beside a worker that is about to write the same
+//! item, with another command, a refused one or none.
 
 use super::changes::{set_bytes, set_number, step_on};
-use super::dealings::{self, Change, Entry, Played, WAYS, commands, keys, with_changes};
+use super::dealings::{Change, Dealing, Entry, Played, WAYS, commands, keys};
 use super::openings::Opening;
-use super::reports;
+use super::{reports, schedules};
 use crate::bytes::{NUMBER, PARTY, PARTY_BYTES, PLACE, party_bytes};
 use crate::command::Kind::{self, Delete, Insert, Read, Update};
 use crate::command::{LARGEST_CHUTE, LENGTH};
@@ -39,7 +38,7 @@ const BESIDE: [&[Entry]; 4] = [
     &[(Read, ABSENT), (Update, OTHER), (Read, ITEM)],
     &[(Update, ITEM), (Read, ITEM), (Update, OTHER)],
 ];
-/// What the later reads wait for.
+/// What later commands of the same item wait for.
 const CHANGE: [&[Entry]; 4] = [
     &[],
     &[(Delete, OTHER)],
@@ -88,16 +87,17 @@ const CHANGES: [Change<Held>; 7] = [
     without_a_command,
 ];
 
+/// Behind each turn that takes a command, the lists are handed over with each of the changes.
+const DEALING: Dealing<Held> = Dealing {
+    to_the_end: schedules::to_the_end,
+    seen: held,
+    changes: &CHANGES,
+};
+
 /// Plays the run of a number below the count.
 pub fn play(number: u64, random: &mut Random, play: &mut Play) -> Played {
     let opening = opening(number % FORMS, random);
-    dealings::play(opening, number / FORMS % WAYS, changed, random, play)
-}
-
-/// To the end; behind each turn that takes a command, the lists are handed over with each of the
-/// changes, on a copy.
-fn changed(random: &mut Random, play: &mut Play) -> Played {
-    with_changes(held, &CHANGES, random, play)
+    DEALING.play(opening, number / FORMS, random, play)
 }
 
 /// The record that a party holds, if it has just taken one.
@@ -231,7 +231,6 @@ fn other_than(random: &mut Random, it: usize, most: usize) -> usize {
 
 #[cfg(test)]
 mod tests {
-    use std::collections::BTreeMap;
     use std::sync::LazyLock;
 
     use super::*;
@@ -239,66 +238,16 @@ mod tests {
     use crate::depot::Second;
     use crate::generate::runs::READS;
     use crate::generate::runs::dealings::testing::{Done, assert_made_from_the_seed, done, noted};
+    use crate::generate::runs::services::{
+        self, CLEARING, HOLDING, LOOKED_UP, Service, WALKING, WRITTEN, counts, service,
+    };
 
     static PLAYED: LazyLock<Vec<Done>> = LazyLock::new(|| {
         let indexes = READS..READS + COUNT;
         indexes.map(|index| done(1, index)).collect()
     });
 
-    /// A turn of a worker that holds a record or is looked-up.
-    struct Service {
-        before: Party,
-        after: Party,
-        kind: Option<Kind>,
-        /// What the store has of the item before the turn, 0 for none.
-        chute: u16,
-        /// After the turn.
-        answer: u16,
-        /// Those of the other workers' records, and whether the item is the same.
-        beside: Vec<(Beside, bool)>,
-        /// Whether it is on a copy, which may have been changed.
-        apart: bool,
-    }
-
-    /// The numbers of a kind and of the state of a worker that has such a command.
-    type Beside = (u8, u8);
-
-    /// Deals a turn, and notes it if the worker holds a record or is looked-up.
-    fn service(run: &mut Run, worker: u8, apart: bool) -> Option<Service> {
-        let before = run.parties[usize::from(worker)];
-        let (Party::Holding { own } | Party::LookedUp { own, .. }) = before else {
-            run.turn(worker);
-            return None;
-        };
-        let command = run.command(own);
-        let key = command.map(|it| it.key);
-        let chute = key.map_or(0, |key| run.store.chute(key));
-        let others = (1..=run.settings.workers).filter(|other| *other != worker);
-        let beside = others.filter_map(|other| beside(run, other, key)).collect();
-        run.turn(worker);
-        let place = usize::from(run.records.place[usize::from(own)]);
-        Some(Service {
-            before,
-            after: run.parties[usize::from(worker)],
-            kind: command.map(|it| it.kind),
-            chute,
-            answer: place.checked_sub(1).map_or(0, |index| run.answers[index]),
-            beside,
-            apart,
-        })
-    }
-
-    fn beside(run: &Run, other: u8, key: Option<u64>) -> Option<(Beside, bool)> {
-        let other = run.parties[usize::from(other)];
-        let command = run.command(other.own()?)?;
-        let state = standing(other)[0];
-        Some(((command.kind.number(), state), Some(command.key) == key))
-    }
-
-    static SERVICES: LazyLock<Vec<Service>> = LazyLock::new(|| {
-        let all = PLAYED.iter().flat_map(|done| noted(&done.steps, service));
-        all.collect()
-    });
+    static SERVICES: LazyLock<Vec<Service>> = LazyLock::new(|| services::services(&PLAYED));
 
     /// The services of all runs with a command of a kind, or with none.
     fn services(kind: Option<Kind>, apart: bool) -> impl Iterator<Item = &'static Service> {
@@ -306,25 +255,10 @@ mod tests {
         all.filter(move |it| it.kind == kind && it.apart == apart)
     }
 
-    /// How often each of these is met.
-    fn counts<T: Ord>(met: impl Iterator<Item = T>) -> BTreeMap<T, usize> {
-        let mut counts = BTreeMap::new();
-        for it in met {
-            *counts.entry(it).or_default() += 1;
-        }
-        counts
-    }
-
-    /// The states of a worker that has a record, by number.
-    const HOLDING: u8 = 3;
-    const LOOKED_UP: u8 = 4;
-    const WRITTEN: u8 = 5;
-    const WALKING: u8 = 6;
-    const CLEARING: u8 = 7;
-
     /// Document 02, A.8, wherever a dealing leads: a read is held and then written. Its turn finds
     /// a chute and finds none beside each state of another read, which is never looked-up, of an
-    /// update, and of an insert or delete, which is clearing already.
+    /// update, and of an insert or delete (A.5); one of the same item is clearing already, unless it
+    /// is a read.
     #[test]
     fn reads_are_done_in_one_turn_beside_every_other_command() {
         let mut met = Vec::new();
@@ -332,19 +266,26 @@ mod tests {
             assert!(matches!(it.before, Party::Holding { .. }));
             assert!(matches!(it.after, Party::Written { .. }));
             assert_eq!(it.answer, if it.chute == 0 { 1002 } else { it.chute });
-            let states = it.beside.iter();
-            met.extend(states.map(|(state, _)| (it.chute != 0, *state)));
+            for beside in &it.beside {
+                let free = !beside.same_item || beside.kind == Read.number();
+                assert!(free || beside.state == CLEARING, "{beside:?}");
+                met.push((it.chute != 0, beside.kind, beside.state));
+            }
         }
         let counts = counts(met.into_iter());
-        let reads = [HOLDING, WRITTEN, WALKING, CLEARING].map(|state| (3, state));
-        let updates = [HOLDING, LOOKED_UP, WRITTEN, WALKING, CLEARING].map(|state| (4, state));
-        let states = [&[(1, CLEARING), (2, CLEARING)], &reads[..], &updates].concat();
-        let expected = [false, true].map(|found| states.iter().map(move |it| (found, *it)));
-        assert!(
-            counts.keys().copied().eq(expected.into_iter().flatten()),
-            "{counts:?}"
-        );
-        assert!(counts.values().all(|count| *count >= 20), "{counts:?}");
+        let states = |kind: Kind| match kind {
+            Read => vec![HOLDING, WRITTEN, WALKING, CLEARING],
+            Insert | Delete | Update => vec![HOLDING, LOOKED_UP, WRITTEN, WALKING, CLEARING],
+        };
+        let mut expected = Vec::new();
+        for found in [false, true] {
+            for kind in Kind::ALL {
+                let states = states(kind).into_iter();
+                expected.extend(states.map(|state| (found, kind.number(), state)));
+            }
+        }
+        assert!(counts.keys().eq(&expected), "{counts:?}");
+        assert!(counts.values().all(|count| *count >= 10), "{counts:?}");
     }
 
     /// Document 02, A.8: other kinds are held, looked-up and written.
@@ -391,7 +332,10 @@ mod tests {
     fn reads_are_done_before_and_after_a_writer_of_their_item() {
         let met = services(Some(Read), true)
             .filter(|it| matches!(it.before, Party::Holding { .. }))
-            .flat_map(|it| it.beside.iter().map(|beside| (*beside, it.chute != 0)));
+            .flat_map(|it| {
+                let same_item = it.beside.iter().filter(|beside| beside.same_item);
+                same_item.map(|beside| (beside.kind, beside.state, it.chute != 0))
+            });
         let counts = counts(met);
         let expected: [(Kind, u8, &[bool]); 6] = [
             (Insert, LOOKED_UP, &[false, true]),
@@ -403,7 +347,7 @@ mod tests {
         ];
         for (kind, state, findings) in expected {
             for found in findings {
-                let met = counts.get(&(((kind.number(), state), true), *found));
+                let met = counts.get(&(kind.number(), state, *found));
                 assert!(met.is_some_and(|count| *count >= 20), "{kind:?} {counts:?}");
             }
         }

@@ -1,5 +1,6 @@
 //! Schedules of every sort, made by running the second program along.
 
+use crate::bytes::standing;
 use crate::host::Host;
 use crate::random::Random;
 use crate::run::{Party, Run};
@@ -22,7 +23,16 @@ enum Policy {
     Loading,
     /// Seldom one that is to look up or to write, so that others have turns before it does.
     Lingering,
+    /// All but the first worker that comes to one state, for several turns, and so on with another.
+    Pausing {
+        state: u8,
+        worker: Option<u8>,
+        left: u64,
+    },
 }
+
+/// The numbers of the states in which a worker has a record; holding and looked-up are picked most.
+const WITH_A_RECORD: [u8; 7] = [3, 3, 4, 4, 5, 6, 7];
 
 impl Policy {
     fn any(random: &mut Random, workers: u8) -> Policy {
@@ -47,6 +57,14 @@ impl Policy {
         }
     }
 
+    fn pausing(random: &mut Random) -> Policy {
+        Policy::Pausing {
+            state: random.pick(&WITH_A_RECORD),
+            worker: None,
+            left: 10 + random.below(40),
+        }
+    }
+
     fn next(&mut self, random: &mut Random, run: &Run) -> u8 {
         let workers = run.settings.workers;
         match self {
@@ -63,27 +81,38 @@ impl Policy {
                 *left -= 1;
                 *party
             }
-            Policy::Starving(party) => {
-                let other = any_party(random, workers);
-                if other == *party {
-                    (other + 1) % (workers + 1)
-                } else {
-                    other
-                }
-            }
+            Policy::Starving(party) => any_but(Some(*party), random, workers),
             Policy::RoundRobin(party) => {
                 *party = (*party + 1) % (workers + 1);
                 *party
             }
             Policy::Loading => any_party(random, workers) * random.below(2) as u8,
-            Policy::Lingering => loop {
-                let party = any_party(random, workers);
-                let now = run.parties[usize::from(party)];
-                let lingers = matches!(now, Party::Holding { .. } | Party::LookedUp { .. });
-                if !lingers || random.below(16) == 0 {
-                    break party;
-                }
-            },
+            Policy::Lingering => lingering(random, run),
+            Policy::Pausing { left: 0, .. } => {
+                *self = Policy::pausing(random);
+                self.next(random, run)
+            }
+            Policy::Pausing {
+                state,
+                worker,
+                left,
+            } => {
+                let comes = |it: &u8| standing(run.parties[usize::from(*it)])[0] == *state;
+                *worker = worker.or_else(|| (1..=workers).find(comes));
+                *left -= u64::from(worker.is_some());
+                any_but(*worker, random, workers)
+            }
+        }
+    }
+}
+
+fn lingering(random: &mut Random, run: &Run) -> u8 {
+    loop {
+        let party = any_party(random, run.settings.workers);
+        let now = run.parties[usize::from(party)];
+        let lingers = matches!(now, Party::Holding { .. } | Party::LookedUp { .. });
+        if !lingers || random.below(16) == 0 {
+            return party;
         }
     }
 }
@@ -109,10 +138,7 @@ pub fn filled(random: &mut Random, host: &Host) -> Vec<u8> {
     let Some(mut run) = host.run() else {
         return Vec::new();
     };
-    let mut schedule = Vec::new();
-    while run.turn(0) {
-        schedule.push(0);
-    }
+    let mut schedule = loaded(&mut run);
     let mut policy = Policy::any(random, run.settings.workers);
     let turns = random.below(MOST as u64) as usize;
     schedule.extend(deal(random, &mut run, &mut policy, turns));
@@ -128,6 +154,21 @@ pub fn to_the_end(random: &mut Random, host: &Host, most: usize) -> Vec<u8> {
     deal(random, &mut run, &mut policy, most)
 }
 
+/// The same, with the loader ahead and workers left in their states for a while, so that others pass
+/// them there.
+pub fn with_pauses(random: &mut Random, host: &Host, most: usize) -> Vec<u8> {
+    let Some(mut run) = host.run() else {
+        return Vec::new();
+    };
+    let mut schedule = loaded(&mut run);
+    let mut policy = match random.below(3) {
+        0 => Policy::Lingering,
+        _ => Policy::pausing(random),
+    };
+    schedule.extend(deal(random, &mut run, &mut policy, most));
+    schedule
+}
+
 /// Some turns, and who gets them is no matter; few enough for any state.
 pub fn some(random: &mut Random, workers: u8, most: u64) -> Vec<u8> {
     let turns = random.below(most);
@@ -140,6 +181,15 @@ pub fn refused(random: &mut Random, host: &Host) -> Vec<u8> {
     let mut schedule = some(random, workers, 10);
     let at = random.below(schedule.len() as u64 + 1) as usize;
     schedule.insert(at, random.pick(&[workers + 1, workers + 1, 65, 128, 255]));
+    schedule
+}
+
+/// Deals turns to the loader until it waits.
+fn loaded(run: &mut Run) -> Vec<u8> {
+    let mut schedule = Vec::new();
+    while run.turn(0) {
+        schedule.push(0);
+    }
     schedule
 }
 
@@ -159,4 +209,11 @@ fn deal(random: &mut Random, run: &mut Run, policy: &mut Policy, most: usize) ->
 
 fn any_party(random: &mut Random, workers: u8) -> u8 {
     random.below(u64::from(workers) + 1) as u8
+}
+
+fn any_but(party: Option<u8>, random: &mut Random, workers: u8) -> u8 {
+    match any_party(random, workers) {
+        other if Some(other) == party => (other + 1) % (workers + 1),
+        other => other,
+    }
 }

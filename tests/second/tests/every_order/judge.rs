@@ -1,0 +1,162 @@
+//! What is held against each state and each turn of a search.
+
+use second::command::Kind;
+use second::run::{Party, Run};
+use second::serial::{self, Outcome, Table};
+
+use crate::met::Pass;
+
+/// What the serial run gives.
+#[derive(Debug)]
+pub struct Judge {
+    outcome: Outcome,
+    table: Table,
+}
+
+impl Judge {
+    pub fn of(run: &Run) -> Judge {
+        let room = run.settings.room.into();
+        let outcome = serial::run(room, &run.commands);
+        let table = serial::table(room, &outcome.entries);
+        Judge { outcome, table }
+    }
+
+    pub fn hold(&self, run: &Run) {
+        for (index, answer) in run.answers.iter().enumerate() {
+            let place = index as u16 + 1;
+            let right = if is_written(run, place) {
+                self.outcome.answers[index]
+            } else {
+                0
+            };
+            assert_eq!(*answer, right, "answer {place} of {:?}", run.commands);
+        }
+        let count = run.commands.len() as u16;
+        if (1..=count).all(|place| is_removed(run, place)) {
+            assert_eq!(run.store.keys, self.table.keys);
+            assert_eq!(run.store.chutes, self.table.chutes);
+            assert_eq!(usize::from(run.store.used), self.table.used);
+        }
+        run.chain().for_each(|record| hold_set(run, record));
+    }
+}
+
+/// When two commands must keep their order.
+enum Order {
+    Always,
+    OneItem,
+    Never,
+}
+
+/// Documents 01 and 02, A.5, by hand: a row for each kind of the one, a column for the other.
+#[rustfmt::skip]
+const ORDER: [[Order; 4]; 4] = {
+    use Order::{Always, Never, OneItem};
+    [
+        // insert   delete   read     update
+        [Always,  Always,  OneItem, OneItem], // insert
+        [Always,  Always,  OneItem, OneItem], // delete
+        [OneItem, OneItem, Never,   OneItem], // read
+        [OneItem, OneItem, OneItem, OneItem], // update
+    ]
+};
+
+/// Whether commands of these kinds, of one item or of two, depend on one another.
+pub fn depends(first: Kind, second: Kind, same_item: bool) -> bool {
+    let [row, column] = [first, second].map(|kind| usize::from(kind.number()) - 1);
+    match ORDER[row][column] {
+        Order::Always => true,
+        Order::OneItem => same_item,
+        Order::Never => false,
+    }
+}
+
+/// Holds that a command passes no other that it depends on.
+pub fn hold_pass(pass: &Pass) {
+    assert!(
+        !depends(pass.earlier, pass.later, pass.same_item),
+        "{pass:?}"
+    );
+}
+
+/// Holds the set of a record in the chain: it has none but records of commands that were delivered
+/// earlier and that this one depends on, and all of these that are loaded and not yet written.
+fn hold_set(run: &Run, record: u8) {
+    let own = run.records.place[usize::from(record)];
+    let set = run.records.set[usize::from(record)];
+    for other in 1..=run.settings.size {
+        let place = run.records.place[usize::from(other)];
+        let earlier = (1..own).contains(&place) && {
+            let [one, two] = [place, own].map(|place| run.commands[usize::from(place) - 1]);
+            depends(one.kind, two.kind, one.key == two.key)
+        };
+        let waits = set[0] >> other & 1 == 1;
+        let right = if waits {
+            earlier
+        } else {
+            !earlier || is_written(run, place)
+        };
+        assert!(
+            right,
+            "{own} waits for {place}: {waits}, {:?}",
+            run.commands
+        );
+    }
+    assert_eq!([set[0] & 1, set[1], set[2]], [0; 3]);
+}
+
+/// Holds a turn that is no wait: the worker's state after it is one that the steps name, and the
+/// store changes at no turn but the writing turn of a kind that writes in it.
+pub fn hold_turn(run: &Run, party: u8, after: &Run) {
+    let [before, now] = [run, after].map(|run| run.parties[usize::from(party)]);
+    let kind = before
+        .own()
+        .and_then(|own| run.command(own))
+        .map(|it| it.kind);
+    assert!(
+        party == 0 || follows(before, now, kind),
+        "from {before:?} to {now:?}, {kind:?} of {:?}",
+        run.commands
+    );
+    let writes = matches!(before, Party::LookedUp { .. });
+    assert!(writes || after.store == run.store, "{before:?}, {kind:?}");
+}
+
+/// Whether a worker's turn leads from one state to the other (document 01, "Records and turns").
+/// Document 02, A.8: with a read, holding leads to written; looked-up is for other kinds.
+fn follows(before: Party, now: Party, kind: Option<Kind>) -> bool {
+    match (before, now) {
+        (Party::Holding { .. }, Party::Written { .. }) => kind == Some(Kind::Read),
+        (Party::Holding { .. }, Party::LookedUp { .. })
+        | (Party::LookedUp { .. }, Party::Written { .. }) => {
+            matches!(kind, Some(Kind::Insert | Kind::Delete | Kind::Update))
+        }
+        (Party::Idle, Party::Searching { .. })
+        | (
+            Party::Searching { .. },
+            Party::Searching { .. } | Party::Idle | Party::Holding { .. },
+        )
+        | (Party::Written { .. }, Party::Walking { .. })
+        | (Party::Walking { .. }, Party::Walking { .. } | Party::Clearing { .. })
+        | (Party::Clearing { .. }, Party::Clearing { .. } | Party::Idle) => true,
+        _ => false,
+    }
+}
+
+/// Whether the command's writing turn is over.
+pub fn is_written(run: &Run, place: u16) -> bool {
+    let wrote = |party: &Party| match *party {
+        Party::Written { own } | Party::Walking { own, .. } | Party::Clearing { own, .. } => {
+            run.records.place[usize::from(own)] == place
+        }
+        _ => false,
+    };
+    let parties = &run.parties[..=usize::from(run.settings.workers)];
+    is_removed(run, place) || parties.iter().any(wrote)
+}
+
+/// Whether the command was loaded and its record returned.
+fn is_removed(run: &Run, place: u16) -> bool {
+    let places = &run.records.place[..=usize::from(run.settings.size)];
+    place <= run.loaded && !places.contains(&place)
+}

@@ -1,0 +1,130 @@
+//! Every order of turns of small settings: all states that any dealing reaches, judged by the
+//! serial run, and all turns that lead from one to another. Demand 3 of document 00 is what is held
+//! against the states, and the order of a worker's states against the turns; the sets of the
+//! records, and who is written before whom, are held against the dependence of documents 01 and 02.
+
+mod judge;
+mod lists;
+mod met;
+mod search;
+
+use judge::depends;
+use lists::{beside, lists, served, settings};
+use met::Met;
+use search::every_order;
+use second::command::Command;
+use second::command::Kind::{self, Delete, Insert, Read, Update};
+
+/// What the settings of these sizes meet, with these commands, and up to two workers and two
+/// entries.
+fn met_by(sizes: &[u8], lists: &[Vec<Command>]) -> Met {
+    let mut met = Met::default();
+    for size in sizes {
+        for workers in 1..=2 {
+            for room in 1..=2 {
+                for list in lists {
+                    every_order(served(settings(*size, workers, room), &[], list), &mut met);
+                }
+            }
+        }
+    }
+    met
+}
+
+#[test]
+fn every_order_of_up_to_two_commands() {
+    for count in 0..=2 {
+        assert!(met_by(&[1, 2, 3], &lists(count, 2)).states >= 12);
+    }
+}
+
+/// Also: each command passes, in one order of turns or another, each that it does not depend on.
+/// That it passes no other is held at each turn.
+#[test]
+fn every_order_of_three_commands() {
+    let met = met_by(&[1, 2, 3], &lists(3, 2));
+    assert!(met.states > 1_000_000);
+    for earlier in Kind::ALL {
+        for later in Kind::ALL {
+            for same_item in [true, false] {
+                let it = (earlier, later, same_item);
+                let passes = met.count(|pass| (pass.earlier, pass.later, pass.same_item) == it);
+                assert_eq!(passes > 0, !depends(earlier, later, same_item), "{it:?}");
+            }
+        }
+    }
+}
+
+/// Four commands: all lists on one key, and every seventeenth on two keys.
+#[test]
+fn every_order_of_four_commands() {
+    let two_keys: Vec<Vec<Command>> = lists(4, 2).into_iter().step_by(17).collect();
+    let met = met_by(&[3], &[lists(4, 1), two_keys].concat());
+    assert!(met.states > 1_000_000);
+}
+
+/// A store that is filled first, and the lists that come then.
+struct Stocked {
+    keys: &'static [u64],
+    room: u16,
+    /// The lists have keys below this.
+    below: u64,
+    /// Of how many lists one is searched with two workers, and with three.
+    steps: [usize; 2],
+}
+
+impl Stocked {
+    const fn new(keys: &'static [u64], room: u16, below: u64, steps: [usize; 2]) -> Stocked {
+        Stocked {
+            keys,
+            room,
+            below,
+            steps,
+        }
+    }
+
+    fn met(&self) -> Met {
+        let mut met = Met::default();
+        let lists = beside(self.below);
+        for (workers, step) in [2, 3].into_iter().zip(self.steps) {
+            for list in lists.iter().step_by(step) {
+                let first = served(settings(3, workers, self.room), self.keys, list);
+                every_order(first, &mut met);
+            }
+        }
+        met
+    }
+
+    fn is_full(&self) -> bool {
+        self.keys.len() == self.room.into()
+    }
+}
+
+/// Full ones and ones with a place left. Key 0 is absent at first and below all others.
+const STOCKED: [Stocked; 4] = [
+    Stocked::new(&[1], 1, 2, [1, 9]),
+    Stocked::new(&[1], 2, 2, [1, 9]),
+    Stocked::new(&[1, 2], 2, 3, [5, 43]),
+    Stocked::new(&[1, 2], 3, 3, [5, 43]),
+];
+
+/// Document 02, A.5: reads and updates are written while an insert or a delete of another item that
+/// was delivered earlier is looked-up and unwritten, in full stores and in others; and entries move
+/// up and down between a worker's look-up and its writing, where there is more than one.
+#[test]
+fn every_order_beside_inserts_and_deletes() {
+    for stocked in STOCKED {
+        let met = stocked.met();
+        for earlier in [Insert, Delete] {
+            for later in [Read, Update] {
+                let passes = met.count(|pass| {
+                    let pair = (pass.earlier, pass.later) == (earlier, later);
+                    pair && pass.looked_up && pass.full == stocked.is_full()
+                });
+                assert!(passes > 0, "{earlier:?}, {later:?}, {:?}", stocked.keys);
+            }
+        }
+        let moved = met.moves.map(|turns| turns > 0);
+        assert_eq!(moved, [stocked.room > 1; 2], "{:?}", stocked.keys);
+    }
+}

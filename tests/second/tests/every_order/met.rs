@@ -1,0 +1,83 @@
+//! What the turns of searches meet: commands that pass others, and entries that move.
+
+use std::collections::HashMap;
+
+use second::command::Kind;
+use second::run::{Party, Run};
+
+use crate::judge::is_written;
+
+/// A command is written while one that was delivered earlier is not.
+#[derive(Clone, Copy, Debug, PartialEq, Eq, Hash)]
+pub struct Pass {
+    pub earlier: Kind,
+    pub later: Kind,
+    pub same_item: bool,
+    /// Whether a worker is between the look-up and the writing of the earlier one.
+    pub looked_up: bool,
+    /// Whether the store is full.
+    pub full: bool,
+}
+
+/// The passes of a turn that writes the command of a record.
+pub fn passes(run: &Run, own: u8) -> impl Iterator<Item = Pass> {
+    let places = 1..run.records.place[usize::from(own)];
+    let unwritten = places.filter(|place| !is_written(run, *place));
+    unwritten.filter_map(move |place| {
+        let earlier = run.commands[usize::from(place) - 1];
+        let later = run.command(own)?;
+        Some(Pass {
+            earlier: earlier.kind,
+            later: later.kind,
+            same_item: earlier.key == later.key,
+            looked_up: looked_up(run).any(|own| run.records.place[usize::from(own)] == place),
+            full: run.store.is_full(),
+        })
+    })
+}
+
+#[derive(Default)]
+pub struct Met {
+    pub states: usize,
+    /// How many turns have each.
+    passes: HashMap<Pass, usize>,
+    /// Turns at which an entry goes up, and goes down, while a worker is between the look-up and
+    /// the writing of a command of its item.
+    pub moves: [usize; 2],
+}
+
+impl Met {
+    /// How many passes are so.
+    pub fn count(&self, so: impl Fn(&Pass) -> bool) -> usize {
+        let passes = self.passes.iter().filter(|(pass, _)| so(pass));
+        passes.map(|(_, turns)| turns).sum()
+    }
+
+    pub fn note_pass(&mut self, pass: Pass) {
+        *self.passes.entry(pass).or_default() += 1;
+    }
+
+    /// Notes what a writing turn moves.
+    pub fn note_moves(&mut self, run: &Run, after: &Run) {
+        for own in looked_up(run) {
+            let key = run.command(own).map(|command| command.key);
+            let [before, now] = [run, after].map(|run| {
+                let used = &run.store.keys[..run.store.used.into()];
+                used.iter().position(|it| Some(*it) == key)
+            });
+            if let (Some(before), Some(now)) = (before, now) {
+                self.moves[0] += usize::from(now > before);
+                self.moves[1] += usize::from(now < before);
+            }
+        }
+    }
+}
+
+/// The records of the workers that are looked-up.
+fn looked_up(run: &Run) -> impl Iterator<Item = u8> {
+    let workers = &run.parties[1..=usize::from(run.settings.workers)];
+    workers.iter().filter_map(|party| match party {
+        Party::LookedUp { own, .. } => Some(*own),
+        _ => None,
+    })
+}

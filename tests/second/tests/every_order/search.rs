@@ -1,0 +1,102 @@
+//! The search of all states that dealings reach from a run.
+
+use std::collections::HashMap;
+
+use second::bytes::party_bytes;
+use second::run::{Party, Run};
+
+use crate::judge::{Judge, hold_pass, hold_turn};
+use crate::met::{Met, passes};
+
+/// The states of one setting, numbered as they are met, and which leads to which.
+#[derive(Default)]
+struct Search {
+    numbers: HashMap<Vec<u8>, usize>,
+    /// For each state, those that a turn leads from to it.
+    before: Vec<Vec<usize>>,
+    finished: Vec<usize>,
+}
+
+/// Searches all states that dealings reach from a run, judges each and each turn, and notes what
+/// is met.
+pub fn every_order(first: Run, met: &mut Met) {
+    let judge = Judge::of(&first);
+    let mut search = Search::default();
+    let mut left = Vec::from([(search.meet(&first), first)]);
+    while let Some((number, run)) = left.pop() {
+        judge.hold(&run);
+        for party in 0..=run.settings.workers {
+            let mut after = run.clone();
+            if !after.turn(party) {
+                assert_eq!(after, run, "a wait changes nothing");
+                continue;
+            }
+            hold_turn(&run, party, &after);
+            if let Party::Written { own } = after.parties[usize::from(party)] {
+                passes(&run, own).for_each(|pass| {
+                    hold_pass(&pass);
+                    met.note_pass(pass);
+                });
+                met.note_moves(&run, &after);
+            }
+            let known = search.before.len();
+            let to = search.meet(&after);
+            assert_ne!(to, number, "a turn that is no wait changes something");
+            search.before[to].push(number);
+            if to == known {
+                left.push((to, after));
+            }
+        }
+    }
+    let states = search.before.len();
+    assert_eq!(search.leading_to_a_finish(), states, "{judge:?}");
+    met.states += states;
+}
+
+impl Search {
+    /// The number of a state, a new one where it is met first.
+    fn meet(&mut self, run: &Run) -> usize {
+        let new = self.before.len();
+        let number = *self.numbers.entry(short(run)).or_insert(new);
+        if number == new {
+            self.before.push(Vec::new());
+            if run.is_finished() {
+                self.finished.push(number);
+            }
+        }
+        number
+    }
+
+    /// How many states some dealing leads from to a finished one.
+    fn leading_to_a_finish(&self) -> usize {
+        let mut leads = vec![false; self.before.len()];
+        let mut left = self.finished.clone();
+        while let Some(number) = left.pop() {
+            if !leads[number] {
+                leads[number] = true;
+                left.extend(&self.before[number]);
+            }
+        }
+        leads.into_iter().filter(|it| *it).count()
+    }
+}
+
+/// All that can differ between two states of a setting with fewer than 64 records.
+fn short(run: &Run) -> Vec<u8> {
+    let records = &run.records;
+    let mut bytes = Vec::with_capacity(128);
+    bytes.extend([run.loaded as u8, records.free, run.store.used as u8]);
+    for record in 0..=usize::from(run.settings.size) {
+        bytes.push(records.next[record]);
+        bytes.push(records.place[record] as u8);
+        bytes.push(u8::from(records.executing[record]) + 2 * u8::from(records.locked[record]));
+        bytes.push(records.set[record][0] as u8);
+    }
+    for party in &run.parties[..=usize::from(run.settings.workers)] {
+        bytes.extend(party_bytes(*party));
+    }
+    bytes.extend(run.store.keys.iter().map(|key| *key as u8));
+    bytes.extend(run.store.chutes.iter().map(|chute| *chute as u8));
+    bytes.extend(run.answers.iter().flat_map(|answer| answer.to_be_bytes()));
+    bytes
+}
