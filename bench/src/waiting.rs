@@ -14,7 +14,7 @@ pub struct Waiting {
 }
 
 impl Waiting {
-    /// Notes a step after which the party that made it stands as it does in the run.
+    /// Notes a step of a party: how it stood before, and the run after it.
     pub fn note(&mut self, step: usize, before: Party, run: &Run, party: u8) {
         let place = |own: u8| usize::from(run.records.place[usize::from(own)]);
         match (before, run.parties[usize::from(party)]) {
@@ -22,11 +22,11 @@ impl Waiting {
                 self.linked.resize(place(own) + 1, 0);
                 self.linked[place(own)] = step;
             }
-            (Party::Holding { .. } | Party::LookedUp { .. }, Party::Written { own }) => {
-                if run.command(own).is_some_and(|it| it.kind == Kind::Read) {
-                    self.reads += 1;
-                    self.steps += step - self.linked[place(own)];
-                }
+            (Party::Holding { .. } | Party::LookedUp { .. }, Party::Written { own })
+                if run.command(own).is_some_and(|it| it.kind == Kind::Read) =>
+            {
+                self.reads += 1;
+                self.steps += step - self.linked[place(own)];
             }
             _ => {}
         }

@@ -55,10 +55,10 @@ fn every_order_of_three_commands() {
     }
 }
 
-/// Four commands: all lists on one key, and every seventeenth on two keys.
+/// Four commands: all lists on one key, and every ninth on two keys.
 #[test]
 fn every_order_of_four_commands() {
-    let two_keys: Vec<Vec<Command>> = lists(4, 2).into_iter().step_by(17).collect();
+    let two_keys: Vec<Vec<Command>> = lists(4, 2).into_iter().step_by(9).collect();
     let met = met_by(&[3], &[lists(4, 1), two_keys].concat());
     assert!(met.states > 1_000_000);
 }
@@ -102,10 +102,10 @@ impl Stocked {
 
 /// Full ones and ones with a place left. Key 0 is absent at first and below all others.
 const STOCKED: [Stocked; 4] = [
-    Stocked::new(&[1], 1, 2, [1, 9]),
-    Stocked::new(&[1], 2, 2, [1, 9]),
-    Stocked::new(&[1, 2], 2, 3, [5, 43]),
-    Stocked::new(&[1, 2], 3, 3, [5, 43]),
+    Stocked::new(&[1], 1, 2, [1, 11]),
+    Stocked::new(&[1], 2, 2, [1, 11]),
+    Stocked::new(&[1, 2], 2, 3, [7, 59]),
+    Stocked::new(&[1, 2], 3, 3, [7, 59]),
 ];
 
 /// Document 02, A.5: reads and updates are written while an insert or a delete of another item that

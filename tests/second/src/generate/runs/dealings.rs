@@ -162,21 +162,35 @@ pub mod testing {
         let mut notes = Vec::new();
         let mut apart = false;
         for step in steps {
-            match (step, host.run()) {
-                (Step::Keep, _) => apart = true,
-                (Step::Restore, _) => apart = false,
-                (Step::Advance(schedule), Some(mut run)) => {
-                    let workers = run.settings.workers;
-                    if schedule.iter().all(|party| *party <= workers) {
-                        let turns = schedule.iter();
-                        notes.extend(turns.filter_map(|party| note(&mut run, *party, apart)));
-                    }
+            match step {
+                Step::Keep => apart = true,
+                Step::Restore => apart = false,
+                Step::Advance(schedule) => {
+                    notes.extend(noted_turns(host.run(), schedule, apart, note));
                 }
                 _ => {}
             }
             host.take(&Second, step);
         }
         notes
+    }
+
+    /// What is noted of the turns of one call on a run; none where it is refused.
+    fn noted_turns<T>(
+        run: Option<Run>,
+        schedule: &[u8],
+        apart: bool,
+        note: fn(&mut Run, u8, bool) -> Option<T>,
+    ) -> Vec<T> {
+        match run {
+            Some(mut run) if schedule.iter().all(|it| *it <= run.settings.workers) => {
+                let turns = schedule.iter();
+                turns
+                    .filter_map(|party| note(&mut run, *party, apart))
+                    .collect()
+            }
+            _ => Vec::new(),
+        }
     }
 
     /// Asserts that a seed gives the same runs again and another gives others.
