@@ -23,7 +23,8 @@ use Rattle.model.specs.Proof.Write.{written-as-served}
 use Rattle.model.specs.Proof.Service.{ClosedDown, EarlierIn, entriesOf, entries-none, served-next, closed-next, entries-ascending, entries-fit, entries-positive}
 
 -- a written command has every earlier command that it depends on written; each answer is the serial run's; the store is what the written
--- commands give when run alone in delivery order; what thread t found for the name z is what a lookup for its command would find now
+-- commands give when run alone in delivery order; what thread t found for the name z is what a lookup for its command would find now,
+-- though its entry may stand elsewhere in the store than it did
 pub record Consistent (o : Setup) (place : ℕ → ℕ) (written : ℕ → Bool) (v : Service) (looked : ℕ → Option ℕ) (found : ℕ → ℕ) : Type 0 where
   pub closed : ClosedDown o written
   pub answered : EachCommand o (λ c. v .answers c ≡ cond (written c) (serialAnswer o c) 0)
