@@ -274,8 +274,8 @@ mod tests {
     #[test]
     fn every_call_meets_each_of_its_refusals() {
         let depot = Counting::default();
-        for index in (0..limits::COUNT).chain(FIXED..FIXED + 1000) {
-            play(2, index, &mut Play::new(&depot)).expect("the second program is itself");
+        for index in (0..limits::COUNT).chain(FIXED..FIXED + 4000) {
+            play(1, index, &mut Play::new(&depot)).expect("the second program is itself");
         }
         for case in programs::limits(&mut Random::new(1)) {
             let played = Play::new(&depot).take_all(case);
