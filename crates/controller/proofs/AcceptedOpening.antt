@@ -18,7 +18,7 @@ use Rattle.model.specs.Statement.{Accepted}
 use Rattle.graph.proofs.Commands.{commands-length}
 use Rattle.state_bytes.specs.Layout.{Lists, listsOf, lengthsFit}
 use Rattle.controller.specs.Calls as Calls
-use Rattle.controller.specs.Calls.{openedWith, openOn}
+use Rattle.controller.specs.Calls.{openedWith, openOn, setupOf}
 
 -- ---- commands
 
@@ -73,7 +73,7 @@ pub record IsOpened (o : Setup) (commands : List ℕ) (l : Lists) : Type 0 where
 
 -- test by test
 pub accepted-opening : (size workers capacity : ℕ) (commands : List ℕ) (lent l : Lists) → openOn size workers capacity commands lent ≡ Calls.accepted l
-    → IsOpened (record { size = size; workers = workers; capacity = capacity; commands = commandsIn commands }) commands l
+    → IsOpened (setupOf size workers capacity commands) commands l
 unfolding openOn
 accepted-opening size workers capacity commands lent l e =
     let e1 = passed (leb 1 size && leb size 150) 1 e in

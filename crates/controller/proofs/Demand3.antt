@@ -24,7 +24,7 @@ use Rattle.model.specs.Proof.Formed.Opening.{opened-formed, accepted-formed}
 use Rattle.s10.specs.Refusal.{plain}
 use Rattle.command.specs.Read.{commandsIn}
 use Rattle.state_bytes.specs.Layout.{Lists, listsOf, setupIn, stateIn, ascends, stateFits, handedBackFit}
-use Rattle.controller.specs.Calls.{CallOutcome, accepted, refused, kept, openOn, advanceOn}
+use Rattle.controller.specs.Calls.{CallOutcome, accepted, refused, kept, openOn, advanceOn, setupOf}
 use Rattle.controller.specs.Demand3.{Call, callOn, listsAfter, ProperCall, Proper, accepts, schedules, HoldsAfter, Demand3OverCalls}
 use Rattle.state_bytes.proofs.Bytes.{below-or-past, each-all-below}
 use Rattle.state_bytes.proofs.RoundTrip.{lists-state, state-read-back, setup-read-back, lists-fit, state-fits}
@@ -155,7 +155,7 @@ module _ (o : Setup) (acc : Accepted o) (commands : List ℕ) (same : o .command
 -- the opening's lists are those of the empty schedule, and every proper list of calls goes on from there
 pub opening-and-calls-reach : (size workers capacity : ℕ) (commands : List ℕ) (lent l : Lists) → openOn size workers capacity commands lent ≡ accepted l
     → (calls : List Call) → Proper commands l calls
-    → let o : Setup = record { size = size; workers = workers; capacity = capacity; commands = commandsIn commands } in
+    → let o : Setup = setupOf size workers capacity commands in
     IsOpened o commands l × Reach o (listsAfter calls l) (schedules calls)
 opening-and-calls-reach size workers capacity commands lent l e calls proper =
     let is = accepted-opening size workers capacity commands lent l e in
@@ -169,10 +169,10 @@ demand-3-over-calls size workers capacity commands lent l e calls proper =
 -- an accepted opening, then one call: a schedule of known threads is performed, and what is read of the lists left is the state reached
 pub opening-performs : (size workers capacity : ℕ) (commands : List ℕ) (lent l : Lists) → openOn size workers capacity commands lent ≡ accepted l
     → (schedule : List ℕ) → allWithin workers schedule ≡ true
-    → let o : Setup = record { size = size; workers = workers; capacity = capacity; commands = commandsIn commands } in
+    → let o : Setup = setupOf size workers capacity commands in
     let s : State = steps o schedule (opened o) in
     (advanceOn l commands schedule ≡ accepted (listsOf o s)) × (stateIn (listsOf o s) ≡ s)
 opening-performs size workers capacity commands lent l e schedule within =
-    let o : Setup = record { size = size; workers = workers; capacity = capacity; commands = commandsIn commands } in
+    let o : Setup = setupOf size workers capacity commands in
     let is : IsOpened o commands l = accepted-opening size workers capacity commands lent l e in
     (more-accepted o (is .setup) commands refl (is .long) l [] (opening-reaches o l (is .lists)) schedule within, read-back o (is .setup) schedule within)

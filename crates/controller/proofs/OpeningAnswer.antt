@@ -14,8 +14,8 @@ use Rattle.controller.specs.declared.«open_call».Reason.{Reason}
 use Rattle.controller.specs.declared.«open_call».Opening.{Opening}
 use Rattle.controller.specs.declared.«open_call».Opening.the-variants.{Opened, Refused}
 use Rattle.state_bytes.specs.Layout.{Lists, stateLength, listsOf, lengthsFit}
-use Rattle.controller.specs.Calls.{accepted, refusalIn, kept, openingRefusal, openOn}
-use Rattle.controller.specs.Opened.{setupOf, outcomeOf}
+use Rattle.controller.specs.Calls.{accepted, refusalIn, kept, openingRefusal, openOn, setupOf}
+use Rattle.controller.specs.Opened.{outcomeOf}
 use Rattle.controller.proofs.AcceptedOpening.{passed, accepted-opening}
 
 -- ---- answers

@@ -54,12 +54,16 @@ unfoldable pub openedWith : ListOutcome → Setup → CallOutcome
 openedWith allAccepted o = accepted (listsOf o (opened o))
 openedWith (listRefused r) o = refused r
 
+-- what an opening fixes, by its numbers and the bytes of its commands
+abbrev pub setupOf : ℕ → ℕ → ℕ → List ℕ → Setup
+setupOf size workers capacity commands = record { size = size; workers = workers; capacity = capacity; commands = commandsIn commands }
+
 -- "Opening tests 1 to 6 in order, then each command in order for 7 to 10", 13 "in 8's place and before 9".
 unfoldable pub openOn : ℕ → ℕ → ℕ → List ℕ → Lists → CallOutcome
 openOn size workers capacity commands l =
     cond (leb 1 size && leb size 150) (cond (leb 1 workers && leb workers 64) (cond (leb 1 capacity && leb capacity 4096)
     (cond (eqb (length commands % 16) 0) (cond (leb (length commands / 16) 4096) (cond (lengthsFit capacity (length commands / 16) l)
-    (openedWith (firstRefusal 1 (readings commands)) (record { size = size; workers = workers; capacity = capacity; commands = commandsIn commands }))
+    (openedWith (firstRefusal 1 (readings commands)) (setupOf size workers capacity commands))
     (refused (plain 6))) (refused (plain 5))) (refused (plain 4))) (refused (plain 3))) (refused (plain 2))) (refused (plain 1))
 
 -- ---- a call on a handed-back state

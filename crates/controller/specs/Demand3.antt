@@ -10,9 +10,8 @@ use Rattle.model.specs.Store.{layOut}
 use Rattle.model.specs.Setup.{Setup}
 use Rattle.model.specs.Step.{opened}
 use Rattle.model.specs.Statement.{wrote, removed, EachCommand, serialAnswer}
-use Rattle.command.specs.Read.{commandsIn}
 use Rattle.state_bytes.specs.Layout.{Lists, stateIn}
-use Rattle.controller.specs.Calls.{CallOutcome, accepted, refused, kept, openOn, advanceOn}
+use Rattle.controller.specs.Calls.{CallOutcome, accepted, refused, kept, openOn, advanceOn, setupOf}
 
 -- what is handed over: the caller's lists, commands and a schedule
 pub record Call : Type 0 where
@@ -62,4 +61,4 @@ abbrev pub Demand3OverCalls : Type 0
 Demand3OverCalls =
     (size workers capacity : ℕ) (commands : List ℕ) (lent l : Lists) → openOn size workers capacity commands lent ≡ accepted l →
     (calls : List Call) → Proper commands l calls →
-    HoldsAfter (record { size = size; workers = workers; capacity = capacity; commands = commandsIn commands }) commands (listsAfter calls l) (schedules calls)
+    HoldsAfter (setupOf size workers capacity commands) commands (listsAfter calls l) (schedules calls)

@@ -6,14 +6,13 @@ use mathlib.Core.List.{List, [], _∷_}
 use mathlib.Core.Option.{some}
 use Rattle.command.specs.declared.Kind.the-variants.{Read}
 use Rattle.command.specs.declared.Command.{Command}
-use Rattle.command.specs.Read.{commandsIn}
 use Rattle.node_set.specs.declared.Node.{Node}
 use Rattle.model.specs.declared.Thread.the-variants.{Holding, LookedUp}
 use Rattle.model.specs.Setup.{Setup}
 use Rattle.model.specs.Step.{State, commandOf}
 use Rattle.model.specs.OneTurn.{ReadDone, OnlyLooked}
 use Rattle.state_bytes.specs.Layout.{Lists, stateIn}
-use Rattle.controller.specs.Calls.{accepted, openOn, advanceOn}
+use Rattle.controller.specs.Calls.{accepted, openOn, advanceOn, setupOf}
 use Rattle.controller.specs.Demand3.{Call, listsAfter, Proper}
 
 -- a call with one turn of worker t is accepted, and leaves lists of which this holds
@@ -34,5 +33,5 @@ abbrev pub ReadsInOneTurnOverCalls : Type 0
 ReadsInOneTurnOverCalls =
     (size workers capacity : ℕ) (commands : List ℕ) (lent l : Lists) → openOn size workers capacity commands lent ≡ accepted l →
     (calls : List Call) → Proper commands l calls → (t : ℕ) → 1 ≤ t → t ≤ workers → (own : Node) (c : Command) →
-    let o : Setup = record { size = size; workers = workers; capacity = capacity; commands = commandsIn commands } in
+    let o : Setup = setupOf size workers capacity commands in
     commandOf o (stateIn (listsAfter calls l) .graph) (own .0) ≡ some c → InTurns o commands (listsAfter calls l) t own c

@@ -4,17 +4,12 @@ use mathlib.Core.Path.{_≡_}
 use mathlib.Core.List.{List}
 use Rattle.model.specs.Setup.{Setup}
 use Rattle.model.specs.Step.{opened}
-use Rattle.command.specs.Read.{commandsIn}
 use Rattle.controller.specs.declared.«open_call».Opening.{Opening}
 use Rattle.controller.specs.declared.«open_call».Opening.the-variants.{Opened, Refused}
 use Rattle.state_bytes.specs.declared.Settings.{Settings}
 use Rattle.state_bytes.specs.Layout.{stateBytes, listsOf}
 use Rattle.state_bytes.specs.Written.{Sets}
 use Rattle.controller.specs.Calls.{CallOutcome, accepted, refused, refusalFor}
-
--- the setup of an opening's numbers and bytes
-abbrev pub setupOf : ℕ → ℕ → ℕ → List ℕ → Setup
-setupOf size workers capacity commands = record { size = size; workers = workers; capacity = capacity; commands = commandsIn commands }
 
 -- what an answer says of an opening: that it leaves the lists of the opening state, or why it is refused
 abbrev pub outcomeOf : Opening → Setup → CallOutcome

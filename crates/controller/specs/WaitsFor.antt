@@ -4,11 +4,10 @@ use Prim.Native.Nat.{ℕ}
 use mathlib.Core.Path.{_≡_}
 use mathlib.Core.Bool.{true}
 use mathlib.Core.List.{List}
-use Rattle.command.specs.Read.{commandsIn}
 use Rattle.model.specs.Setup.{Setup}
 use Rattle.model.specs.WaitsFor.{WaitsFor}
 use Rattle.state_bytes.specs.Layout.{Lists, stateIn}
-use Rattle.controller.specs.Calls.{accepted, openOn}
+use Rattle.controller.specs.Calls.{accepted, openOn, setupOf}
 use Rattle.controller.specs.Demand3.{Call, listsAfter, Proper}
 
 -- every accepted opening, and every proper list of calls from what it left: a node in another's set is of a command delivered before, and
@@ -17,5 +16,5 @@ abbrev pub WaitsOnlyForDependentOverCalls : Type 0
 WaitsOnlyForDependentOverCalls =
     (size workers capacity : ℕ) (commands : List ℕ) (lent l : Lists) → openOn size workers capacity commands lent ≡ accepted l →
     (calls : List Call) → Proper commands l calls → (x y : ℕ) →
-    let o : Setup = record { size = size; workers = workers; capacity = capacity; commands = commandsIn commands } in
+    let o : Setup = setupOf size workers capacity commands in
     stateIn (listsAfter calls l) .graph .waits x y ≡ true → WaitsFor o (stateIn (listsAfter calls l)) x y

@@ -13,13 +13,13 @@ use Rattle.model.specs.Serial.{serialAnswers, serialEntries}
 use Rattle.model.specs.Statement.{allWithin, removed, EachCommand}
 use Rattle.state_bytes.specs.Bytes.{tabulate}
 use Rattle.state_bytes.specs.Layout.{Lists}
-use Rattle.controller.specs.Calls.{accepted}
+use Rattle.controller.specs.Calls.{accepted, setupOf}
 use Rattle.depot.specs.Text.{ascii}
 use Rattle.depot.specs.Program.{decimal, commandLines, totals, sizeOf, workersOf, capacityOf, countOf, commandsOf, scheduleOf, opening, output}
 
 -- the setup of an input
 abbrev pub inputSetup : List ℕ → Setup
-inputSetup input = record { size = sizeOf input; workers = workersOf input; capacity = capacityOf input; commands = commandsIn (commandsOf input) }
+inputSetup input = setupOf (sizeOf input) (workersOf input) (capacityOf input) (commandsOf input)
 
 -- the state that the schedule reaches from the opening
 abbrev pub reached : List ℕ → State

@@ -7,13 +7,13 @@ use mathlib.Core.List.{List, [], _∷_}
 use lib.ListN.{length}
 use lib.Dec.{eqb, leb}
 use Rattle.s10.specs.Refusal.{plain}
-use Rattle.command.specs.Read.{firstRefusal, readings, commandsIn}
+use Rattle.command.specs.Read.{firstRefusal, readings}
 use Rattle.command.specs.Read as Command
 use Rattle.model.specs.Setup.{Setup}
 use Rattle.model.specs.Statement.{allWithin}
 use Rattle.model.specs.Proof.Tests.{cond-cases}
 use Rattle.state_bytes.specs.Layout.{Lists, lengthsFit, stateFits, handedBackFit}
-use Rattle.controller.specs.Calls.{CallOutcome, accepted, refused, refusalIn, openedWith, openOn, advanceOn}
+use Rattle.controller.specs.Calls.{CallOutcome, accepted, refused, refusalIn, openedWith, openOn, advanceOn, setupOf}
 use Rattle.depot_c.specs.Boundary.{answerOf}
 
 -- an accepted call answers 0
@@ -47,7 +47,7 @@ opening-accepted size workers capacity commands l =
     cond-cases IsAccepted (eqb (length commands % 16) 0) (λ _.
     cond-cases IsAccepted (leb (length commands / 16) 4096) (λ _.
     cond-cases IsAccepted (lengthsFit capacity (length commands / 16) l)
-    (λ _. refused-place 1 (readings commands) (record { size = size; workers = workers; capacity = capacity; commands = commandsIn commands }) (omega arith))
+    (λ _. refused-place 1 (readings commands) (setupOf size workers capacity commands) (omega arith))
     (λ _. refused-number 6 (omega arith))) (λ _. refused-number 5 (omega arith))) (λ _. refused-number 4 (omega arith)))
     (λ _. refused-number 3 (omega arith))) (λ _. refused-number 2 (omega arith))) (λ _. refused-number 1 (omega arith))
 

@@ -24,7 +24,7 @@ use Rattle.state_bytes.specs.Layout.{Lists, threadBytes, listsOf, stateIn}
 use Rattle.state_bytes.proofs.Bytes.{below-or-past, lies-taken, lies-field, tabulate-length, tabulate-at, tabulate-past}
 use Rattle.state_bytes.proofs.StateParts.{thread-length, part-lies}
 use Rattle.state_bytes.proofs.RoundTrip.{lists-state, lists-answers, lists-keys, lists-chutes}
-use Rattle.controller.specs.Calls.{CallOutcome, accepted, advanceOn}
+use Rattle.controller.specs.Calls.{CallOutcome, accepted, advanceOn, setupOf}
 use Rattle.controller.specs.Demand3.{Call}
 use Rattle.controller.proofs.AcceptedOpening.{IsOpened, accepted-opening}
 use Rattle.controller.proofs.Demand3.{Reach, opening-reaches, formed, accepted-reaches, state-is, holds}
@@ -188,7 +188,7 @@ module _ (o : Setup) (acc : Accepted o) (commands : List ℕ) (same : o .command
 pub demand-3-over-byte-calls : Demand3OverBytes
 unfolding left
 demand-3-over-byte-calls size workers capacity commands lent b answer is calls proper =
-    let o : Setup = record { size = size; workers = workers; capacity = capacity; commands = commandsIn commands } in
+    let o : Setup = setupOf size workers capacity commands in
     let a = opening-accepted size workers capacity commands (decoded lent) answer in
     let opening : IsOpened o commands (a .0) = accepted-opening size workers capacity commands (decoded lent) (a .0) (a .1) in
     let first : BytesReach o (opening .setup) commands refl (opening .long) b [] = record {

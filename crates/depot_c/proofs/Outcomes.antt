@@ -9,14 +9,14 @@ use lib.ListN.{length}
 use lib.Dec.{eqb, leb}
 use borrow.Author.Tests.{leb-true, eqb-true, le-leb}
 use Rattle.s10.specs.Refusal.{Refusal, plain}
-use Rattle.command.specs.Read.{firstRefusal, readings, commandsIn}
+use Rattle.command.specs.Read.{firstRefusal, readings}
 use Rattle.command.specs.Read as Command
 use Rattle.command.proofs.Laws.{length-readings}
 use Rattle.model.specs.Setup.{Setup}
 use Rattle.model.specs.Proof.Tests.{fails}
 use Rattle.state_bytes.specs.Bytes.{numberAt}
 use Rattle.state_bytes.specs.Layout.{Lists, lists, stateLength, setupIn, countIn, stateFits, lengthsFit, handedBackFit}
-use Rattle.controller.specs.Calls.{CallOutcome, accepted, refused, refusalIn, kept, openedWith, openOn, advanceRefusal, advanceOn}
+use Rattle.controller.specs.Calls.{CallOutcome, accepted, refused, refusalIn, kept, openedWith, openOn, advanceRefusal, advanceOn, setupOf}
 use Rattle.controller.specs.declared.«advance_call».Advancing.{Advancing}
 use Rattle.controller.specs.declared.«advance_call».Advancing.the-variants.{Advanced, WrongLength, UnknownThread, WrongState}
 use Rattle.depot_c.specs.Numbers.{numbersIn, bytesIn}
@@ -59,7 +59,7 @@ opening-place-below size workers capacity commands l =
     chosen P (eqb (length commands % 16) 0) (λ whole.
     chosen P (leb (length commands / 16) 4096) (λ few.
     chosen P (lengthsFit capacity (length commands / 16) l)
-    (λ _. omega (arith, place-below 1 (readings commands) (record { size = size; workers = workers; capacity = capacity; commands = commandsIn commands }) (omega arith), length-readings commands, eqb-true (length commands % 16) 0 whole, leb-true (length commands / 16) 4096 few))
+    (λ _. omega (arith, place-below 1 (readings commands) (setupOf size workers capacity commands) (omega arith), length-readings commands, eqb-true (length commands % 16) 0 whole, leb-true (length commands / 16) 4096 few))
     (λ _. none 6)) (λ _. none 5)) (λ _. none 4)) (λ _. none 3)) (λ _. none 2)) (λ _. none 1)
 
 -- ---- lists of a wrong length
@@ -75,7 +75,7 @@ opening-same size workers capacity commands l m same =
     under (leb 1 capacity && leb capacity 4096) 3 (λ small.
     under (eqb (length commands % 16) 0) 4 (λ _.
     under (leb (length commands / 16) 4096) 5 (λ few.
-    ap (λ (t : Bool). cond t (openedWith (firstRefusal 1 (readings commands)) (record { size = size; workers = workers; capacity = capacity; commands = commandsIn commands })) (refused (plain 6)))
+    ap (λ (t : Bool). cond t (openedWith (firstRefusal 1 (readings commands)) (setupOf size workers capacity commands)) (refused (plain 6)))
     (same (leb-true capacity 4096 (and-eq-true-iff (leb 1 capacity) (leb capacity 4096) .0 small .1)) (leb-true (length commands / 16) 4096 few)))))))
 
 -- no lists are refused, and nothing is left but what was there

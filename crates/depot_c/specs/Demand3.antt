@@ -13,12 +13,12 @@ use Rattle.model.specs.Store.{Store, layOut}
 use Rattle.model.specs.Setup.{Setup}
 use Rattle.model.specs.Step.{opened}
 use Rattle.model.specs.Statement.{wrote, removed, EachCommand, serialAnswer}
-use Rattle.command.specs.Read.{commandsIn}
 use Rattle.state_bytes.specs.Bytes.{numberAt}
 use Rattle.state_bytes.specs.Layout.{Lists, threadBytes}
 use Rattle.controller.specs.Demand3.{Call}
 use Rattle.depot_c.specs.Numbers.{bytesIn}
 use Rattle.depot_c.specs.Boundary.{openAnswer, openLeft, advanceAnswer, advanceLeft}
+use Rattle.controller.specs.Calls.{setupOf}
 
 -- ---- lists of calls
 
@@ -81,4 +81,4 @@ Demand3OverBytes =
     (size workers capacity : ℕ) (commands : List ℕ) (lent b : Lists) →
     openAnswer size workers capacity commands lent ≡ 0 → openLeft size workers capacity commands lent ≡ b →
     (calls : List Call) → ProperBytes commands b calls →
-    BytesHoldAfter (record { size = size; workers = workers; capacity = capacity; commands = commandsIn commands }) commands (bytesAfter calls b) (bytesSchedules calls)
+    BytesHoldAfter (setupOf size workers capacity commands) commands (bytesAfter calls b) (bytesSchedules calls)

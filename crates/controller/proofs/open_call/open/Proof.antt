@@ -3,7 +3,7 @@ use native.Mathlib.Omega.{arith}
 use mathlib.Core.Path.{refl, sym, _∙_}
 use borrow.Author.Needs.{needs}
 use Rattle.state_bytes.specs.Layout.{lists, stateLength}
-use Rattle.controller.specs.Opened.{setupOf}
+use Rattle.controller.specs.Calls.{setupOf}
 use Rattle.controller.proofs.OpeningState.{as-many-zeros, opened-lists-are}
 use Rattle.controller.proofs.OpeningAnswer.{answer-told, refusal-keeps, opening-leaves, Admitted, admitted}
 use Rattle.controller.proofs.open_call.open.Statement.{statement}
