@@ -34,7 +34,8 @@ extern "C" {
  *     keys       8 bytes for each place of the room
  *     chutes     2 bytes for each place of the room
  *     answers    2 bytes for each command
- *     commands   16 bytes for each command: kind (1), identifier (13), chute (2)
+ *     commands   16 bytes for each command: kind (1), identifier (13), chute (2); of a worker change (DEPOT_WORKERS) the
+ *                identifier is thirteen characters '0' and the chute the new worker count
  *
  * The caller keeps these five between calls and hands them to each call as the last accepted call left them. Keys stand
  * ascending in the places in use, each with its chute in the same place of chutes; the places after them hold 0 in both. Key 0
@@ -47,7 +48,8 @@ extern "C" {
  * apart by depot_number, depot_place and depot_character; the bits from 40 on are kept free. A refusal leaves every byte of every
  * list as it was.
  * The character counts from 1 at the left, up to 13. With refusals 8 and 13 it is the first that is no letter or no digit where
- * one must stand, and 0 where the identifier's length is wrong; with 9 it is 11, the check digit; with any other refusal 0.
+ * one must stand, in a worker change the first that is not '0', and 0 where the identifier's length is wrong; with 9 it is 11, the
+ * check digit; with any other refusal 0.
  *
  * Threads of the host, and stack
  *
@@ -61,7 +63,7 @@ extern "C" {
  * `pkg-config --cflags --libs depot` gives the flags. */
 
 enum {
-    DEPOT_STATE_LENGTH = 4715,
+    DEPOT_STATE_LENGTH = 4718,
     DEPOT_COUNTS_LENGTH = 150,
     DEPOT_STATUS_LENGTH = 128,
     DEPOT_KEY_LENGTH = 8,
@@ -70,7 +72,7 @@ enum {
     DEPOT_COMMAND_LENGTH = 16,
     DEPOT_IDENTIFIER_LENGTH = 13,
     DEPOT_MOST_NODES = 150,     /* graph size: 1 to 150 */
-    DEPOT_MOST_WORKERS = 64,    /* workers: 1 to 64 */
+    DEPOT_MOST_WORKERS = 64,    /* workers, of an opening and of a worker change: 1 to 64 */
     DEPOT_MOST_CAPACITY = 4096, /* room: 1 to 4,096 */
     DEPOT_MOST_COMMANDS = 4096, /* commands: 0 to 4,096 */
     DEPOT_MOST_CHUTE = 512,     /* chute of an insert or update: 1 to 512 */
@@ -88,18 +90,20 @@ enum depot_refusal {
     DEPOT_WRONG_LIST_LENGTH = 4, /* length of the commands no multiple of 16 */
     DEPOT_TOO_MANY_COMMANDS = 5, /* over 4,096 */
     DEPOT_WRONG_LENGTH = 6,      /* another list of a wrong length */
-    DEPOT_UNKNOWN_KIND = 7,      /* kind not 1 to 4 */
-    DEPOT_MALFORMED = 8,         /* identifier: length wrong, or the first faulty character is at 1, 2, 12 or 13: no letter */
+    DEPOT_UNKNOWN_KIND = 7,      /* kind not 1 to 5 */
+    DEPOT_MALFORMED = 8,         /* identifier: length wrong, or the first faulty character is at 1, 2, 12 or 13: no letter;
+                                    of a worker change: a character, 1 to 13, that is not '0' */
     DEPOT_WRONG_CHECK_DIGIT = 9, /* identifier: every letter and digit in order, check digit wrong */
     DEPOT_WRONG_CHUTE = 10,      /* insert, update: not 1 to 512; delete, read: not 0 */
-    DEPOT_UNKNOWN_THREAD = 11,   /* party above the worker count */
-    DEPOT_WRONG_STATE = 12,      /* a handed-back run that breaks its layout, docs/STATE-LAYOUT.md */
+    DEPOT_UNKNOWN_THREAD = 11,   /* party above the largest worker count of the opening and the list */
+    DEPOT_WRONG_STATE = 12,      /* a handed-back run that breaks its layout, docs/STATE-LAYOUT.md, its worker counts too */
     DEPOT_KEY_TOO_LARGE = 12,    /* the same number, of depot_write_identifier: key above DEPOT_LARGEST_KEY */
-    DEPOT_WRONG_DIGIT = 13       /* identifier: the first faulty character is at 3 to 11: no digit; tested in 8's place */
+    DEPOT_WRONG_DIGIT = 13,      /* identifier: the first faulty character is at 3 to 11: no digit; tested in 8's place */
+    DEPOT_WRONG_COUNT = 14       /* worker change: count not 1 to 64; tested in 10's place */
 };
 
-/* Kinds of command. */
-enum depot_kind { DEPOT_INSERT = 1, DEPOT_DELETE = 2, DEPOT_READ = 3, DEPOT_UPDATE = 4 };
+/* Kinds of command. DEPOT_WORKERS is a worker change: it names no item, sets the worker count and is answered DEPOT_DONE. */
+enum depot_kind { DEPOT_INSERT = 1, DEPOT_DELETE = 2, DEPOT_READ = 3, DEPOT_UPDATE = 4, DEPOT_WORKERS = 5 };
 
 /* Answers to a command; 1 to 512 is the chute that a read found. */
 enum depot_answer {
@@ -160,10 +164,11 @@ static inline uint64_t depot_key_at(const uint8_t *keys, size_t entry)
 /* Opens a list of commands: the state's bytes are those of a run with an empty chain and all parties idle; keys, chutes and
  * answers are set to 0. Their contents before do not matter.
  *
- * Writes state, keys, chutes, answers; reads commands. size is the graph size, capacity the room.
- * Refuses 1 to 6 in this order, then each command in order for 7, 8 or 13, 9 and 10, with its place, and with the character for
- * 8, 9 and 13. 6: state is not 4,715 bytes long, keys not 8 × capacity, chutes not 2 × capacity, or answers not 2 × the number of
- * commands.
+ * Writes state, keys, chutes, answers; reads commands. size is the graph size, workers the worker count until a worker change is
+ * written, capacity the room.
+ * Refuses 1 to 6 in this order, then each command in order for 7, 8 or 13, 9, 10 or 14, with its place, and with the character
+ * for 8, 9 and 13. 6: state is not 4,718 bytes long, keys not 8 × capacity, chutes not 2 × capacity, or answers not 2 × the
+ * number of commands.
  *
  *     uint8_t state[DEPOT_STATE_LENGTH], keys[8 * 4], chutes[2 * 4], answers[2 * 1];
  *     const uint8_t commands[16] = {DEPOT_INSERT, 'A', 'A', '0', '0', '0', '0', '0', '0', '0', '0', '5', 'A', 'A', 0, 7};
@@ -182,18 +187,26 @@ uint64_t depot_open(uint8_t *state, size_t state_length, uint8_t *keys, size_t k
  * are removed, keys and chutes are that run's table; and from every run that dealings reach some further dealing is accepted and
  * removes every command, with every party idle.
  *
+ * A dealing may name parties 0 up to the largest worker count of the opening and of all worker changes in the list, loaded or not.
+ * The count in force is the opening's, and from the writing turn of a worker change on that of the change. A worker above it waits
+ * when idle; if it is searching, it walks to the end and takes nothing; with a record it goes on as before, so that the worker
+ * that holds the change finishes its removal. Proved over the same lists of calls (crates/controller/specs/Count.antt): no command
+ * delivered after a worker change, up to and including the next one, is taken by a worker above its count, and none before the
+ * first change by a worker above the opening's.
+ *
  * That some dealing finishes does not mean that each repeated pattern does. With one worker, 1 0 1 repeated from the opening never
  * loads a command: the loader's turn always falls while the worker stands on the head. Two turns each, 0 0 1 1, never load the
- * second of two inserts at graph size 1. Deal round-robin, one turn each (0, 1, .. up to the worker count, and again), some
- * thousands of turns a call: in a search made apart from this repository, when a read still took two turns and inserts and deletes
- * still waited for every command, it finished from every run reached (up to 4 records, 4 workers and 6 commands) and in millions
- * of random runs (up to 20 records, 8 workers, 40 commands), never in more than n (2 w + s + 6) + 2 rounds, with n commands, w
- * workers and graph size s. tests/second/tests/patterns.rs runs 2,000 such runs as things are now. It is not proved.
+ * second of two inserts at graph size 1. Deal round-robin, one turn each (0, 1, .. up to the largest worker count, and again),
+ * some thousands of turns a call: in a search made apart from this repository, when a read still took two turns, inserts and
+ * deletes still waited for every command and there were no worker changes, it finished from every run reached (up to 4 records, 4
+ * workers and 6 commands) and in millions of random runs (up to 20 records, 8 workers, 40 commands), never in more than
+ * n (2 w + s + 6) + 2 rounds, with n commands, w workers and graph size s. tests/second/tests/patterns.rs runs 2,000 such runs as
+ * things are now, and 2,000 with worker changes, w being the largest count. It is not proved.
  *
  * Writes state, keys, chutes, answers; reads commands (those of the opening) and schedule.
  * Refuses 6 (a length that is not the opening's, by the state's own settings), then 12 (the state breaks its layout), then 11
- * (a party above the worker count). A state that passes these tests, though no dealing leads to it, gets a call that ends and
- * stays inside its lists; what it leaves there is open.
+ * (a party above the largest worker count). A state that passes these tests, though no dealing leads to it, gets a call that ends
+ * and stays inside its lists; what it leaves there is open.
  *
  *     const uint8_t schedule[] = {0, 0, 1, 1, 1, 1};  (two turns of the loader, four of worker 1)
  *     uint64_t answer = depot_advance(state, sizeof state, keys, sizeof keys, chutes, sizeof chutes, answers, sizeof answers,
@@ -207,7 +220,8 @@ uint64_t depot_advance(uint8_t *state, size_t state_length, uint8_t *keys, size_
 /* The panel report (pending counts): for each record in the chain, in chain order, how many records it waits for, one byte each;
  * 0 after the last. A record that waits for none is 0 too, so the counts do not say how long the chain is.
  * A command waits for each earlier one of the same item, but a read not for a read; inserts and deletes also wait for one another,
- * whatever their items. Reads and updates of other items pass them.
+ * whatever their items. Reads and updates of other items pass them. A worker change waits for every earlier command, and every
+ * later one waits for it.
  *
  * Writes counts, DEPOT_COUNTS_LENGTH bytes; reads the rest.
  * Refuses 6 (as depot_advance, and for the length of counts), then 12.
@@ -222,7 +236,7 @@ uint64_t depot_pending_counts(const uint8_t *state, size_t state_length, const u
                               const uint8_t *commands, size_t commands_length, uint8_t *counts, size_t counts_length);
 
 /* The standing of each worker (worker status): for worker 1 to 64 two bytes, its state (enum depot_thread_state) and its own
- * record, 0 where it has none. Workers past the worker count are idle.
+ * record, 0 where it has none. Workers past the largest worker count are idle.
  *
  * Writes status, DEPOT_STATUS_LENGTH bytes; reads the rest.
  * Refuses 6 (as depot_advance, and for the length of status), then 12.

@@ -1,23 +1,24 @@
 -- The laws of `specs/Laws.antt`. Assumes nothing.
 use Prim.Native.Nat.{ℕ, zero, suc, _+_, _/_, _≤_, _<_}
-use mathlib.Core.Path.{_≡_, refl, sym, ap, subst, _∙_}
-use mathlib.Core.Bool.{Bool, true, false, cond, _&&_, or-true, and-false, and-comm, and-eq-true-iff, false≢true}
+use mathlib.Core.Path.{_≡_, refl, sym, ap, subst}
+use mathlib.Core.Bool.{Bool, true, false, cond, not, _&&_, _||_, or-true, and-false, and-comm, and-eq-true-iff, false≢true}
 use mathlib.Core.List.{List, [], _∷_, map}
 use mathlib.Core.Option.{Option, none, some}
+use mathlib.Core.Logic.{⊎-elim}
 use native.Mathlib.Omega.{arith}
 use borrow.Author.Tests.{leb-true, eqb-true, eqb-false, eq-eqb, ne-eqb}
 use lib.Dec.{eqb, leb}
 use lib.ListN.{length, getD, getElem?, take, drop, length-map}
-use Rattle.s10.specs.Refusal.{Refusal, plain, atPlace}
+use Rattle.s10.specs.Refusal.{Refusal, plain, atCharacter, atPlace}
 use Rattle.s10.specs.Text.{largestKey}
 use Rattle.s10.specs.Outcome.{readText}
 use Rattle.s10.specs.Outcome as Identifier
 use Rattle.s10.proofs.Laws.{accepted-is-at-most-largest}
 use Rattle.command.specs.declared.Kind.{Kind}
-use Rattle.command.specs.declared.Kind.the-variants.{Insert, Delete, Read, Update}
+use Rattle.command.specs.declared.Kind.the-variants.{Insert, Delete, Read, Update, Workers}
 use Rattle.command.specs.declared.Command.{Command}
-use Rattle.command.specs.Read.{CommandOutcome, accepted, refused, kindOf, chuteFits, chuteOf, withKind, withChute, readCommand, parts, partsOf, readings, allAccepted, listRefused, firstRefusal, commandFrom, commandsIn}
-use Rattle.command.specs.Dependent.{isInsertOrDelete, isRead, areDependent}
+use Rattle.command.specs.Read.{CommandOutcome, accepted, refused, kindOf, chuteFits, chuteRefusal, chuteOf, firstNotZero, readZeros, readIdentifier, withKind, withChute, readCommand, parts, partsOf, readings, allAccepted, listRefused, firstRefusal, commandFrom, commandsIn}
+use Rattle.command.specs.Dependent.{hasItem, isInsertOrDelete, isRead, areDependent}
 use Rattle.command.specs.Laws.{DependenceIsSymmetric, DependentPairs, KindOfItsNumber, AcceptedChuteFits, AcceptedChuteIsAtMostLast, AcceptedKeyIsAtMostLargest, CharacterIsTheIdentifiers, AllAccepted, NoRefusalIsAllAccepted, RefusedBeginsInside}
 
 -- equality goes both ways
@@ -32,7 +33,7 @@ eqb-comm m n = cases (eqb m n) refl
 pub dependence-is-symmetric : DependenceIsSymmetric
 unfolding areDependent
 dependence-is-symmetric a b =
-    rw (and-comm (isInsertOrDelete (a .kind)) (isInsertOrDelete (b .kind)), eqb-comm (a .key) (b .key), and-comm (isRead (a .kind)) (isRead (b .kind)))
+    rw (and-comm (hasItem (a .kind)) (hasItem (b .kind)), and-comm (isInsertOrDelete (a .kind)) (isInsertOrDelete (b .kind)), eqb-comm (a .key) (b .key), and-comm (isRead (a .kind)) (isRead (b .kind)))
 
 -- an insert or a delete is no read
 pub no-read : (kind : Kind) → isInsertOrDelete kind ≡ true → isRead kind ≡ false
@@ -41,16 +42,38 @@ no-read Insert w = refl
 no-read Delete w = refl
 no-read Read w = absurd (false≢true w)
 no-read Update w = refl
+no-read Workers w = refl
+
+-- a read is for an item
+pub read-has-item : (kind : Kind) → isRead kind ≡ true → hasItem kind ≡ true
+unfolding isRead hasItem
+read-has-item Insert r = refl
+read-has-item Delete r = refl
+read-has-item Read r = refl
+read-has-item Update r = refl
+read-has-item Workers r = absurd (false≢true r)
+
+-- what is for an item is independent of a read or an update of another key
+other-key : (a b : Command) → hasItem (a .kind) ≡ true → (a .key ≡ b .key → ⊥) → hasItem (b .kind) ≡ true → isInsertOrDelete (b .kind) ≡ false → areDependent a b ≡ false
+unfolding areDependent
+other-key a b i d j w = rw (i, j, w, and-false (isInsertOrDelete (a .kind)), ne-eqb _ _ d)
+
+-- what is no read depends on every command of its key
+one-key : (a b : Command) → a .key ≡ b .key → isRead (a .kind) ≡ false → areDependent a b ≡ true
+unfolding areDependent
+one-key a b k r =
+    rw (eq-eqb _ _ k, r) (or-true (not (hasItem (a .kind) && hasItem (b .kind)) || (isInsertOrDelete (a .kind) && isInsertOrDelete (b .kind))))
 
 -- each sentence, by the kinds and the keys
 pub dependent-pairs : DependentPairs
-unfolding areDependent isInsertOrDelete isRead
+unfolding areDependent hasItem isInsertOrDelete isRead
 dependent-pairs = record {
-  writers = λ a b w v. simp (w, v);
-  ownKey = λ a b w k. simp (eq-eqb _ _ k, no-read (a .kind) w, or-true);
-  otherKeys = λ a b v k. simp (v, and-false, ne-eqb _ _ k);
-  updates = λ a b u v k. simp (u, eq-eqb _ _ k);
+  writers = λ a b w v. rw (w, v, or-true (not (hasItem (a .kind) && hasItem (b .kind))));
+  ownKey = λ a b w k. one-key a b k (no-read (a .kind) w);
+  otherKeys = λ a b i k d. ⊎-elim (λ e. other-key a b i d (ap hasItem e) (ap isInsertOrDelete e)) (λ e. other-key a b i d (ap hasItem e) (ap isInsertOrDelete e)) k;
+  updates = λ a b u v k. one-key a b k (ap isRead u);
   reads = λ a b r s. simp (r, s, and-false);
+  workers = λ a b w. simp w;
 }
 
 -- the tests of a number find each kind at its own
@@ -60,32 +83,39 @@ kind-of-its-number Insert = refl
 kind-of-its-number Delete = refl
 kind-of-its-number Read = refl
 kind-of-its-number Update = refl
+kind-of-its-number Workers = refl
 
 -- what an accepted command has passed
 record Accepted (part : List ℕ) (command : Command) : Type 0 where
   fits : chuteFits (command .kind) (command .chute) ≡ true
-  read : readText (take 13 (drop 1 part)) ≡ Identifier.accepted (command .key)
+  read : readIdentifier (command .kind) (take 13 (drop 1 part)) ≡ Identifier.accepted (command .key)
 
 -- an outcome is accepted only past every test
 accepted-passed : (part : List ℕ) (command : Command) → readCommand part ≡ accepted command → Accepted part command
 unfolding readCommand withKind withChute
-accepted-passed part command e = cases (kindOf (getD part 0 0)) (readText (take 13 (drop 1 part))) refl e
+accepted-passed part command e = cases (kindOf (getD part 0 0)) e
   where
+    text : List ℕ
+    text = take 13 (drop 1 part)
+
     bytes : List ℕ
     bytes = drop 14 part
 
-    chosen : (kind : Kind) (key : ℕ) (b : Bool) → readText (take 13 (drop 1 part)) ≡ Identifier.accepted key → eqb (length bytes) 2 && chuteFits kind (chuteOf bytes) ≡ b →
-        cond b (accepted (record { kind = kind; key = key; chute = chuteOf bytes })) (refused (plain 10)) ≡ accepted command → Accepted part command
+    chosen : (kind : Kind) (key : ℕ) (b : Bool) → readIdentifier kind text ≡ Identifier.accepted key → eqb (length bytes) 2 && chuteFits kind (chuteOf bytes) ≡ b →
+        cond b (accepted (record { kind = kind; key = key; chute = chuteOf bytes })) (refused (chuteRefusal kind)) ≡ accepted command → Accepted part command
     chosen kind key true r f e =
         let read : Command = record { kind = kind; key = key; chute = chuteOf bytes } in
         let same : read ≡ command = cc in
         subst (λ (c : Command). Accepted part c) same (record { fits = and-eq-true-iff (eqb (length bytes) 2) _ .0 f .1; read = r })
     chosen kind key false r f e = let z : _≡_ {A = ℕ} 0 1 = cc in absurd (omega arith)
 
-    cases : (k : Option Kind) (o : Identifier.TextOutcome) → readText (take 13 (drop 1 part)) ≡ o → withKind k o bytes ≡ accepted command → Accepted part command
-    cases (some kind) (Identifier.accepted key) r e = chosen kind key _ r refl e
-    cases (some kind) (Identifier.refused n) r e = let z : _≡_ {A = ℕ} 0 1 = cc in absurd (omega arith)
-    cases none o r e = let z : _≡_ {A = ℕ} 0 1 = cc in absurd (omega arith)
+    named : (kind : Kind) (o : Identifier.TextOutcome) → readIdentifier kind text ≡ o → withChute kind o bytes ≡ accepted command → Accepted part command
+    named kind (Identifier.accepted key) r e = chosen kind key _ r refl e
+    named kind (Identifier.refused n) r e = let z : _≡_ {A = ℕ} 0 1 = cc in absurd (omega arith)
+
+    cases : (k : Option Kind) → withKind k text bytes ≡ accepted command → Accepted part command
+    cases (some kind) e = named kind (readIdentifier kind text) refl e
+    cases none e = let z : _≡_ {A = ℕ} 0 1 = cc in absurd (omega arith)
 
 -- the last test passed
 pub accepted-chute-fits : AcceptedChuteFits
@@ -98,14 +128,31 @@ chute-that-fits Insert chute e = leb-true chute 512 (and-eq-true-iff (leb 1 chut
 chute-that-fits Delete chute e = omega (arith, eqb-true chute 0 e)
 chute-that-fits Read chute e = omega (arith, eqb-true chute 0 e)
 chute-that-fits Update chute e = leb-true chute 512 (and-eq-true-iff (leb 1 chute) (leb chute 512) .0 e .1)
+chute-that-fits Workers chute e = omega (arith, leb-true chute 64 (and-eq-true-iff (leb 1 chute) (leb chute 64) .0 e .1))
 
 -- a chute that fits is none or one of the 512
 pub accepted-chute-is-at-most-last : AcceptedChuteIsAtMostLast
 accepted-chute-is-at-most-last part command e = chute-that-fits (command .kind) (command .chute) (accepted-chute-fits part command e)
 
--- the identifier reader accepted it
+-- thirteen zeros have key 0, and an item's key is one of the identifier reader
+key-read : (kind : Kind) (text : List ℕ) (key : ℕ) → readIdentifier kind text ≡ Identifier.accepted key → key ≤ largestKey
+unfolding readIdentifier readZeros
+key-read kind text key = by (hasItem kind)
+  where
+    whole : (b : Bool) (r : Refusal) → cond b (Identifier.accepted 0) (Identifier.refused r) ≡ Identifier.accepted key → key ≤ largestKey
+    whole true r e = let z : 0 ≡ key = cc in rw (← z) (omega arith)
+    whole false r e = let z : _≡_ {A = ℕ} 0 1 = cc in absurd (omega arith)
+
+    long : (b : Bool) (o : Identifier.TextOutcome) → (o ≡ Identifier.accepted key → key ≤ largestKey) → cond b o (Identifier.refused (plain 8)) ≡ Identifier.accepted key → key ≤ largestKey
+    long true o h e = h e
+    long false o h e = let z : _≡_ {A = ℕ} 0 1 = cc in absurd (omega arith)
+
+    by : (b : Bool) → cond b (readText text) (readZeros text) ≡ Identifier.accepted key → key ≤ largestKey
+    by true e = accepted-is-at-most-largest text key e
+    by false e = long (eqb (length text) 13) (cond (eqb (firstNotZero 0 text) 13) (Identifier.accepted 0) (Identifier.refused (atCharacter (firstNotZero 0 text + 1) (plain 8)))) (whole (eqb (firstNotZero 0 text) 13) (atCharacter (firstNotZero 0 text + 1) (plain 8))) e
+
 pub accepted-key-is-at-most-largest : AcceptedKeyIsAtMostLargest
-accepted-key-is-at-most-largest part command e = accepted-is-at-most-largest (take 13 (drop 1 part)) (command .key) (accepted-passed part command e .read)
+accepted-key-is-at-most-largest part command e = key-read (command .kind) _ (command .key) (accepted-passed part command e .read)
 
 -- so is the key of every command of a list: one that stands for a refused reading has key 0
 pub list-key-is-at-most-largest : (list : List ℕ) (i : ℕ) (command : Command) → getElem? (commandsIn list) i ≡ some command → command .key ≤ largestKey
@@ -124,19 +171,33 @@ list-key-is-at-most-largest list i command = each (partsOf list) i
 -- the kind's and the chute's name none
 pub character-is-the-identifiers : CharacterIsTheIdentifiers
 unfolding readCommand withKind withChute
-character-is-the-identifiers part r e named = cases (kindOf (getD part 0 0)) (readText (take 13 (drop 1 part))) refl e
+character-is-the-identifiers part r e named = cases (kindOf (getD part 0 0)) refl e
   where
+    text : List ℕ
+    text = take 13 (drop 1 part)
+
     plain-not : (n : ℕ) → plain n ≡ r → ⊥
     plain-not n e = named (sym (ap (λ (x : Refusal). x .character) e))
 
-    chosen : (b : Bool) (command : Command) → cond b (accepted command) (refused (plain 10)) ≡ refused r → ⊥
-    chosen true command e = let z : _≡_ {A = ℕ} 0 1 = cc in omega arith
-    chosen false command e = plain-not 10 cc
+    chute-not : (kind : Kind) → chuteRefusal kind ≡ r → ⊥
+    chute-not Insert e = plain-not 10 e
+    chute-not Delete e = plain-not 10 e
+    chute-not Read e = plain-not 10 e
+    chute-not Update e = plain-not 10 e
+    chute-not Workers e = plain-not 14 e
 
-    cases : (k : Option Kind) (o : Identifier.TextOutcome) → readText (take 13 (drop 1 part)) ≡ o → withKind k o (drop 14 part) ≡ refused r → readText (take 13 (drop 1 part)) ≡ Identifier.refused r
-    cases (some kind) (Identifier.accepted key) is e = absurd (chosen (eqb (length (drop 14 part)) 2 && chuteFits kind (chuteOf (drop 14 part))) (record { kind = kind; key = key; chute = chuteOf (drop 14 part) }) e)
-    cases (some kind) (Identifier.refused s) is e = let same : s ≡ r = cc in is ∙ ap Identifier.refused same
-    cases none o is e = absurd (plain-not 7 cc)
+    chosen : (b : Bool) (command : Command) (kind : Kind) → cond b (accepted command) (refused (chuteRefusal kind)) ≡ refused r → ⊥
+    chosen true command kind e = let z : _≡_ {A = ℕ} 0 1 = cc in omega arith
+    chosen false command kind e = chute-not kind cc
+
+    read : (kind : Kind) (o : Identifier.TextOutcome) → withChute kind o (drop 14 part) ≡ refused r → o ≡ Identifier.refused r
+    read kind (Identifier.accepted key) e = absurd (chosen (eqb (length (drop 14 part)) 2 && chuteFits kind (chuteOf (drop 14 part))) (record { kind = kind; key = key; chute = chuteOf (drop 14 part) }) kind e)
+    read kind (Identifier.refused s) e = let same : s ≡ r = cc in ap Identifier.refused same
+
+    cases : (k : Option Kind) → kindOf (getD part 0 0) ≡ k → withKind k text (drop 14 part) ≡ refused r
+        → (kind : Kind) × (kindOf (getD part 0 0) ≡ some kind) × (readIdentifier kind text ≡ Identifier.refused r)
+    cases (some kind) is e = (kind, is, read kind (readIdentifier kind text) e)
+    cases none is e = absurd (plain-not 7 cc)
 
 -- the search ends at the first that is not
 pub no-refusal-is-all-accepted : NoRefusalIsAllAccepted

@@ -1,8 +1,8 @@
--- Which commands are dependent: documents 01, "Command list and store", and 02, A.5. Assumes nothing.
+-- Which commands are dependent: documents 01, "Command list and store", and 02, A.2 and A.5. Assumes nothing.
 use mathlib.Core.Bool.{Bool, true, false, not, _&&_, _||_}
 use lib.Dec.{eqb}
 use Rattle.command.specs.declared.Kind.{Kind}
-use Rattle.command.specs.declared.Kind.the-variants.{Insert, Delete, Read, Update}
+use Rattle.command.specs.declared.Kind.the-variants.{Insert, Delete, Read, Update, Workers}
 use Rattle.command.specs.declared.Command.{Command}
 
 unfoldable pub isInsertOrDelete : Kind → Bool
@@ -10,17 +10,27 @@ isInsertOrDelete Insert = true
 isInsertOrDelete Delete = true
 isInsertOrDelete Read = false
 isInsertOrDelete Update = false
+isInsertOrDelete Workers = false
 
 unfoldable pub isRead : Kind → Bool
 isRead Insert = false
 isRead Delete = false
 isRead Read = true
 isRead Update = false
+isRead Workers = false
+
+-- whether a command of the kind is for an item; kind 5 is for none: "its identifier is thirteen characters 0" (02, A.2)
+unfoldable pub hasItem : Kind → Bool
+hasItem Insert = true
+hasItem Delete = true
+hasItem Read = true
+hasItem Update = true
+hasItem Workers = false
 
 -- "inserts and deletes depend on one another [..] and on any command for their own key; reads and updates of other keys are independent of
 -- them" (02, A.5); "two updates of one key; an update and a read of one key. All other pairs are independent."
--- Of two commands of one key, these are all pairs but two reads.
+-- Of two commands of one key, these are all pairs but two reads. Kind 5 "is dependent on every command" (02, A.2).
 unfoldable pub areDependent : Command → Command → Bool
-unfolding isInsertOrDelete isRead
+unfolding hasItem isInsertOrDelete isRead
 areDependent a b =
-    (isInsertOrDelete (a .kind) && isInsertOrDelete (b .kind)) || (eqb (a .key) (b .key) && not (isRead (a .kind) && isRead (b .kind)))
+    not (hasItem (a .kind) && hasItem (b .kind)) || (isInsertOrDelete (a .kind) && isInsertOrDelete (b .kind)) || (eqb (a .key) (b .key) && not (isRead (a .kind) && isRead (b .kind)))

@@ -5,16 +5,15 @@ use mathlib.Core.Bool.{true, false}
 use mathlib.Core.Logic.{_⊎_}
 use mathlib.Core.List.{List, [], _∷_}
 use mathlib.Core.Option.{some}
-use lib.ListN.{length, take, drop}
+use lib.ListN.{length, getD, take, drop}
 use Rattle.s10.specs.Refusal.{Refusal}
 use Rattle.s10.specs.Text.{largestKey}
-use Rattle.s10.specs.Outcome.{readText}
 use Rattle.s10.specs.Outcome as Identifier
 use Rattle.command.specs.declared.Kind.{Kind}
-use Rattle.command.specs.declared.Kind.the-variants.{Read, Update}
+use Rattle.command.specs.declared.Kind.the-variants.{Read, Update, Workers}
 use Rattle.command.specs.declared.Command.{Command}
-use Rattle.command.specs.Read.{CommandOutcome, accepted, refused, kindOf, kindNumber, chuteFits, readCommand, readings, allAccepted, listRefused, firstRefusal}
-use Rattle.command.specs.Dependent.{isInsertOrDelete, areDependent}
+use Rattle.command.specs.Read.{CommandOutcome, accepted, refused, kindOf, kindNumber, chuteFits, readIdentifier, readCommand, readings, allAccepted, listRefused, firstRefusal}
+use Rattle.command.specs.Dependent.{hasItem, isInsertOrDelete, areDependent}
 
 -- Of two commands each depends on the other, or neither does.
 abbrev pub DependenceIsSymmetric : Type 0
@@ -27,11 +26,13 @@ pub record DependentPairs : Type 0 where
   -- "and on any command for their own key"
   pub ownKey : (a b : Command) → isInsertOrDelete (a .kind) ≡ true → a .key ≡ b .key → areDependent a b ≡ true
   -- "reads and updates of other keys are independent of them", and of one another
-  pub otherKeys : (a b : Command) → isInsertOrDelete (b .kind) ≡ false → (a .key ≡ b .key → ⊥) → areDependent a b ≡ false
+  pub otherKeys : (a b : Command) → hasItem (a .kind) ≡ true → (b .kind ≡ Update) ⊎ (b .kind ≡ Read) → (a .key ≡ b .key → ⊥) → areDependent a b ≡ false
   -- "two updates of one key; an update and a read of one key"
   pub updates : (a b : Command) → a .kind ≡ Update → (b .kind ≡ Update) ⊎ (b .kind ≡ Read) → a .key ≡ b .key → areDependent a b ≡ true
   -- "All other pairs are independent": two reads of one key
   pub reads : (a b : Command) → a .kind ≡ Read → b .kind ≡ Read → areDependent a b ≡ false
+  -- kind 5 "is dependent on every command" (02, A.2)
+  pub workers : (a b : Command) → a .kind ≡ Workers → areDependent a b ≡ true
 
 -- A kind is that of its number.
 abbrev pub KindOfItsNumber : Type 0
@@ -51,7 +52,9 @@ AcceptedKeyIsAtMostLargest = (part : List ℕ) (command : Command) → readComma
 
 -- "0 with any refusal but 8, 9 and 13": a refusal that names a character is the identifier's own.
 abbrev pub CharacterIsTheIdentifiers : Type 0
-CharacterIsTheIdentifiers = (part : List ℕ) (r : Refusal) → readCommand part ≡ refused r → (r .character ≡ 0 → ⊥) → readText (take 13 (drop 1 part)) ≡ Identifier.refused r
+CharacterIsTheIdentifiers =
+    (part : List ℕ) (r : Refusal) → readCommand part ≡ refused r → (r .character ≡ 0 → ⊥)
+    → (kind : Kind) × (kindOf (getD part 0 0) ≡ some kind) × (readIdentifier kind (take 13 (drop 1 part)) ≡ Identifier.refused r)
 
 -- every reading is accepted
 abbrev pub AllAccepted : List CommandOutcome → Type 0

@@ -1,3 +1,4 @@
 pub mod Read
 pub mod Dependent
+pub mod Count
 pub mod Laws

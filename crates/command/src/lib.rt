@@ -1,11 +1,14 @@
 // A command of 16 bytes: kind, identifier and chute.
 ghost use mathlib.Core.Path.{_≡_};
-ghost use Prim.Native.Nat.{_+_, _*_, _≤_, min};
+ghost use Prim.Native.Nat.{ℕ, _+_, _*_, _≤_, min, max};
 ghost use mathlib.Core.Bool.{_&&_};
 ghost use lib.Dec.{leb};
 ghost use Rattle.s10.specs.Outcome.{accepted};
-ghost use Rattle.command.specs.Read.{refusalFor, commandOutcome, knownKind, kindOf, chuteFits, withChute, readCommand, listOutcome, firstRefusal, readings, kindNumber};
-ghost use Rattle.command.specs.Dependent.{isInsertOrDelete, isRead, areDependent};
+ghost use Rattle.command.specs.declared.ListReading.the-variants.{AllRead};
+ghost use Rattle.command.specs.Read.{refusalFor, commandOutcome, knownKind, kindOf, chuteFits, chuteRefusal, firstNotZero, readZeros, readIdentifier, identifierOutcome, withChute, readCommand, commandsIn, listOutcome, firstRefusal, readings, kindNumber};
+ghost use Rattle.command.specs.Dependent.{hasItem, isInsertOrDelete, isRead, areDependent};
+ghost use Rattle.command.specs.Count.{countAfter, largestCount};
+use s10::Character;
 use s10::Identifier;
 
 // A command's place in the list, from 1 ("delivery place" of document 01); 0 is none.
@@ -16,6 +19,8 @@ pub enum Kind {
     Delete,
     Read,
     Update,
+    // Sets the worker count; its identifier is thirteen characters 0 and its chute field the count.
+    Workers,
 }
 
 // What the number of a kind stands for.
@@ -34,7 +39,16 @@ pub struct Command {
 pub enum Reason {
     UnknownKind,
     WrongIdentifier(s10::Reason),
+    // The first character that is not 0 of an identifier that must be zeros.
+    NotZero(Character),
     WrongChute,
+    WrongCount,
+}
+
+// What reading the identifier of a command finds.
+enum Named {
+    Key(u64),
+    Refused(Reason),
 }
 
 // What reading one command finds.
@@ -43,21 +57,24 @@ pub enum Reading {
     Refused(Reason),
 }
 
-// What reading a list of commands finds: every command read, or the first that was refused.
+// What reading a list of commands finds: every command read, with the largest worker count that they set, 0 for none; or the
+// first that was refused.
 pub enum ListReading {
-    AllRead,
+    AllRead(usize),
     RefusedAt(Seq, Reason),
 }
 
 impl Reason {
     // The refusal's number.
     pub fn number(self) -> u64
-        ensures { λ r. ⌜ (r ≡ refusalFor self .number) × (r ≤ 13) ⌝ }
+        ensures { λ r. ⌜ (r ≡ refusalFor self .number) × (r ≤ 14) ⌝ }
     {
         match self {
             Reason::UnknownKind => 7,
             Reason::WrongIdentifier(reason) => reason.number(),
+            Reason::NotZero(_) => 8,
             Reason::WrongChute => 10,
+            Reason::WrongCount => 14,
         }
     }
 
@@ -68,7 +85,9 @@ impl Reason {
         match self {
             Reason::UnknownKind => 0,
             Reason::WrongIdentifier(reason) => reason.character(),
+            Reason::NotZero(character) => character.0,
             Reason::WrongChute => 0,
+            Reason::WrongCount => 0,
         }
     }
 }
@@ -77,6 +96,8 @@ impl Command {
     pub const LENGTH: usize = 16;
 
     pub const LARGEST_CHUTE: u16 = 512;
+
+    pub const MOST_WORKERS: u16 = 64;
 
     // Where the identifier and the chute stand.
     const IDENTIFIER: usize = 1;
@@ -94,10 +115,10 @@ impl Command {
             return Reading::Refused(Reason::UnknownKind);
         };
         let end = smaller(Command::CHUTE, part.len());
-        let identifier = Identifier::read(&part[Command::IDENTIFIER..end]);
+        let identifier = kind.read_identifier(&part[Command::IDENTIFIER..end]);
         match identifier {
-            s10::Reading::Key(key) => with_chute(kind, key, &part[end..]),
-            s10::Reading::Refused(reason) => Reading::Refused(Reason::WrongIdentifier(reason)),
+            Named::Key(key) => with_chute(kind, key, &part[end..]),
+            Named::Refused(reason) => Reading::Refused(reason),
         }
     }
 
@@ -107,6 +128,12 @@ impl Command {
     {
         let kind = self.kind;
         let other_kind = other.kind;
+        if !kind.has_item() {
+            return true;
+        }
+        if !other_kind.has_item() {
+            return true;
+        }
         if kind.is_insert_or_delete() && other_kind.is_insert_or_delete() {
             return true;
         }
@@ -114,6 +141,17 @@ impl Command {
             return false;
         }
         !(kind.is_read() && other_kind.is_read())
+    }
+
+    // The worker count after the command.
+    pub fn count_after(self, count: usize) -> usize
+        ensures { λ r. ⌜ r ≡ countAfter self count ⌝ }
+    {
+        let kind = self.kind;
+        match kind {
+            Kind::Workers => self.chute as usize,
+            Kind::Insert | Kind::Delete | Kind::Read | Kind::Update => count,
+        }
     }
 }
 
@@ -127,6 +165,7 @@ impl Kind {
             2 => AnyKind::Known(Kind::Delete),
             3 => AnyKind::Known(Kind::Read),
             4 => AnyKind::Known(Kind::Update),
+            5 => AnyKind::Known(Kind::Workers),
             _ => AnyKind::Unknown,
         }
     }
@@ -140,6 +179,7 @@ impl Kind {
             Kind::Delete => 2,
             Kind::Read => 3,
             Kind::Update => 4,
+            Kind::Workers => 5,
         }
     }
 
@@ -148,7 +188,7 @@ impl Kind {
     {
         match self {
             Kind::Read => true,
-            Kind::Insert | Kind::Delete | Kind::Update => false,
+            Kind::Insert | Kind::Delete | Kind::Update | Kind::Workers => false,
         }
     }
 
@@ -157,7 +197,41 @@ impl Kind {
     {
         match self {
             Kind::Insert | Kind::Delete => true,
-            Kind::Read | Kind::Update => false,
+            Kind::Read | Kind::Update | Kind::Workers => false,
+        }
+    }
+
+    // Whether a command of this kind is for an item.
+    pub fn has_item(self) -> bool
+        ensures { λ r. ⌜ r ≡ hasItem self ⌝ }
+    {
+        match self {
+            Kind::Insert | Kind::Delete | Kind::Read | Kind::Update => true,
+            Kind::Workers => false,
+        }
+    }
+
+    // The identifier of a command of this kind: an item's, or zeros where it is for none.
+    fn read_identifier(self, text: &[u8]) -> Named
+        ensures { λ r. ⌜ identifierOutcome r ≡ readIdentifier self (now (text .entry)) ⌝ }
+    {
+        if self.has_item() {
+            let identifier = Identifier::read(text);
+            return match identifier {
+                s10::Reading::Key(key) => Named::Key(key),
+                s10::Reading::Refused(reason) => Named::Refused(Reason::WrongIdentifier(reason)),
+            };
+        }
+        read_zeros(text)
+    }
+
+    // Why a chute is refused that a command of this kind may not carry.
+    fn chute_reason(self) -> Reason
+        ensures { λ r. ⌜ refusalFor r ≡ chuteRefusal self ⌝ }
+    {
+        match self {
+            Kind::Workers => Reason::WrongCount,
+            Kind::Insert | Kind::Delete | Kind::Read | Kind::Update => Reason::WrongChute,
         }
     }
 
@@ -166,17 +240,46 @@ impl Kind {
         ensures { λ r. ⌜ r ≡ chuteFits self chute ⌝ }
     {
         match self {
-            Kind::Insert | Kind::Update => is_chute(chute),
+            Kind::Insert | Kind::Update => is_within(chute, Command::LARGEST_CHUTE),
             Kind::Delete | Kind::Read => chute == 0,
+            Kind::Workers => is_within(chute, Command::MOST_WORKERS),
         }
     }
 }
 
-// Whether a number is a chute's.
-fn is_chute(number: u16) -> bool
-    ensures { λ r. ⌜ r ≡ (leb 1 number && leb number 512) ⌝ }
+// Where the first character stands that is not 0, from 0; the length where all are.
+fn first_not_zero(text: &[u8]) -> usize
+    ensures { λ r. ⌜ r ≡ firstNotZero 0 (now (text .entry)) ⌝ }
 {
-    1 <= number && number <= Command::LARGEST_CHUTE
+    let mut i = 0;
+    while i < text.len() {
+        if text[i] != b'0' {
+            return i;
+        }
+        i += 1;
+    }
+    i
+}
+
+// An identifier of thirteen characters 0, which has key 0.
+fn read_zeros(text: &[u8]) -> Named
+    ensures { λ r. ⌜ identifierOutcome r ≡ readZeros (now (text .entry)) ⌝ }
+{
+    if text.len() != Identifier::LENGTH {
+        return Named::Refused(Reason::WrongIdentifier(s10::Reason::WrongLength));
+    }
+    let at = first_not_zero(text);
+    if at < Identifier::LENGTH {
+        return Named::Refused(Reason::NotZero(Character(at as u8 + 1)));
+    }
+    Named::Key(0)
+}
+
+// Whether a number is from 1 to the largest.
+fn is_within(number: u16, largest: u16) -> bool
+    ensures { λ r. ⌜ r ≡ (leb 1 number && leb number largest) ⌝ }
+{
+    1 <= number && number <= largest
 }
 
 // The number that two bytes write, the high one first.
@@ -184,6 +287,13 @@ fn number_of(high: u8, low: u8) -> u16
     ensures { λ r. ⌜ r ≡ 256 * high + low ⌝ }
 {
     high as u16 * 256 + low as u16
+}
+
+// The larger of two counts.
+fn larger(a: usize, b: usize) -> usize
+    ensures { λ r. ⌜ r ≡ max a b ⌝ }
+{
+    if a < b { b } else { a }
 }
 
 // The smaller of two numbers.
@@ -198,30 +308,32 @@ fn with_chute(kind: Kind, key: u64, bytes: &[u8]) -> Reading
     ensures { λ r. ⌜ commandOutcome r ≡ withChute kind (accepted key) (now (bytes .entry)) ⌝ }
 {
     if bytes.len() != Command::LENGTH - Command::CHUTE {
-        return Reading::Refused(Reason::WrongChute);
+        return Reading::Refused(kind.chute_reason());
     }
     let chute = number_of(bytes[0], bytes[1]);
     if !kind.takes(chute) {
-        return Reading::Refused(Reason::WrongChute);
+        return Reading::Refused(kind.chute_reason());
     }
     Reading::Read(Command { kind, key, chute })
 }
 
 // Reads every command of a list, in order, up to the first refusal.
 pub fn read_list(list: &[u8]) -> ListReading
-    ensures { λ r. ⌜ listOutcome r ≡ firstRefusal 1 (readings (now (list .entry))) ⌝ }
+    ensures outcome { λ r. ⌜ listOutcome r ≡ firstRefusal 1 (readings (now (list .entry))) ⌝ }
+    ensures largest { λ r. ⌜ ((n : ℕ) → r ≡ AllRead n → n ≡ largestCount 0 (commandsIn (now (list .entry)))) ⌝ }
 {
     let mut at = 0;
     let mut seq = 1;
+    let mut largest = 0;
     while at < list.len() {
         let end = smaller(at + Command::LENGTH, list.len());
         let reading = Command::read(&list[at..end]);
         match reading {
-            Reading::Read(_) => {}
+            Reading::Read(command) => largest = larger(largest, command.count_after(largest)),
             Reading::Refused(reason) => return ListReading::RefusedAt(Seq(seq), reason),
         }
         at = end;
         seq += 1;
     }
-    ListReading::AllRead
+    ListReading::AllRead(largest)
 }

@@ -89,6 +89,7 @@ accepted-opening size workers capacity commands lent l e =
       setup = record {
         size = range size 150 (e1 .0);
         workers = range workers 64 (e2 .0);
+        largest = refl;
         capacity = range capacity 4096 (e3 .0);
         count = omega (arith, leb-true (length commands / 16) 4096 (e5 .0));
         chutes = commands-fit commands (left .0);

@@ -20,7 +20,7 @@ module _ (l : Lists) (commands schedule : List ℕ) where
   unfolding advanceOn
   refuses-state e f = rw (e, f)
 
-  pub refuses-thread : handedBackFit l commands ≡ true → stateFits l ≡ true → allWithin (setupIn (l .state) commands .workers) schedule ≡ false
+  pub refuses-thread : handedBackFit l commands ≡ true → stateFits l ≡ true → allWithin (setupIn (l .state) commands .largest) schedule ≡ false
       → advanceOn l commands schedule ≡ refused (plain 11)
   unfolding advanceOn
   refuses-thread e f g = rw (e, f, g)

@@ -1,6 +1,6 @@
 -- Demand 3 over calls, proved: the lists kept are always those of the state that the performed schedules reach, so that the three parts of
 -- the model's theorem are read off them. Assumes nothing.
-use Prim.Native.Nat.{ℕ, zero, suc, _+_, _*_, _<_}
+use Prim.Native.Nat.{ℕ, zero, suc, _+_, _*_, _≤_, _<_}
 use native.Mathlib.Numerals.{add-one}
 use native.Mathlib.Omega.{arith}
 use mathlib.Core.Path.{_≡_, refl, sym, ap, _∙_}
@@ -15,9 +15,9 @@ use Rattle.model.specs.Setup.{Setup}
 use Rattle.model.specs.Step.{State, opened, steps}
 use Rattle.model.specs.Statement.{Accepted, allWithin, Holds}
 use Rattle.model.specs.Proof.Serial.{Ascending}
-use Rattle.model.specs.Proof.Service.{entries-ascending}
+use Rattle.model.specs.Proof.Service.{entries-ascending, count-within}
 use Rattle.model.specs.Proof.Finish.Schedule.{steps-append, within-append}
-use Rattle.model.specs.Proof.Theorem.{table-at-any-moment, demand-3}
+use Rattle.model.specs.Proof.Theorem.{reached, table-at-any-moment, demand-3}
 use Rattle.model.specs.Proof.Formed.{Formed}
 use Rattle.model.specs.Proof.Formed.Keep.{steps-formed}
 use Rattle.model.specs.Proof.Formed.Opening.{opened-formed, accepted-formed}
@@ -64,26 +64,30 @@ answer-in l c = refl
 -- a call on lists that fit performs its schedule on what is read of them, or refuses an unknown thread
 advance-is : (l : Lists) (commands schedule : List ℕ) (o : Setup) (s : State) → handedBackFit l commands ≡ true → stateFits l ≡ true
     → setupIn (l .state) commands ≡ o → stateIn l ≡ s
-    → advanceOn l commands schedule ≡ cond (allWithin (o .workers) schedule) (accepted (listsOf o (steps o schedule s))) (refused (plain 11))
+    → advanceOn l commands schedule ≡ cond (allWithin (o .largest) schedule) (accepted (listsOf o (steps o schedule s))) (refused (plain 11))
 unfolding advanceOn
 advance-is l commands schedule o s fit whole setup state = rw (fit, whole, setup, state)
 
 -- the lists are those that a schedule reaches from the opening
 abbrev pub Reach : Setup → Lists → List ℕ → Type 0
-Reach o l ts = (allWithin (o .workers) ts ≡ true) × (l ≡ listsOf o (steps o ts (opened o)))
+Reach o l ts = (allWithin (o .largest) ts ≡ true) × (l ≡ listsOf o (steps o ts (opened o)))
 
 -- the opening reaches its lists by no step
 pub opening-reaches : (o : Setup) (l : Lists) → l ≡ listsOf o (opened o) → Reach o l []
 unfolding allWithin steps
 opening-reaches o l e = (refl, e)
 
-module _ (o : Setup) (acc : Accepted o) (ts : List ℕ) (within : allWithin (o .workers) ts ≡ true) where
+module _ (o : Setup) (acc : Accepted o) (ts : List ℕ) (within : allWithin (o .largest) ts ≡ true) where
   -- a reached state is formed, its keys ascend, and its lists are read as it
   pub formed : Formed o (steps o ts (opened o))
-  formed = steps-formed o (accepted-formed o acc) ts within (opened o) (opened-formed o (acc .size .0) (accepted-formed o acc))
+  formed = steps-formed o (accepted-formed o acc) ts within (opened o) (opened-formed o (acc .size .0) (acc .workers .0) (accepted-formed o acc))
 
   ascending : ascends (steps o ts (opened o) .service .store .used) (steps o ts (opened o) .service .store .keys) ≡ true
   ascending = rw (table-at-any-moment o acc ts within) (laid-ascends (o .capacity) _ (entries-ascending o _))
+
+  -- the worker count in force is one of the opening's and the list's
+  limited : steps o ts (opened o) .service .limit ≤ o .largest
+  limited = rw (reached o acc ts within .service .limited) (count-within o acc _ .1)
 
   pub read-back : stateIn (listsOf o (steps o ts (opened o))) ≡ steps o ts (opened o)
   read-back = state-read-back o (steps o ts (opened o)) (accepted-formed o acc) formed
@@ -91,13 +95,13 @@ module _ (o : Setup) (acc : Accepted o) (ts : List ℕ) (within : allWithin (o .
   -- a call on the lists of a reached state performs its schedule, or refuses an unknown thread
   call-performs : (commands : List ℕ) → o .commands ≡ commandsIn commands → length commands ≡ 16 * length (o .commands) → (schedule : List ℕ)
       → advanceOn (listsOf o (steps o ts (opened o))) commands schedule
-      ≡ cond (allWithin (o .workers) schedule) (accepted (listsOf o (steps o (ts ++ schedule) (opened o)))) (refused (plain 11))
+      ≡ cond (allWithin (o .largest) schedule) (accepted (listsOf o (steps o (ts ++ schedule) (opened o)))) (refused (plain 11))
   call-performs commands same long schedule =
       let s : State = steps o ts (opened o) in
       let fo = accepted-formed o acc in
       rw (steps-append o ts schedule (opened o))
       (advance-is (listsOf o s) commands schedule o s (lists-fit o s fo formed commands long)
-      (state-fits o s fo formed (acc .size .0) (acc .workers .0) (acc .capacity .0) ascending)
+      (state-fits o s fo formed (acc .size .0) (acc .workers .0) limited (acc .capacity .0) ascending)
       (rw (lists-state o s) (setup-read-back o s fo formed commands same)) read-back)
 
 -- ---- the lists after calls
@@ -107,8 +111,8 @@ module _ (o : Setup) (acc : Accepted o) (commands : List ℕ) (same : o .command
   pub accepted-reaches : (l m : Lists) (ts schedule : List ℕ) → Reach o l ts → advanceOn l commands schedule ≡ accepted m → Reach o m (ts ++ schedule)
   accepted-reaches l m ts schedule r e =
       let performed = sym (call-performs o acc ts (r .0) commands same long schedule) ∙ rw (r .1) at e in
-      let pass = passed (allWithin (o .workers) schedule) 11 performed in
-      (within-append (o .workers) ts schedule (r .0) (pass .0), (let q = pass .1 in cc))
+      let pass = passed (allWithin (o .largest) schedule) 11 performed in
+      (within-append (o .largest) ts schedule (r .0) (pass .0), (let q = pass .1 in cc))
 
   -- a refused call leaves the lists, and an accepted one leaves those that its schedule reaches
   call-reaches : (call : Call) (l : Lists) (ts : List ℕ) (outcome : CallOutcome) → callOn call ≡ outcome → ProperCall commands l call outcome → Reach o l ts
@@ -136,7 +140,7 @@ module _ (o : Setup) (acc : Accepted o) (commands : List ℕ) (same : o .command
     answer-is c = sym (answer-in l c) ∙ ap (λ (s : State). s .service .answers c) state-is
 
     -- a schedule that names known threads is accepted
-    pub more-accepted : (more : List ℕ) → allWithin (o .workers) more ≡ true → advanceOn l commands more ≡ accepted (listsOf o (steps o (ts ++ more) (opened o)))
+    pub more-accepted : (more : List ℕ) → allWithin (o .largest) more ≡ true → advanceOn l commands more ≡ accepted (listsOf o (steps o (ts ++ more) (opened o)))
     more-accepted more within = rw (r .1) (call-performs o acc ts (r .0) commands same long more ∙ rw within)
 
     -- each part is the model's
@@ -145,7 +149,7 @@ module _ (o : Setup) (acc : Accepted o) (commands : List ℕ) (same : o .command
         let model : Holds o ts = demand-3 o acc ts (r .0) in
         let f = model .finish in
         let last : State = steps o (ts ++ f .0) (opened o) in
-        let read-last : stateIn (listsOf o last) ≡ last = read-back o acc (ts ++ f .0) (within-append (o .workers) ts (f .0) (r .0) (f .1)) in
+        let read-last : stateIn (listsOf o last) ≡ last = read-back o acc (ts ++ f .0) (within-append (o .largest) ts (f .0) (r .0) (f .1)) in
         record {
           answer = λ c low high. answer-is c ∙ model .answer c low high;
           table = λ all. (λ c low high. rw (answer-is c) (model .table all .0 c low high), ap (λ (s : State). s .service .store) state-is ∙ model .table all .1);
@@ -168,8 +172,8 @@ demand-3-over-calls size workers capacity commands lent l e calls proper =
 
 -- an accepted opening, then one call: a schedule of known threads is performed, and what is read of the lists left is the state reached
 pub opening-performs : (size workers capacity : ℕ) (commands : List ℕ) (lent l : Lists) → openOn size workers capacity commands lent ≡ accepted l
-    → (schedule : List ℕ) → allWithin workers schedule ≡ true
     → let o : Setup = setupOf size workers capacity commands in
+    (schedule : List ℕ) → allWithin (o .largest) schedule ≡ true →
     let s : State = steps o schedule (opened o) in
     (advanceOn l commands schedule ≡ accepted (listsOf o s)) × (stateIn (listsOf o s) ≡ s)
 opening-performs size workers capacity commands lent l e schedule within =

@@ -70,10 +70,10 @@ module _ (l : Lists) (commands : List ℕ) where
   unfolding threadFitsAt threadFits threadAt
   thread-passed size t small fit =
       let b = l .state in
-      let tag = getD b (4390 + 5 * t) 0 in
-      let at = getD b (4391 + 5 * t) 0 in
-      let own = getD b (4392 + 5 * t) 0 in
-      let found = numberAt 2 (4393 + 5 * t) b in
+      let tag = getD b (4393 + 5 * t) 0 in
+      let at = getD b (4394 + 5 * t) 0 in
+      let own = getD b (4395 + 5 * t) 0 in
+      let found = numberAt 2 (4396 + 5 * t) b in
       let each = each-passed (leb tag 7) (leb at size ∷ leb own size ∷ cond (eqb t 0) (leb tag 1) (not (eqb tag 1))
       ∷ (eqb tag 1 || eqb tag 2 || eqb tag 6 || eqb tag 7 || eqb at 0)
       ∷ (eqb tag 1 || eqb tag 3 || eqb tag 4 || eqb tag 5 || eqb tag 6 || eqb tag 7 || eqb own 0) ∷ (eqb tag 4 || eqb found 0) ∷ []) fit in
@@ -81,16 +81,16 @@ module _ (l : Lists) (commands : List ℕ) where
 
   -- all of them
   pub threads-within : InRange l → (t : ℕ) → t < 65 → NodesWithin (threadAt (l .state) t)
-  threads-within range t h = thread-passed (numberAt 1 0 (l .state)) t (range .size) (range .threads t h)
+  threads-within range t h = thread-passed (numberAt 1 1 (l .state)) t (range .size) (range .threads t h)
 
   -- there are as many commands as the state says
   pub fit-count : Long l commands → length (commandsIn commands) ≡ countIn (l .state)
   fit-count long = commands-length commands (countIn (l .state)) (long .commands-are)
 
   -- the schedule's threads are among the 65, and the setup is that of the lists
-  pub fit-named : InRange l → (schedule : List ℕ) → allWithin (setupIn (l .state) commands .workers) schedule ≡ true → allWithin 64 schedule ≡ true
+  pub fit-named : InRange l → (schedule : List ℕ) → allWithin (setupIn (l .state) commands .largest) schedule ≡ true → allWithin 64 schedule ≡ true
   unfolding setupIn
-  fit-named range schedule = within-higher (numberAt 1 1 (l .state)) 64 (range .workers) schedule
+  fit-named range schedule = within-higher (numberAt 1 3 (l .state)) 64 (range .largest) schedule
 
   pub fit-capacity : Long l commands → setupIn (l .state) commands .capacity ≡ length (l .keys)
   unfolding setupIn
@@ -100,20 +100,20 @@ module _ (l : Lists) (commands : List ℕ) where
   unfolding setupIn
   fit-commands = refl
 
--- the worker count is byte 1
-pub workers-in : (b commands : List ℕ) → length b ≡ stateLength → setupIn b commands .workers ≡ getD b 1 0
+-- the largest worker count is byte 3
+pub largest-in : (b commands : List ℕ) → length b ≡ stateLength → setupIn b commands .largest ≡ getD b 3 0
 unfolding setupIn stateLength
-workers-in b commands long = number-one 1 b (omega arith)
+largest-in b commands long = number-one 3 b (omega arith)
 
 -- ---- the arrays of handed-back lists
 
 -- what is read into the arrays
 pub record ReadOut (l : Lists) (k : Counters) (next seq : List ℕ) (executing locked : List Bool) (waits : List (List ℕ)) (threads : List Thread) : Type 0 where
   pub counters : CountersIn (l .state) k
-  pub next-is : next ≡ tabulate 151 (λ (n : ℕ). getD (l .state) (11 + n) 0)
-  pub seq-is : seq ≡ tabulate 151 (λ (n : ℕ). numberAt 2 (162 + 2 * n) (l .state))
-  pub executing-is : executing ≡ tabulate 151 (λ (n : ℕ). eqb (getD (l .state) (464 + n) 0) 1)
-  pub locked-is : locked ≡ tabulate 151 (λ (n : ℕ). eqb (getD (l .state) (615 + n) 0) 1)
+  pub next-is : next ≡ tabulate 151 (λ (n : ℕ). getD (l .state) (14 + n) 0)
+  pub seq-is : seq ≡ tabulate 151 (λ (n : ℕ). numberAt 2 (165 + 2 * n) (l .state))
+  pub executing-is : executing ≡ tabulate 151 (λ (n : ℕ). eqb (getD (l .state) (467 + n) 0) 1)
+  pub locked-is : locked ≡ tabulate 151 (λ (n : ℕ). eqb (getD (l .state) (618 + n) 0) 1)
   pub waits-is : waits ≡ tabulate 151 (setAt (l .state))
   pub threads-are : threads ≡ tabulate 65 (threadAt (l .state))
 
@@ -133,14 +133,14 @@ module _ (l : Lists) {k : Counters} {next seq : List ℕ} {executing locked : Li
       loaded = r .counters .loaded-is i;
     };
     threads = fun-ext (λ t. ap (λ (a : List Thread). getD a t Idle) (r .threads-are) ∙ tabulate-cond 65 _ Idle t) i;
-    service = record { store = record { keys = l .keys; chutes = l .chutes; used = r .counters .used-is i }; answers = λ c. getD (0 ∷ l .answers) c 0 };
+    service = record { store = record { keys = l .keys; chutes = l .chutes; used = r .counters .used-is i }; answers = λ c. getD (0 ∷ l .answers) c 0; limit = r .counters .limit-is i };
   }
 
   module _ (commands : List ℕ) (long : Long l commands) (range : InRange l) where
     -- each sequence number is that of a command
     pub read-placed : (n : ℕ) → 16 * getD seq n 0 ≤ length commands
     read-placed n =
-        let h = tabulate-all (λ (x : ℕ). x ≤ countIn (l .state)) 151 (λ (n : ℕ). numberAt 2 (162 + 2 * n) (l .state)) 0 (range .seq) (omega arith) n in
+        let h = tabulate-all (λ (x : ℕ). x ≤ countIn (l .state)) 151 (λ (n : ℕ). numberAt 2 (165 + 2 * n) (l .state)) 0 (range .seq) (omega arith) n in
         let e = ap (λ (a : List ℕ). getD a n 0) (r .seq-is) in
         omega (arith, long .commands-are, h, e)
 

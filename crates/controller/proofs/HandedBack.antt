@@ -74,41 +74,41 @@ flag-again (suc (suc n)) h = absurd (omega arith)
 
 -- ---- what stands in the bytes
 
-module _ (b : List ℕ) (long : length b ≡ 4715) (bytes : Bytes b) where
+module _ (b : List ℕ) (long : length b ≡ 4718) (bytes : Bytes b) where
   -- a number, a byte and a flag that are read are written again
-  number-here : (k at : ℕ) → at + k ≤ 4715 → bytesOf k (numberAt k at b) ≡ take k (drop at b)
+  number-here : (k at : ℕ) → at + k ≤ 4718 → bytesOf k (numberAt k at b) ≡ take k (drop at b)
   number-here k at h = number-stands k at b bytes (omega arith)
 
-  byte-here : (at : ℕ) → at < 4715 → bytesOf 1 (getD b at 0) ≡ take 1 (drop at b)
+  byte-here : (at : ℕ) → at < 4718 → bytesOf 1 (getD b at 0) ≡ take 1 (drop at b)
   byte-here at h = one-byte (getD b at 0) (bytes at) ∙ sym (next-stands 0 at (suc at) b refl (omega arith))
 
-  flag-here : (at : ℕ) → at < 4715 → getD b at 0 ≤ 1 → flagByte (eqb (getD b at 0) 1) ≡ take 1 (drop at b)
+  flag-here : (at : ℕ) → at < 4718 → getD b at 0 ≤ 1 → flagByte (eqb (getD b at 0) 1) ≡ take 1 (drop at b)
   flag-here at h small = flag-again (getD b at 0) small ∙ sym (next-stands 0 at (suc at) b refl (omega arith))
 
   -- a word whose bits a set has
-  word-here : (set : ℕ → Bool) (at place : ℕ) → at ≡ place → at + 8 ≤ 4715 → ((y : ℕ) → y < 64 → set y ≡ bit (numberAt 8 at b) y)
+  word-here : (set : ℕ → Bool) (at place : ℕ) → at ≡ place → at + 8 ≤ 4718 → ((y : ℕ) → y < 64 → set y ≡ bit (numberAt 8 at b) y)
       → bytesOf 8 (wordOf 64 set) ≡ take 8 (drop place b)
   word-here set at place e h same =
       ap (bytesOf 8) (word-again (numberAt 8 at b) set (number-read-below 8 at b bytes (omega arith)) same) ∙ number-here 8 at h ∙ ap (λ (p : ℕ). take 8 (drop p b)) e
 
   -- so are a set's three words
-  set-here : (n : ℕ) → n < 151 → setBytes (member (setAt b n)) ≡ take 24 (drop (766 + 24 * n) b)
+  set-here : (n : ℕ) → n < 151 → setBytes (member (setAt b n)) ≡ take 24 (drop (769 + 24 * n) b)
   unfolding setAt
   set-here n h =
-      let first = numberAt 8 (766 + 24 * n) b in
-      let second = numberAt 8 (774 + 24 * n) b in
-      let third = numberAt 8 (782 + 24 * n) b in
+      let first = numberAt 8 (769 + 24 * n) b in
+      let second = numberAt 8 (777 + 24 * n) b in
+      let third = numberAt 8 (785 + 24 * n) b in
       let later : (y : ℕ) → 128 + y ≡ 64 + (64 + y) = λ y. omega arith in
-      set-parts (member (setAt b n)) ∙ parts-of (setParts (member (setAt b n))) (8 ∷ 8 ∷ 8 ∷ []) (766 + 24 * n) b
-      (word-here (member (setAt b n)) (766 + 24 * n) (766 + 24 * n) refl (omega arith) (member-low first (second ∷ third ∷ []))
-      ▸ word-here (λ y. member (setAt b n) (64 + y)) (774 + 24 * n) (766 + 24 * n + 8) (omega arith) (omega arith)
+      set-parts (member (setAt b n)) ∙ parts-of (setParts (member (setAt b n))) (8 ∷ 8 ∷ 8 ∷ []) (769 + 24 * n) b
+      (word-here (member (setAt b n)) (769 + 24 * n) (769 + 24 * n) refl (omega arith) (member-low first (second ∷ third ∷ []))
+      ▸ word-here (λ y. member (setAt b n) (64 + y)) (777 + 24 * n) (769 + 24 * n + 8) (omega arith) (omega arith)
       (λ y l. member-high first (second ∷ third ∷ []) y ∙ member-low second (third ∷ []) y l)
-      ▸ word-here (λ y. member (setAt b n) (128 + y)) (782 + 24 * n) (766 + 24 * n + 8 + 8) (omega arith) (omega arith)
+      ▸ word-here (λ y. member (setAt b n) (128 + y)) (785 + 24 * n) (769 + 24 * n + 8 + 8) (omega arith) (omega arith)
       (λ y l. ap (member (setAt b n)) (later y) ∙ member-high first (second ∷ third ∷ []) (64 + y) ∙ member-high second (third ∷ []) y ∙ member-low third [] y l)
       ▸ tt)
 
   -- three elements and two bytes
-  five-here : (p q r u : ℕ) → q ≡ suc p → r ≡ suc q → u ≡ suc r → u + 2 ≤ 4715
+  five-here : (p q r u : ℕ) → q ≡ suc p → r ≡ suc q → u ≡ suc r → u + 2 ≤ 4718
       → take 5 (drop p b) ≡ getD b p 0 ∷ getD b q 0 ∷ getD b r 0 ∷ bytesOf 2 (numberAt 2 u b)
   five-here p q r u eq er eu h =
       next-stands 4 p q b eq (omega arith) ∙ ap (λ (x : List ℕ). getD b p 0 ∷ x)
@@ -116,11 +116,11 @@ module _ (b : List ℕ) (long : length b ≡ 4715) (bytes : Bytes b) where
       (next-stands 2 r u b eu (omega arith) ∙ ap (λ (x : List ℕ). getD b r 0 ∷ x) (sym (number-here 2 u h))))
 
   -- and a thread's five bytes
-  thread-here : (size t : ℕ) → t < 65 → threadFitsAt b size t ≡ true → threadBytes (threadAt b t) ≡ take 5 (drop (4390 + 5 * t) b)
+  thread-here : (size t : ℕ) → t < 65 → threadFitsAt b size t ≡ true → threadBytes (threadAt b t) ≡ take 5 (drop (4393 + 5 * t) b)
   unfolding threadFitsAt threadAt
   thread-here size t h fit =
-      kept-bytes (threadAt b t) _ _ _ _ (thread-kept size t (getD b (4390 + 5 * t) 0) (getD b (4391 + 5 * t) 0) (getD b (4392 + 5 * t) 0) (numberAt 2 (4393 + 5 * t) b) fit)
-      ∙ sym (five-here (4390 + 5 * t) (4391 + 5 * t) (4392 + 5 * t) (4393 + 5 * t) (omega arith) (omega arith) (omega arith) (omega arith))
+      kept-bytes (threadAt b t) _ _ _ _ (thread-kept size t (getD b (4393 + 5 * t) 0) (getD b (4394 + 5 * t) 0) (getD b (4395 + 5 * t) 0) (numberAt 2 (4396 + 5 * t) b) fit)
+      ∙ sym (five-here (4393 + 5 * t) (4394 + 5 * t) (4395 + 5 * t) (4396 + 5 * t) (omega arith) (omega arith) (omega arith) (omega arith))
 
   -- a run of single bytes
   run-here : (f : ℕ → List ℕ) (at : ℕ) → ((n : ℕ) → n < 151 → f n ≡ take 1 (drop (at + n) b)) → fields 151 f ≡ take 151 (drop at b)
@@ -133,7 +133,7 @@ at-first {ℓ} : {A : Type ℓ} (f : A → List ℕ) (x d : A) (n k : ℕ) → n
 at-first f x d n k h = ap (λ (t : Bool). f (cond t x d)) (lt-ltb n k h)
 
 module _ (l : Lists) (commands : List ℕ) (bytes : Bytes (l .state)) (lengths : Long l commands) (range : InRange l) where
-  long : length (l .state) ≡ 4715
+  long : length (l .state) ≡ 4718
   unfolding stateLength
   long = lengths .state
 
@@ -142,7 +142,7 @@ module _ (l : Lists) (commands : List ℕ) (bytes : Bytes (l .state)) (lengths :
   count = commands-length commands (countIn (l .state)) (lengths .commands-are)
 
   -- the laws above, for these bytes
-  numbers-again : (k at : ℕ) → at + k ≤ 4715 → bytesOf k (numberAt k at (l .state)) ≡ take k (drop at (l .state))
+  numbers-again : (k at : ℕ) → at + k ≤ 4718 → bytesOf k (numberAt k at (l .state)) ≡ take k (drop at (l .state))
   numbers-again = number-here (l .state) long bytes
 
   run-again : (f : ℕ → List ℕ) (at : ℕ) → ((n : ℕ) → n < 151 → f n ≡ take 1 (drop (at + n) (l .state))) → fields 151 f ≡ take 151 (drop at (l .state))
@@ -153,25 +153,25 @@ module _ (l : Lists) (commands : List ℕ) (bytes : Bytes (l .state)) (lengths :
   unfolding setupIn countIn stateIn
   parts-again =
       let b = l .state in
-      numbers-again 1 0 (omega arith) ▸ numbers-again 1 1 (omega arith) ▸ numbers-again 2 2 (omega arith)
-      ▸ (ap (bytesOf 2) (count) ∙ numbers-again 2 4 (omega arith))
-      ▸ numbers-again 2 6 (omega arith) ▸ numbers-again 2 8 (omega arith) ▸ numbers-again 1 10 (omega arith)
-      ▸ run-again (λ n. bytesOf 1 (stateIn l .graph .next n)) 11 (λ n h. at-first (bytesOf 1) _ _ n 151 h ∙ byte-here b long bytes (11 + n) (omega arith))
-      ▸ fields-of 2 151 (λ n. bytesOf 2 (stateIn l .graph .seq n)) 162 b (λ n h. at-first (bytesOf 2) _ _ n 151 h ∙ numbers-again 2 (162 + 2 * n) (omega arith))
-      ▸ run-again (λ n. flagByte (stateIn l .graph .executing n)) 464
-      (λ n h. at-first flagByte _ _ n 151 h ∙ flag-here b long bytes (464 + n) (omega arith) (range .executing n h))
-      ▸ run-again (λ n. flagByte (stateIn l .graph .locked n)) 615
-      (λ n h. at-first flagByte _ _ n 151 h ∙ flag-here b long bytes (615 + n) (omega arith) (range .locked n h))
-      ▸ fields-of 24 151 (λ n. setBytes (stateIn l .graph .waits n)) 766 b
+      (ap (bytesOf 1) (sym (range .chain)) ∙ numbers-again 1 0 (omega arith)) ▸ numbers-again 1 1 (omega arith) ▸ numbers-again 1 2 (omega arith) ▸ numbers-again 1 3 (omega arith)
+      ▸ numbers-again 2 4 (omega arith) ▸ (ap (bytesOf 2) (count) ∙ numbers-again 2 6 (omega arith))
+      ▸ numbers-again 2 8 (omega arith) ▸ numbers-again 2 10 (omega arith) ▸ numbers-again 1 12 (omega arith) ▸ numbers-again 1 13 (omega arith)
+      ▸ run-again (λ n. bytesOf 1 (stateIn l .graph .next n)) 14 (λ n h. at-first (bytesOf 1) _ _ n 151 h ∙ byte-here b long bytes (14 + n) (omega arith))
+      ▸ fields-of 2 151 (λ n. bytesOf 2 (stateIn l .graph .seq n)) 165 b (λ n h. at-first (bytesOf 2) _ _ n 151 h ∙ numbers-again 2 (165 + 2 * n) (omega arith))
+      ▸ run-again (λ n. flagByte (stateIn l .graph .executing n)) 467
+      (λ n h. at-first flagByte _ _ n 151 h ∙ flag-here b long bytes (467 + n) (omega arith) (range .executing n h))
+      ▸ run-again (λ n. flagByte (stateIn l .graph .locked n)) 618
+      (λ n h. at-first flagByte _ _ n 151 h ∙ flag-here b long bytes (618 + n) (omega arith) (range .locked n h))
+      ▸ fields-of 24 151 (λ n. setBytes (stateIn l .graph .waits n)) 769 b
       (λ n h. ap (λ (t : Bool). setBytes (λ y. cond t (member (setAt b n) y) false)) (lt-ltb n 151 h) ∙ set-here b long bytes n h)
-      ▸ fields-of 5 65 (λ t. threadBytes (stateIn l .threads t)) 4390 b
-      (λ t h. at-first threadBytes _ _ t 65 h ∙ thread-here b long bytes (numberAt 1 0 b) t h (range .threads t h)) ▸ tt
+      ▸ fields-of 5 65 (λ t. threadBytes (stateIn l .threads t)) 4393 b
+      (λ t h. at-first threadBytes _ _ t 65 h ∙ thread-here b long bytes (numberAt 1 1 b) t h (range .threads t h)) ▸ tt
 
   -- all of them are all the bytes
   state-again : stateBytes (setupIn (l .state) commands) (stateIn l) ≡ l .state
   state-again =
       let parts = partsOf (setupIn (l .state) commands) (stateIn l) in
-      parts-joined (setupIn (l .state) commands) (stateIn l) ∙ parts-of parts partLengths 0 (l .state) parts-again ∙ take-all 4715 (l .state) (omega (arith, long))
+      parts-joined (setupIn (l .state) commands) (stateIn l) ∙ parts-of parts partLengths 0 (l .state) parts-again ∙ take-all 4718 (l .state) (omega (arith, long))
 
   -- there are as many answers as commands
   answers-again : tabulate (length (setupIn (l .state) commands .commands)) (λ i. stateIn l .service .answers (suc i)) ≡ l .answers

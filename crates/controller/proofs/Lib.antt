@@ -1,5 +1,6 @@
 pub mod AcceptedOpening
 pub mod Demand3
+pub mod Turn
 pub mod OneTurn
 pub mod WaitsFor
 pub mod HandedBack
@@ -8,3 +9,4 @@ pub mod OpeningState
 pub mod Handed
 pub mod Performing
 pub mod Advancing
+pub mod Count

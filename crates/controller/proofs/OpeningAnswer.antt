@@ -11,8 +11,9 @@ use Rattle.model.specs.Setup.{Setup}
 use Rattle.model.specs.Step.{opened}
 use Rattle.model.specs.Statement.{Accepted}
 use Rattle.controller.specs.declared.«open_call».Reason.{Reason}
-use Rattle.controller.specs.declared.«open_call».Opening.{Opening}
-use Rattle.controller.specs.declared.«open_call».Opening.the-variants.{Opened, Refused}
+use Rattle.controller.specs.declared.«open_call».Tested.{Tested}
+use Rattle.controller.specs.declared.«open_call».Tested.the-variants.{Passed, Refused}
+use Rattle.controller.specs.declared.«open_call».Opening.the-variants as opening
 use Rattle.state_bytes.specs.Layout.{Lists, stateLength, listsOf, lengthsFit}
 use Rattle.controller.specs.Calls.{accepted, refusalIn, kept, openingRefusal, openOn, setupOf}
 use Rattle.controller.specs.Opened.{outcomeOf}
@@ -20,28 +21,28 @@ use Rattle.controller.proofs.AcceptedOpening.{passed, accepted-opening}
 
 -- ---- answers
 
--- an answer's refusal is its outcome's
-pub answer-told : (r : Opening) (o : Setup) → openingRefusal r ≡ refusalIn (outcomeOf r o)
-unfolding refusalIn
-answer-told Opened o = refl
-answer-told (Refused reason) o = refl
+-- what is refused has not passed
+pub no-refusal-passes : {reason : Reason} {largest : ℕ} → Refused reason ≡ Passed largest → ⊥
+no-refusal-passes e = let z : _≡_ {A = ℕ} 0 1 = cc in omega arith
 
--- a refusal keeps the lists
-pub refusal-keeps : {r : Opening} {reason : Reason} (o : Setup) (old : Lists) → r ≡ Refused reason → old ≡ kept (outcomeOf r o) old
-unfolding kept
-refusal-keeps o old e = rw e
+-- a refusal is told, and keeps the lists
+pub refusal-told : {r : Tested} {reason : Reason} (o : Setup) (old : Lists) → r ≡ Refused reason
+    → (openingRefusal (opening.Refused reason) ≡ refusalIn (outcomeOf r o)) × (old ≡ kept (outcomeOf r o) old)
+unfolding refusalIn kept
+refusal-told o old e = rw e (refl, refl)
 
--- an opening leaves the lists of the opening state
-pub opening-leaves : {r : Opening} (o : Setup) (old left : Lists) → r ≡ Opened → left ≡ listsOf o (opened o) → left ≡ kept (outcomeOf r o) old
-unfolding kept
-opening-leaves o old left e is = rw e is
+-- an opening is told, and leaves the lists of the opening state
+pub opening-told : {r : Tested} {largest : ℕ} (o : Setup) (old left : Lists) → r ≡ Passed largest → left ≡ listsOf o (opened o)
+    → (openingRefusal opening.Opened ≡ refusalIn (outcomeOf r o)) × (left ≡ kept (outcomeOf r o) old)
+unfolding refusalIn kept
+opening-told o old left e is = rw e (refl, is)
 
 -- ---- the accepted opening
 
 -- An accepted setup, and lent lists of its lengths.
 pub record Admitted (o : Setup) (l : Lists) : Type 0 where
   pub setup : Accepted o
-  pub state-long : length (l .state) ≡ 4715
+  pub state-long : length (l .state) ≡ 4718
   pub answers-long : length (l .answers) ≡ length (o .commands)
   pub keys-long : length (l .keys) ≡ o .capacity
   pub chutes-long : length (l .chutes) ≡ o .capacity
@@ -58,7 +59,7 @@ module _ (size workers capacity : ℕ) (commands : List ℕ) (l : Lists) where
       let e5 = passed (leb (length commands / 16) 4096) 5 (e4 .1) in
       passed (lengthsFit capacity (length commands / 16) l) 6 (e5 .1) .0
 
-  pub admitted : {r : Opening} → openOn size workers capacity commands l ≡ outcomeOf r (setupOf size workers capacity commands) → r ≡ Opened
+  pub admitted : {r : Tested} {largest : ℕ} → openOn size workers capacity commands l ≡ outcomeOf r (setupOf size workers capacity commands) → r ≡ Passed largest
       → Admitted (setupOf size workers capacity commands) l
   unfolding lengthsFit stateLength
   admitted e opens =

@@ -104,14 +104,14 @@ no-members n y =
     (λ h. rw (List·getD-eq-default (replicate 151 zeros) [] {n = n} (rw (length-replicate 151 zeros) h)) (bit-of-zero (y % 64)))
 
 -- the counters at opening
-abbrev pub firstCounters : Counters
-firstCounters = record { free = node 1; loaded = record { 0 = 0 }; used = 0 }
+abbrev pub firstCounters : ℕ → Counters
+firstCounters workers = record { free = node 1; loaded = record { 0 = 0 }; used = 0; limit = workers }
 
 -- the arrays of the opening: the first free list, and everything else 0, false or idle
-pub opened-shown : (o : Setup) (next : List ℕ) → ((n : ℕ) → getD next n 0 ≡ firstNext (o .size) n)
-    → Shown firstCounters next (replicate 151 0) (replicate 151 false) (replicate 151 false) (replicate 151 zeros) (replicate 65 Idle) (opened o)
+pub opened-shown : (o : Setup) (workers : ℕ) (next : List ℕ) → o .workers ≡ workers → ((n : ℕ) → getD next n 0 ≡ firstNext (o .size) n)
+    → Shown (firstCounters workers) next (replicate 151 0) (replicate 151 false) (replicate 151 false) (replicate 151 zeros) (replicate 65 Idle) (opened o)
 unfolding opened openedGraph openedService noNode layOut
-opened-shown o next is = record {
+opened-shown o workers next count is = record {
   graph-is = record {
     next-is = fun-ext (λ n. sym (is n));
     seq-is = fun-ext (λ n. sym (constant-at 151 0 n));
@@ -123,6 +123,7 @@ opened-shown o next is = record {
   free-is = refl;
   loaded-is = refl;
   used-is = refl;
+  limit-is = count;
 }
 
 -- lists are the same where each is

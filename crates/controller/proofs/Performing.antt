@@ -156,6 +156,7 @@ performed {commands} {schedule} {m₀} {threads₀} {threads} {i} c k next seq e
       free-is = refl;
       loaded-is = refl;
       used-is = refl;
+      limit-is = refl;
     } in
     let count : length answers ≡ length (o .commands) = sym (commands-length commands (length answers) (a .ready .whole)) ∙ ap length (sym cs) in
     same-lists (lists bytes keys chutes answers) (listsOf o now) (lays o now sets sh) (sym (tabulate-elements (length (o .commands)) answers 0 count)) refl refl

@@ -1,14 +1,16 @@
--- What the calls answer and leave, in the numbers of document 01, "Numbers of refusal", and document 02, A.1. Assumes nothing.
+-- What the calls answer and leave, in the numbers of document 01, "Numbers of refusal", and document 02, A.1 and A.2. Assumes nothing.
 use Prim.Native.Nat.{ℕ, _/_, _%_}
 use mathlib.Core.Bool.{cond, _&&_}
-use mathlib.Core.List.{List}
+use mathlib.Core.Path.{_≡_}
+use mathlib.Core.List.{List, [], _∷_}
 use lib.ListN.{length}
 use lib.Dec.{eqb, leb}
 use Rattle.s10.specs.Refusal.{Refusal, plain, atPlace}
 use Rattle.command.specs.Read.{ListOutcome, allAccepted, listRefused, firstRefusal, readings, commandsIn}
 use Rattle.command.specs.Read as Command
+use Rattle.command.specs.Count.{largestCount}
 use Rattle.model.specs.Setup.{Setup}
-use Rattle.model.specs.Step.{opened, steps}
+use Rattle.model.specs.Step.{State, opened, steps}
 use Rattle.model.specs.Statement.{allWithin}
 use Rattle.controller.specs.declared.«open_call».Reason.{Reason}
 use Rattle.controller.specs.declared.«open_call».Reason.the-variants.{WrongGraphSize, WrongWorkers, WrongCapacity, WrongListLength, TooManyCommands, WrongLength, WrongCommand}
@@ -54,11 +56,17 @@ unfoldable pub openedWith : ListOutcome → Setup → CallOutcome
 openedWith allAccepted o = accepted (listsOf o (opened o))
 openedWith (listRefused r) o = refused r
 
--- what an opening fixes, by its numbers and the bytes of its commands
+-- what an opening's numbers and bytes fix
 abbrev pub setupOf : ℕ → ℕ → ℕ → List ℕ → Setup
-setupOf size workers capacity commands = record { size = size; workers = workers; capacity = capacity; commands = commandsIn commands }
+setupOf size workers capacity commands = record {
+  size = size;
+  workers = workers;
+  largest = largestCount workers (commandsIn commands);
+  capacity = capacity;
+  commands = commandsIn commands;
+}
 
--- "Opening tests 1 to 6 in order, then each command in order for 7 to 10", 13 "in 8's place and before 9".
+-- "Opening tests 1 to 6 in order, then each command in order for 7 to 10", 13 "in 8's place and before 9", 14 "where 10 is for other kinds".
 unfoldable pub openOn : ℕ → ℕ → ℕ → List ℕ → Lists → CallOutcome
 openOn size workers capacity commands l =
     cond (leb 1 size && leb size 150) (cond (leb 1 workers && leb workers 64) (cond (leb 1 capacity && leb capacity 4096)
@@ -75,9 +83,14 @@ advanceRefusal WrongLengths = plain 6
 advanceRefusal UnknownThread = plain 11
 advanceRefusal WrongState = plain 12
 
--- "Any call on a handed-back run tests 6, then 12, then 11." "It is checked whole before its first turn"
+-- "Any call on a handed-back run tests 6, then 12, then 11." "It is checked whole before its first turn"; it "may name parties up to the
+-- largest count of the opening and the list" (02, A.2)
 unfoldable pub advanceOn : Lists → List ℕ → List ℕ → CallOutcome
 advanceOn l commands schedule =
     let o : Setup = setupIn (l .state) commands in
-    cond (handedBackFit l commands) (cond (stateFits l) (cond (allWithin (o .workers) schedule)
+    cond (handedBackFit l commands) (cond (stateFits l) (cond (allWithin (o .largest) schedule)
     (accepted (listsOf o (steps o schedule (stateIn l)))) (refused (plain 11))) (refused (plain 12))) (refused (plain 6))
+
+-- a call with one turn of thread t is accepted, and leaves lists of which this holds
+abbrev pub AfterTurn : List ℕ → Lists → ℕ → (State → Type 0) → Type 0
+AfterTurn commands l t P = (m : Lists) × (advanceOn l commands (t ∷ []) ≡ accepted m) × P (stateIn m)

@@ -54,7 +54,7 @@ pub record HoldsAfter (o : Setup) (commands : List ℕ) (l : Lists) (ts : List �
       EachCommand o (λ c. 1 ≤ getD (0 ∷ l .answers) c 0) × (stateIn l .service .store ≡ layOut (o .capacity) (serialEntries (o .capacity) (o .commands)))
   -- "And some further dealing is accepted and leaves every command removed and every party idle"
   pub finish : (more : List ℕ) × (m : Lists) × (advanceOn l commands more ≡ accepted m) × EachCommand o (λ c. removed o c (ts ++ more) (opened o) ≡ true)
-      × ((t : ℕ) → t ≤ o .workers → stateIn m .threads t ≡ Idle)
+      × ((t : ℕ) → t ≤ o .largest → stateIn m .threads t ≡ Idle)
 
 -- every accepted opening, and every proper list of calls from what it left
 abbrev pub Demand3OverCalls : Type 0

@@ -4,3 +4,4 @@ pub mod Opened
 pub mod Demand3
 pub mod OneTurn
 pub mod WaitsFor
+pub mod Count

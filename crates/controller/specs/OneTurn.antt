@@ -2,22 +2,18 @@
 -- of the lists that any calls have left. Proved in proofs/OneTurn. Assumes nothing.
 use Prim.Native.Nat.{ℕ, _≤_}
 use mathlib.Core.Path.{_≡_}
-use mathlib.Core.List.{List, [], _∷_}
+use mathlib.Core.List.{List}
 use mathlib.Core.Option.{some}
 use Rattle.command.specs.declared.Kind.the-variants.{Read}
 use Rattle.command.specs.declared.Command.{Command}
 use Rattle.node_set.specs.declared.Node.{Node}
 use Rattle.model.specs.declared.Thread.the-variants.{Holding, LookedUp}
 use Rattle.model.specs.Setup.{Setup}
-use Rattle.model.specs.Step.{State, commandOf}
+use Rattle.model.specs.Step.{commandOf}
 use Rattle.model.specs.OneTurn.{ReadDone, OnlyLooked}
 use Rattle.state_bytes.specs.Layout.{Lists, stateIn}
-use Rattle.controller.specs.Calls.{accepted, openOn, advanceOn, setupOf}
+use Rattle.controller.specs.Calls.{accepted, openOn, AfterTurn, setupOf}
 use Rattle.controller.specs.Demand3.{Call, listsAfter, Proper}
-
--- a call with one turn of worker t is accepted, and leaves lists of which this holds
-abbrev pub AfterTurn : List ℕ → Lists → ℕ → (State → Type 0) → Type 0
-AfterTurn commands l t P = (m : Lists) × (advanceOn l commands (t ∷ []) ≡ accepted m) × P (stateIn m)
 
 -- worker t, whose node has command c in the lists
 pub record InTurns (o : Setup) (commands : List ℕ) (l : Lists) (t : ℕ) (own : Node) (c : Command) : Type 0 where
@@ -32,6 +28,6 @@ pub record InTurns (o : Setup) (commands : List ℕ) (l : Lists) (t : ℕ) (own 
 abbrev pub ReadsInOneTurnOverCalls : Type 0
 ReadsInOneTurnOverCalls =
     (size workers capacity : ℕ) (commands : List ℕ) (lent l : Lists) → openOn size workers capacity commands lent ≡ accepted l →
-    (calls : List Call) → Proper commands l calls → (t : ℕ) → 1 ≤ t → t ≤ workers → (own : Node) (c : Command) →
+    (calls : List Call) → Proper commands l calls →
     let o : Setup = setupOf size workers capacity commands in
-    commandOf o (stateIn (listsAfter calls l) .graph) (own .0) ≡ some c → InTurns o commands (listsAfter calls l) t own c
+    (t : ℕ) → 1 ≤ t → t ≤ o .largest → (own : Node) (c : Command) → commandOf o (stateIn (listsAfter calls l) .graph) (own .0) ≡ some c → InTurns o commands (listsAfter calls l) t own c

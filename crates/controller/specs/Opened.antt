@@ -1,19 +1,19 @@
--- What the parts of opening promise: the outcome that an answer stands for, and the bytes of the opening state. Assumes nothing.
+-- What the parts of opening promise: the outcome that the tests' answer stands for, and the bytes of the opening state. Assumes nothing.
 use Prim.Native.Nat.{ℕ}
 use mathlib.Core.Path.{_≡_}
 use mathlib.Core.List.{List}
 use Rattle.model.specs.Setup.{Setup}
 use Rattle.model.specs.Step.{opened}
-use Rattle.controller.specs.declared.«open_call».Opening.{Opening}
-use Rattle.controller.specs.declared.«open_call».Opening.the-variants.{Opened, Refused}
+use Rattle.controller.specs.declared.«open_call».Tested.{Tested}
+use Rattle.controller.specs.declared.«open_call».Tested.the-variants.{Passed, Refused}
 use Rattle.state_bytes.specs.declared.Settings.{Settings}
 use Rattle.state_bytes.specs.Layout.{stateBytes, listsOf}
 use Rattle.state_bytes.specs.Written.{Sets}
 use Rattle.controller.specs.Calls.{CallOutcome, accepted, refused, refusalFor}
 
--- what an answer says of an opening: that it leaves the lists of the opening state, or why it is refused
-abbrev pub outcomeOf : Opening → Setup → CallOutcome
-outcomeOf Opened o = accepted (listsOf o (opened o))
+-- what the tests say of an opening: that it leaves the lists of the opening state, or why it is refused
+abbrev pub outcomeOf : Tested → Setup → CallOutcome
+outcomeOf (Passed largest) o = accepted (listsOf o (opened o))
 outcomeOf (Refused reason) o = refused (refusalFor reason)
 
 -- bytes of the opening state, on every setup with these numbers

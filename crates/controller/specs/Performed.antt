@@ -20,9 +20,10 @@ use Rattle.state_bytes.specs.Written.{Sets}
 
 -- the counters that stand in state bytes
 pub record CountersIn (b : List ℕ) (k : Counters) : Type 0 where
-  pub free-is : k .free .0 ≡ numberAt 1 10 b
-  pub loaded-is : k .loaded .0 ≡ numberAt 2 6 b
-  pub used-is : k .used ≡ numberAt 2 8 b
+  pub free-is : k .free .0 ≡ numberAt 1 12 b
+  pub loaded-is : k .loaded .0 ≡ numberAt 2 8 b
+  pub used-is : k .used ≡ numberAt 2 10 b
+  pub limit-is : k .limit ≡ numberAt 1 13 b
 
 -- the settings that stand in state bytes, with as many commands as they say
 abbrev pub SettingsIn : List ℕ → Settings → Type 0
@@ -32,7 +33,7 @@ SettingsIn b c = (commands : List ℕ) → length (commandsIn commands) ≡ coun
 pub record CallPasses (l : Lists) (commands schedule : List ℕ) : Type 0 where
   pub lengths : handedBackFit l commands ≡ true
   pub state : stateFits l ≡ true
-  pub named : allWithin (setupIn (l .state) commands .workers) schedule ≡ true
+  pub named : allWithin (setupIn (l .state) commands .largest) schedule ≡ true
 
 -- memory that is ready for a step of any thread, and a schedule of threads that there are
 pub record Performs (state commands schedule kinds itemKeys itemChutes : List ℕ) (m : Memory) (threads : List Thread) : Type 0 where

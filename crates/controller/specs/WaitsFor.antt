@@ -11,7 +11,7 @@ use Rattle.controller.specs.Calls.{accepted, openOn, setupOf}
 use Rattle.controller.specs.Demand3.{Call, listsAfter, Proper}
 
 -- every accepted opening, and every proper list of calls from what it left: a node in another's set is of a command delivered before, and
--- both insert or delete, or both are for one key and no two reads
+-- both insert or delete, or both are for one key and no two reads, or one of them is for no item
 abbrev pub WaitsOnlyForDependentOverCalls : Type 0
 WaitsOnlyForDependentOverCalls =
     (size workers capacity : ℕ) (commands : List ℕ) (lent l : Lists) → openOn size workers capacity commands lent ≡ accepted l →

@@ -15,6 +15,8 @@ use state_bytes::CAPACITY;
 use state_bytes::COUNT;
 use state_bytes::EXECUTING;
 use state_bytes::FREE;
+use state_bytes::LARGEST;
+use state_bytes::LIMIT;
 use state_bytes::LOADED;
 use state_bytes::LOCKED;
 use state_bytes::NEXT;
@@ -80,7 +82,7 @@ pub fn advance(
     if !state_fits(state, keys) {
         return Advancing::WrongState;
     }
-    if !threads_named(schedule, state[WORKERS]) {
+    if !threads_named(schedule, state[LARGEST]) {
         return Advancing::UnknownThread;
     }
     run(state, keys, chutes, answers, commands, schedule);
@@ -95,9 +97,17 @@ fn settings_in(state: &[u8]) -> Settings
     Settings {
         size: state[SIZE],
         workers: state[WORKERS],
+        largest: state[LARGEST],
         capacity: number_at(state, CAPACITY),
         count: number_at(state, COUNT),
     }
+}
+
+// A byte as a number.
+fn number_of(byte: u8) -> usize
+    ensures { λ r. ⌜ r ≡ byte ⌝ }
+{
+    byte as usize
 }
 
 // The counters of the state bytes.
@@ -111,6 +121,7 @@ fn counters_in(state: &[u8]) -> Counters
         free,
         loaded,
         used: number_at(state, USED) as usize,
+        limit: number_of(state[LIMIT]),
     }
 }
 

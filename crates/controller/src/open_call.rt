@@ -1,13 +1,15 @@
 // Opening: the tests in order, then the opening state and lists of zeros.
 ghost use mathlib.Core.Path.{_≡_};
 ghost use mathlib.Core.Bool.{_&&_};
-ghost use Prim.Native.Nat.{ℕ, _≤_};
+ghost use Prim.Native.Nat.{ℕ, _≤_, max};
 ghost use lib.ListN.{length, getD, replicate};
 ghost use lib.Dec.{leb};
 ghost use Rattle.command.specs.Read.{listOutcome};
+ghost use Rattle.command.specs.declared.ListReading.the-variants.{AllRead};
 ghost use Rattle.model.specs.Setup.{Setup};
 ghost use Rattle.model.specs.Graph.{firstNext};
 ghost use Rattle.state_bytes.specs.Layout.{atExit, atEntry, stateLength, lengthsFit};
+ghost use Rattle.controller.specs.declared.«open_call».Tested.the-variants.{Passed};
 ghost use Rattle.controller.specs.Calls.{refusalIn, kept, refusalFor, openingRefusal, openedWith, openOn, setupOf};
 ghost use Rattle.controller.specs.Opened.{outcomeOf, LaysOpened};
 use command::Command;
@@ -37,10 +39,17 @@ pub enum Opening {
     Refused(Reason),
 }
 
+// What the tests of an opening find: all passed, with the largest worker count of the opening and the list, or the first
+// refusal.
+enum Tested {
+    Passed(u64),
+    Refused(Reason),
+}
+
 impl Reason {
     // The refusal's number.
     fn number(self) -> u64
-        ensures { λ r. ⌜ (r ≡ refusalFor self .number) × (r ≤ 13) ⌝ }
+        ensures { λ r. ⌜ (r ≡ refusalFor self .number) × (r ≤ 14) ⌝ }
     {
         match self {
             Reason::WrongGraphSize => 1,
@@ -87,7 +96,7 @@ impl Reason {
 impl Opening {
     // The answer's number, 0 for opened.
     pub fn number(self) -> u64
-        ensures { λ r. ⌜ (r ≡ openingRefusal self .number) × (r ≤ 13) ⌝ }
+        ensures { λ r. ⌜ (r ≡ openingRefusal self .number) × (r ≤ 14) ⌝ }
     {
         match self {
             Opening::Opened => 0,
@@ -139,7 +148,7 @@ pub fn open(
     ensures refusal { λ r. ⌜ openingRefusal r ≡ refusalIn (openOn size workers capacity (now (commands .entry)) (atEntry state keys chutes answers)) ⌝ }
     ensures left { λ r. ⌜ atExit state keys chutes answers ≡ kept (openOn size workers capacity (now (commands .entry)) (atEntry state keys chutes answers)) (atEntry state keys chutes answers) ⌝ }
 {
-    let answer = answer_for(
+    let tested = answer_for(
         state,
         keys,
         chutes,
@@ -149,22 +158,26 @@ pub fn open(
         workers,
         capacity,
     );
-    if let Opening::Opened = answer {
-        let settings = Settings {
-            size: size as u8,
-            workers: workers as u8,
-            capacity: capacity as u16,
-            count: answers.len() as u16,
-        };
-        write_opened(state, settings);
-        clear_keys(keys);
-        clear_numbers(chutes);
-        clear_numbers(answers);
+    match tested {
+        Tested::Passed(largest) => {
+            let settings = Settings {
+                size: size as u8,
+                workers: workers as u8,
+                largest: largest as u8,
+                capacity: capacity as u16,
+                count: answers.len() as u16,
+            };
+            write_opened(state, settings);
+            clear_keys(keys);
+            clear_numbers(chutes);
+            clear_numbers(answers);
+            Opening::Opened
+        }
+        Tested::Refused(reason) => Opening::Refused(reason),
     }
-    answer
 }
 
-// Tests 1 to 6 in the order of document 01, then each command for 7, 8 or 13, 9 and 10: the first refusal, or `Opened`.
+// Tests 1 to 6 in the order of document 01, then each command for 7, 8 or 13, 9 and 10 or 14.
 fn answer_for(
     state: &[u8],
     keys: &[u64],
@@ -174,30 +187,31 @@ fn answer_for(
     size: u64,
     workers: u64,
     capacity: u64,
-) -> Opening
-    ensures { λ r. ⌜ openOn size workers capacity (now (commands .entry)) (atEntry state keys chutes answers) ≡ outcomeOf r (setupOf size workers capacity (now (commands .entry))) ⌝ }
+) -> Tested
+    ensures outcome { λ r. ⌜ openOn size workers capacity (now (commands .entry)) (atEntry state keys chutes answers) ≡ outcomeOf r (setupOf size workers capacity (now (commands .entry))) ⌝ }
+    ensures largest { λ r. ⌜ ((n : ℕ) → r ≡ Passed n → n ≡ setupOf size workers capacity (now (commands .entry)) .largest) ⌝ }
 {
     let count = commands.len() / Command::LENGTH;
     if !is_within(size, LARGEST_SIZE) {
-        return Opening::Refused(Reason::WrongGraphSize);
+        return Tested::Refused(Reason::WrongGraphSize);
     }
     if !is_within(workers, MOST_WORKERS) {
-        return Opening::Refused(Reason::WrongWorkers);
+        return Tested::Refused(Reason::WrongWorkers);
     }
     if !is_within(capacity, LARGEST_CAPACITY) {
-        return Opening::Refused(Reason::WrongCapacity);
+        return Tested::Refused(Reason::WrongCapacity);
     }
     if commands.len() % Command::LENGTH != 0 {
-        return Opening::Refused(Reason::WrongListLength);
+        return Tested::Refused(Reason::WrongListLength);
     }
     if count > MOST_COMMANDS {
-        return Opening::Refused(Reason::TooManyCommands);
+        return Tested::Refused(Reason::TooManyCommands);
     }
     if !lengths_fit(state, keys, chutes, answers, capacity, count) {
-        return Opening::Refused(Reason::WrongLength);
+        return Tested::Refused(Reason::WrongLength);
     }
     let reading = command::read_list(commands);
-    answer_of(reading)
+    answer_of(reading, workers)
 }
 
 // Whether a number is from 1 to the largest.
@@ -223,13 +237,21 @@ fn lengths_fit(
             && (keys.len() as u64 == capacity && chutes.len() as u64 == capacity))
 }
 
+// The larger of two worker counts.
+fn larger(a: u64, b: u64) -> u64
+    ensures { λ r. ⌜ r ≡ max a b ⌝ }
+{
+    if a < b { b } else { a }
+}
+
 // The answer after reading the list.
-fn answer_of(reading: ListReading) -> Opening
-    ensures { λ r. ⌜ ((o : Setup) → openedWith (listOutcome reading) o ≡ outcomeOf r o) ⌝ }
+fn answer_of(reading: ListReading, workers: u64) -> Tested
+    ensures outcome { λ r. ⌜ ((o : Setup) → openedWith (listOutcome reading) o ≡ outcomeOf r o) ⌝ }
+    ensures largest { λ r. ⌜ ((n : ℕ) → r ≡ Passed n → ((most : ℕ) × (reading ≡ AllRead most) × (n ≡ max workers most))) ⌝ }
 {
     match reading {
-        ListReading::AllRead => Opening::Opened,
-        ListReading::RefusedAt(seq, reason) => Opening::Refused(Reason::WrongCommand(seq, reason)),
+        ListReading::AllRead(most) => Tested::Passed(larger(workers, most as u64)),
+        ListReading::RefusedAt(seq, reason) => Tested::Refused(Reason::WrongCommand(seq, reason)),
     }
 }
 
@@ -284,6 +306,7 @@ fn write_opened(state: &mut [u8], settings: Settings)
         free: Node(1),
         loaded: Seq(0),
         used: 0,
+        limit: settings.workers as usize,
     };
     write_state(
         state,

@@ -21,20 +21,21 @@ use Rattle.state_bytes.specs.Bytes.{numberAt, tabulate, fields}
 use Rattle.state_bytes.specs.Layout.{listsOf, stateLength, lengthsFit}
 use Rattle.controller.specs.Calls.{accepted, openedWith, openOn}
 use Rattle.depot.specs.Cases.{command, full, corrected, writtenInFull, input, stopped, Marked}
-use Rattle.depot.specs.Program.{decimalWithin, decimal, zeros, commandLine, commandLines, totals, workersOf, scheduleOf, opening}
+use Rattle.depot.specs.Program.{decimalWithin, decimal, zeros, commandLine, commandLines, totals, scheduleOf, opening}
 use Rattle.depot.specs.Reached.{inputSetup, InputPasses}
 use Rattle.depot.proofs.Reached.{prints-reached}
+use Rattle.command.specs.Count.{largestCount}
 
 -- the input passes the tests that are no inequalities, whole and stopped
 abbrev Accepts : List ℕ → Type 0
-Accepts i = (opening i ≡ accepted (listsOf (inputSetup i) (opened (inputSetup i)))) × (allWithin (workersOf i) (scheduleOf i) ≡ true)
+Accepts i = (opening i ≡ accepted (listsOf (inputSetup i) (opened (inputSetup i)))) × (allWithin (inputSetup i .largest) (scheduleOf i) ≡ true)
 
 accepts-19 : Accepts (stopped 19)
-unfolding input numberAt openOn openedWith firstRefusal readings readText firstFault checkDigit keyOf zeros lengthsFit stateLength allWithin
+unfolding input numberAt openOn openedWith firstRefusal readings readText firstFault checkDigit keyOf zeros lengthsFit stateLength allWithin largestCount commandsIn commandFrom
 accepts-19 = (refl, refl)
 
 accepts-9 : Accepts (stopped 9)
-unfolding input numberAt openOn openedWith firstRefusal readings readText firstFault checkDigit keyOf zeros lengthsFit stateLength allWithin
+unfolding input numberAt openOn openedWith firstRefusal readings readText firstFault checkDigit keyOf zeros lengthsFit stateLength allWithin largestCount commandsIn commandFrom
 accepts-9 = (refl, refl)
 
 -- and the others

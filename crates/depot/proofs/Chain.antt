@@ -64,8 +64,8 @@ chain-by-next (suc k) x g h e = rw (ap (λ f. f x) e, chain-by-next k (h .next x
 pub totals-by-bytes : (l m : Lists) → l .state ≡ m .state → totals (stateIn l) ≡ totals (stateIn m)
 unfolding totals stateIn
 totals-by-bytes l m e =
-    let nexts : stateIn l .graph .next ≡ stateIn m .graph .next = ap (λ (b : List ℕ). λ (n : ℕ). cond (ltb n 151) (getD b (11 + n) 0) 0) e in
-    rw (chain-by-next 150 0 (stateIn l .graph) (stateIn m .graph) nexts, ap (numberAt 2 8) e)
+    let nexts : stateIn l .graph .next ≡ stateIn m .graph .next = ap (λ (b : List ℕ). λ (n : ℕ). cond (ltb n 151) (getD b (14 + n) 0) 0) e in
+    rw (chain-by-next 150 0 (stateIn l .graph) (stateIn m .graph) nexts, ap (numberAt 2 10) e)
 
 -- and the report by these and the answers
 pub report-by-bytes : (commands : List ℕ) (l m : Lists) → l .state ≡ m .state → l .answers ≡ m .answers → report commands l ≡ report commands m

@@ -25,4 +25,4 @@ last-is-11 size workers capacity commands lent l opens schedule r e =
     let finished = demand-3-over-calls size workers capacity commands lent l opens [] tt .finish in
     let six = passed (handedBackFit l commands) 6 (finished .2) in
     let twelve = passed (stateFits l) 12 (six .1) in
-    only-by (allWithin (setupIn (l .state) commands .workers) schedule) _ 11 r (rw (six .0, twelve .0) at e)
+    only-by (allWithin (setupIn (l .state) commands .largest) schedule) _ 11 r (rw (six .0, twelve .0) at e)

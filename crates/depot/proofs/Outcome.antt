@@ -14,7 +14,9 @@ use Rattle.s10.specs.Text.{asksDigit, firstFault, serialDigits, checkDigit}
 use Rattle.s10.specs.Outcome.{faultAt, readText}
 use Rattle.s10.specs.Outcome as Identifier
 use Rattle.command.specs.declared.Kind.{Kind}
-use Rattle.command.specs.Read.{firstRefusal, partsOf, readings, readCommand, withKind, withChute, kindOf, chuteFits, chuteOf}
+use Rattle.command.specs.declared.Kind.the-variants.{Insert, Delete, Read, Update, Workers}
+use Rattle.command.specs.Dependent.{hasItem}
+use Rattle.command.specs.Read.{firstRefusal, partsOf, readings, readCommand, withKind, withChute, kindOf, chuteFits, chuteRefusal, chuteOf, firstNotZero, readZeros, readIdentifier}
 use Rattle.command.specs.Read as Command
 use Rattle.model.specs.Setup.{Setup}
 use Rattle.model.specs.Statement.{allWithin}
@@ -51,20 +53,35 @@ identifier-numbered text =
     (identifier-refused (faultAt (firstFault 0 text)) (tested (λ (n : ℕ). 0 < n) (asksDigit (firstFault 0 text)) 13 8 (omega arith) (omega arith))))
     (identifier-refused _ (omega arith))
 
+zeros-numbered : (text : List ℕ) → IdentifierNumbered (readZeros text)
+unfolding readZeros
+zeros-numbered text =
+    tested IdentifierNumbered (eqb (length text) 13) _ _
+    (tested IdentifierNumbered (eqb (firstNotZero 0 text) 13) _ _ (identifier-accepted _) (identifier-refused _ (omega arith))) (identifier-refused _ (omega arith))
+
+-- refusals 10 and 14
+chute-positive : (kind : Kind) → 0 < chuteRefusal kind .number
+chute-positive Insert = omega arith
+chute-positive Delete = omega arith
+chute-positive Read = omega arith
+chute-positive Update = omega arith
+chute-positive Workers = omega arith
+
 chute-numbered : (kind : Kind) (o : Identifier.TextOutcome) (bytes : List ℕ) → IdentifierNumbered o → CommandNumbered (withChute kind o bytes)
 unfolding withChute
 chute-numbered kind _ bytes (identifier-accepted key) =
-    tested CommandNumbered (eqb (length bytes) 2 && chuteFits kind (chuteOf bytes)) _ _ (command-accepted _) (command-refused _ (omega arith))
+    tested CommandNumbered (eqb (length bytes) 2 && chuteFits kind (chuteOf bytes)) _ _ (command-accepted _) (command-refused _ (chute-positive kind))
 chute-numbered kind _ bytes (identifier-refused r positive) = command-refused r positive
 
-kind-numbered : (kind : Option Kind) (o : Identifier.TextOutcome) (bytes : List ℕ) → IdentifierNumbered o → CommandNumbered (withKind kind o bytes)
-unfolding withKind
-kind-numbered none o bytes n = command-refused (plain 7) (omega arith)
-kind-numbered (some kind) o bytes n = chute-numbered kind o bytes n
+kind-numbered : (kind : Option Kind) (text bytes : List ℕ) → CommandNumbered (withKind kind text bytes)
+unfolding withKind readIdentifier
+kind-numbered none text bytes = command-refused (plain 7) (omega arith)
+kind-numbered (some kind) text bytes =
+    chute-numbered kind _ bytes (tested IdentifierNumbered (hasItem kind) _ _ (identifier-numbered text) (zeros-numbered text))
 
 command-numbered : (part : List ℕ) → CommandNumbered (readCommand part)
 unfolding readCommand
-command-numbered part = kind-numbered (kindOf (getD part 0 0)) (readText (take 13 (drop 1 part))) (drop 14 part) (identifier-numbered (take 13 (drop 1 part)))
+command-numbered part = kind-numbered (kindOf (getD part 0 0)) (take 13 (drop 1 part)) (drop 14 part)
 
 -- the first refusal of a list is one of its commands'
 first-of : (place : ℕ) (o : Command.CommandOutcome) (rest : List Command.CommandOutcome) (setup : Setup) → CommandNumbered o
@@ -98,7 +115,7 @@ unfolding advanceOn
 advance-numbered l commands schedule =
     tested Numbered (handedBackFit l commands) _ _
     (tested Numbered (stateFits l) _ _
-    (tested Numbered (allWithin (setupIn (l .state) commands .workers) schedule) _ _ (call-accepted _) (call-refused _ (omega arith)))
+    (tested Numbered (allWithin (setupIn (l .state) commands .largest) schedule) _ _ (call-accepted _) (call-refused _ (omega arith)))
     (call-refused _ (omega arith)))
     (call-refused _ (omega arith))
 
@@ -127,12 +144,12 @@ open-past : (size workers capacity : ℕ) (commands : List ℕ) (l m : Lists) �
 unfolding openOn
 open-past size workers capacity commands l m past = rw (le-leb 1 capacity (omega arith), lt-leb capacity 4096 past)
 
-state-length : stateLength ≡ 4715
+state-length : stateLength ≡ 4718
 unfolding stateLength
 state-length = refl
 
 -- so lists of zeros that are as long as asked may stand for those that are lent
-pub lent-as-zeros : (size workers capacity count : ℕ) (commands : List ℕ) (l : Lists) → length (l .state) ≡ 4715 → length (l .answers) ≡ count
+pub lent-as-zeros : (size workers capacity count : ℕ) (commands : List ℕ) (l : Lists) → length (l .state) ≡ 4718 → length (l .answers) ≡ count
     → length (l .keys) ≡ min capacity 4096 → length (l .chutes) ≡ min capacity 4096
     → openOn size workers capacity commands l ≡ openOn size workers capacity commands (zeros capacity count)
 unfolding zeros

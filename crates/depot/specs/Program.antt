@@ -6,7 +6,7 @@ use mathlib.Core.Option.{Option, none, some}
 use lib.ListN.{length, getD, take, drop, replicate}
 use lib.Dec.{ltb}
 use Rattle.command.specs.declared.Kind.{Kind}
-use Rattle.command.specs.declared.Kind.the-variants.{Insert, Delete, Read, Update}
+use Rattle.command.specs.declared.Kind.the-variants.{Insert, Delete, Read, Update, Workers}
 use Rattle.command.specs.Read.{kindOf}
 use Rattle.model.specs.Graph.{chainFrom}
 use Rattle.model.specs.Step.{State}
@@ -36,6 +36,7 @@ kindName Insert = ascii "insert"
 kindName Delete = ascii "delete"
 kindName Read = ascii "read"
 kindName Update = ascii "update"
+kindName Workers = ascii "workers"
 
 -- nothing for none, which no command of an accepted list has
 abbrev pub nameOf : Option Kind → List ℕ
@@ -48,7 +49,8 @@ nameOf (some kind) = kindName kind
 unfoldable pub refusal : ℕ → List ℕ
 refusal n = ascii "refused " ++ decimal n ++ newline
 
--- "Else one line a command: place, kind, identifier, answer": the identifier's 13 characters stand as in the input
+-- "Else one line a command: place, kind, identifier, answer": the identifier's 13 characters stand as in the input; "The program prints
+-- `workers` for the kind" (02, A.2)
 unfoldable pub commandLine : ℕ → List ℕ → ℕ → List ℕ
 commandLine place command answer =
     decimal place ++ space ++ nameOf (kindOf (getD command 0 0)) ++ space ++ take 13 (drop 1 command) ++ space ++ decimal answer ++ newline

@@ -31,7 +31,7 @@ pub record InputPasses (input : List ℕ) : Type 0 where
   pub whole : 6 + 16 * countOf input ≤ length input
   pub lists : Lists
   pub opens : opening input ≡ accepted lists
-  pub named : allWithin (workersOf input) (scheduleOf input) ≡ true
+  pub named : allWithin (inputSetup input .largest) (scheduleOf input) ≡ true
 
 -- its lines are those of the state reached
 abbrev pub PrintsReached : Type 0

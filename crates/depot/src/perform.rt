@@ -24,8 +24,8 @@ fn advance_and_report(
     commands: &[u8],
     schedule: &[u8],
 ) -> usize
-    requires { ⌜ (length (now commands) ≡ 16 * length (now answers)) × (length (now answers) < 4096) × (131072 ≤ length (now out)) ⌝ }
-    requires { ⌜ length (now state) ≡ 4715 ⌝ }
+    requires { ⌜ (length (now commands) ≡ 16 * length (now answers)) × (length (now answers) < 4096) × (135168 ≤ length (now out)) ⌝ }
+    requires { ⌜ length (now state) ≡ 4718 ⌝ }
     ensures { λ r. ⌜ Wrote (advanced (now (commands .entry)) (now (schedule .entry)) (atEntry state keys chutes answers)) 0 (now (out .entry)) (now (out .exit)) r ⌝ }
 {
     let advancing = advance(state, keys, chutes, answers, commands, schedule);
@@ -49,8 +49,8 @@ fn open_and_advance(
     workers: u64,
     capacity: u64,
 ) -> usize
-    requires { ⌜ (length (now commands) ≡ 16 * length (now answers)) × (length (now answers) < 4096) × (131072 ≤ length (now out)) ⌝ }
-    requires { ⌜ length (now state) ≡ 4715 ⌝ }
+    requires { ⌜ (length (now commands) ≡ 16 * length (now answers)) × (length (now answers) < 4096) × (135168 ≤ length (now out)) ⌝ }
+    requires { ⌜ length (now state) ≡ 4718 ⌝ }
     ensures { λ r. ⌜ Wrote (printed (advanced (now (commands .entry)) (now (schedule .entry))) (openOn size workers capacity (now (commands .entry)) (atEntry state keys chutes answers))) 0 (now (out .entry)) (now (out .exit)) r ⌝ }
 {
     let opening = open(
@@ -71,10 +71,10 @@ fn open_and_advance(
 }
 
 // Lists to lend. Opening sets them, so their contracts give only the lengths.
-fn new_state() -> [u8; 4715]
-    ensures { λ r. ⌜ length r ≡ 4715 ⌝ }
+fn new_state() -> [u8; 4718]
+    ensures { λ r. ⌜ length r ≡ 4718 ⌝ }
 {
-    [0; 4715]
+    [0; 4718]
 }
 
 fn new_keys() -> [u64; 4096]
@@ -110,7 +110,7 @@ pub fn perform(
     workers: u64,
     capacity: u64,
 ) -> usize
-    requires { ⌜ (length (now commands) ≡ 16 * count) × (count < 4096) × (131072 ≤ length (now out)) ⌝ }
+    requires { ⌜ (length (now commands) ≡ 16 * count) × (count < 4096) × (135168 ≤ length (now out)) ⌝ }
     ensures { λ r. ⌜ Wrote (printed (advanced (now (commands .entry)) (now (schedule .entry))) (openOn size workers capacity (now (commands .entry)) (zeros capacity count))) 0 (now (out .entry)) (now (out .exit)) r ⌝ }
 {
     let mut state = new_state();

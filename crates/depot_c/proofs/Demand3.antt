@@ -34,6 +34,7 @@ use Rattle.depot_c.specs.Demand3.{answerTo, afterCall, bytesAfter, Prope
 use Rattle.depot_c.proofs.Entries.{bytes-in-length, number-in-bytes, bytes-in-read-back}
 use Rattle.depot_c.proofs.Outcomes.{decoded-whole}
 use Rattle.depot_c.proofs.Accepted.{accepted-answers, opening-accepted, advance-accepted}
+use Rattle.model.specs.Proof.Service.{largest-fits}
 
 -- ---- lists of numbers and their bytes
 
@@ -69,7 +70,7 @@ key-fits commands (suc i) c at = omega (arith, list-key-is-at-most-largest comma
 
 module _ (o : Setup) (acc : Accepted o) (commands : List ℕ) (same : o .commands ≡ commandsIn commands) (long : length commands ≡ 16 * length (o .commands)) where
   -- the numbers of a reached state's lists fit: each key is a command's or 0, and an answer is a number of two bytes
-  state-bounded : (ts : List ℕ) → allWithin (o .workers) ts ≡ true → Bounded (listsOf o (steps o ts (opened o)))
+  state-bounded : (ts : List ℕ) → allWithin (o .largest) ts ≡ true → Bounded (listsOf o (steps o ts (opened o)))
   state-bounded ts within =
       let s : State = steps o ts (opened o) in
       let given : ℕ → ℕ = λ j. s .service .answers (suc j) in
@@ -133,12 +134,12 @@ module _ (o : Setup) (acc : Accepted o) (commands : List ℕ) (same : o .command
   -- ---- the three parts
 
   -- the bytes of a thread that is read as idle are an idle one's: they are laid out so
-  idle-read : (l : Lists) (ts : List ℕ) → Reach o l ts → (t : ℕ) → t ≤ o .workers → stateIn l .threads t ≡ Idle → IsIdle t (encoded l)
+  idle-read : (l : Lists) (ts : List ℕ) → Reach o l ts → (t : ℕ) → t ≤ o .largest → stateIn l .threads t ≡ Idle → IsIdle t (encoded l)
   unfolding encoded
   idle-read l ts r t h e =
       let s : State = steps o ts (opened o) in
       let idle : s .threads t ≡ Idle = ap (λ (x : State). x .threads t) (sym (state-is o acc commands same long l ts r)) ∙ e in
-      let laid = lies-field 5 65 (λ i. threadBytes (s .threads i)) (λ i. thread-length (s .threads i)) (part-lies o s 12 (omega arith)) t (omega (arith, acc .workers)) in
+      let laid = lies-field 5 65 (λ i. threadBytes (s .threads i)) (λ i. thread-length (s .threads i)) (part-lies o s 15 (omega arith)) t (omega (arith, largest-fits o acc)) in
       rw (r .1, lists-state o s, ← idle) (lies-taken 5 (thread-length (s .threads t)) laid)
 
   module _ (l : Lists) (ts : List ℕ) (r : Reach o l ts) where

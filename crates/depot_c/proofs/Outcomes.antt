@@ -122,8 +122,8 @@ lent-room : (b : Lists) (commands : List ℕ) → handedBackFit (numberLists b) 
     → InRange (numberLists b) → room b ≡ true
 unfolding handedBackFit setupIn
 lent-room b commands fit range =
-    fits-room (numberAt 2 2 (numberLists b .state)) (countIn (numberLists b .state)) b (range .capacity) (range .count)
-    (and-eq-true-iff (lengthsFit (numberAt 2 2 (numberLists b .state)) (countIn (numberLists b .state)) (numberLists b)) _ .0 fit .0)
+    fits-room (numberAt 2 4 (numberLists b .state)) (countIn (numberLists b .state)) b (range .capacity) (range .count)
+    (and-eq-true-iff (lengthsFit (numberAt 2 4 (numberLists b .state)) (countIn (numberLists b .state)) (numberLists b)) _ .0 fit .0)
 
 -- a list of more than 4,096 entries is handed back with no state that fits
 pub long-unfit : (b : Lists) (commands : List ℕ) → room b ≡ false → handedBackFit (numberLists b) commands ≡ true → stateFits (numberLists b) ≡ false

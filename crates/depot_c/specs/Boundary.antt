@@ -11,7 +11,7 @@ use Rattle.s10.specs.Outcome as Identifier
 use Rattle.state_bytes.specs.Bytes.{bytesOf}
 use Rattle.state_bytes.specs.Layout.{Lists, lists, stateIn}
 use Rattle.controller.specs.Calls.{CallOutcome, accepted, refused, refusalIn, openOn, advanceOn}
-use Rattle.panel.specs.Reports.{pendingCounts, workerStatusBytes, workersIn}
+use Rattle.panel.specs.Reports.{pendingCounts, workerStatusBytes, largestIn}
 use Rattle.depot_c.specs.Numbers.{numbersIn, bytesIn}
 use Rattle.depot_c.specs.declared.Wanted.{Wanted}
 use Rattle.depot_c.specs.declared.Wanted.the-variants.{PendingCounts, WorkerStatus}
@@ -90,10 +90,10 @@ abbrev pub reportLength : Wanted → ℕ
 reportLength PendingCounts = 150
 reportLength WorkerStatus = 128
 
--- the bytes of a report, of the state that lists write; the worker count is read from the state bytes
+-- the bytes of a report, of the state that lists write; the largest worker count is read from the state bytes
 abbrev pub reportIn : Wanted → List ℕ → Lists → List ℕ
 reportIn PendingCounts state l = pendingCounts (stateIn l)
-reportIn WorkerStatus state l = workerStatusBytes (workersIn state) (stateIn l)
+reportIn WorkerStatus state l = workerStatusBytes (largestIn state) (stateIn l)
 
 -- ---- lent rooms
 

@@ -52,15 +52,15 @@ bytesSchedules (call ∷ calls) = cond (eqb (answerTo call) 0) (call .schedule) 
 unfoldable pub answerAt : ℕ → Lists → ℕ
 answerAt c b = numberAt 2 (2 * (c - 1)) (b .answers)
 
--- the chute table is a store: the bytes of its keys, the bytes of its chutes, and at byte 8 of the run how many entries it uses
+-- the chute table is a store: the bytes of its keys, the bytes of its chutes, and at byte 10 of the run how many entries it uses
 pub record TableIs (store : Store) (b : Lists) : Type 0 where
   pub keys : b .keys ≡ bytesIn 8 (store .keys)
   pub chutes : b .chutes ≡ bytesIn 2 (store .chutes)
-  pub used : numberAt 2 8 (b .state) ≡ store .used
+  pub used : numberAt 2 10 (b .state) ≡ store .used
 
--- thread t is idle: its five bytes, from byte 4390 of the run on, are an idle one's
+-- thread t is idle: its five bytes, from byte 4393 of the run on, are an idle one's
 abbrev pub IsIdle : ℕ → Lists → Type 0
-IsIdle t b = take 5 (drop (4390 + 5 * t) (b .state)) ≡ threadBytes Idle
+IsIdle t b = take 5 (drop (4393 + 5 * t) (b .state)) ≡ threadBytes Idle
 
 -- ---- the claim
 
@@ -73,7 +73,7 @@ pub record BytesHoldAfter (o : Setup) (commands : List ℕ) (b : Lists) (ts : Li
       EachCommand o (λ c. 1 ≤ answerAt c b) × TableIs (layOut (o .capacity) (serialEntries (o .capacity) (o .commands))) b
   -- "And some further dealing is accepted and leaves every command removed and every party idle"
   pub finish : (more : List ℕ) × (advanceAnswer b commands more ≡ 0) × EachCommand o (λ c. removed o c (ts ++ more) (opened o) ≡ true)
-      × ((t : ℕ) → t ≤ o .workers → IsIdle t (advanceLeft b commands more))
+      × ((t : ℕ) → t ≤ o .largest → IsIdle t (advanceLeft b commands more))
 
 -- every opening that `depot_open` answers 0, leaving b, and every proper list of calls from there
 abbrev pub Demand3OverBytes : Type 0

@@ -4,7 +4,7 @@ ghost use mathlib.Core.Bool.{_&&_};
 ghost use lib.Dec.{eqb};
 ghost use lib.ListN.{length};
 ghost use Rattle.state_bytes.specs.Layout.{atEntry, stateIn};
-ghost use Rattle.panel.specs.Reports.{reportOf, reportNumber, reportLeft, pendingCounts, workerStatusBytes, workersIn};
+ghost use Rattle.panel.specs.Reports.{reportOf, reportNumber, reportLeft, pendingCounts, workerStatusBytes, largestIn};
 ghost use Rattle.depot_c.specs.Boundary.{areWhole, decoded, numberLists, reportLength, reportIn, Rooms};
 use crate::Wanted;
 use crate::lists::MOST;
@@ -151,7 +151,7 @@ pub extern "C" fn depot_worker_status(
     status: &mut [u8],
 ) -> u64
     ensures number { λ r. ⌜ r ≡ reportNumber (decoded (atEntry state keys chutes answers)) (now (commands .entry)) (length (now (status .entry))) 128 ⌝ }
-    ensures left { λ r. ⌜ now (status .exit) ≡ reportLeft r (workerStatusBytes (workersIn (now (state .entry))) (stateIn (decoded (atEntry state keys chutes answers)))) (now (status .entry)) ⌝ }
+    ensures left { λ r. ⌜ now (status .exit) ≡ reportLeft r (workerStatusBytes (largestIn (now (state .entry))) (stateIn (decoded (atEntry state keys chutes answers)))) (now (status .entry)) ⌝ }
 {
     reported(
         state,

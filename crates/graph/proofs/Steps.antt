@@ -2,8 +2,9 @@
 -- pick the model's branch, and each array stored is the function that the branch makes. Assumes nothing.
 use Prim.Native.Nat.{ℕ}
 use mathlib.Core.Path.{_≡_, sym, _∙_}
-use mathlib.Core.Bool.{Bool, true, false, not, _&&_, _||_}
+use mathlib.Core.Bool.{Bool, true, false, not, _&&_, _||_, and-false}
 use mathlib.Core.List.{List}
+use mathlib.Core.Logic.{_⊎_, ⊎-elim}
 use lib.Dec.{eqb}
 use borrow.Author.Tests.{eq-eqb, ne-eqb}
 use Rattle.node_set.specs.declared.Node.{Node}
@@ -32,18 +33,22 @@ enter-locks thread entered locked locked′ clear stored s t lk th = rw (value l
 
 -- ---- searching, with y the next node
 
-module _ (at : Node) (next : List ℕ) (executing locked : List Bool) (waits : List (List ℕ)) (y : ℕ) (next-is : numbers next (at .0) ≡ y) where
+-- two tests of which one fails
+one-fails : (a b : Bool) → (a ≡ false) ⊎ (b ≡ false) → (a && b) ≡ false
+one-fails a b = ⊎-elim (λ e. rw e) (λ e. rw e (and-false a))
+
+module _ (allowed : Bool) (at : Node) (next : List ℕ) (executing locked : List Bool) (waits : List (List ℕ)) (y : ℕ) (next-is : numbers next (at .0) ≡ y) where
   -- The chain ends: the node is unlocked.
   pub search-ends : (locked′ : List Bool) → y ≡ 0 → flags locked′ ≡ upd (flags locked) (at .0) false
-      → Searches at next executing locked waits Idle executing locked′
+      → Searches allowed at next executing locked waits Idle executing locked′
   unfolding searching leave moveTo setLocked
-  search-ends locked′ end stored s t nx ex lk wt th = rw (value nx (at .0) ∙ next-is, eq-eqb y 0 end, stored, ← lk, ← ex)
+  search-ends locked′ end stored s t al nx ex lk wt th = rw (value nx (at .0) ∙ next-is, eq-eqb y 0 end, stored, ← lk, ← ex)
 
   module _ (more : y ≡ 0 → ⊥) where
     -- The next node is locked: nothing changes.
-    pub search-waits : flags locked y ≡ true → Searches at next executing locked waits (Searching at) executing locked
+    pub search-waits : flags locked y ≡ true → Searches allowed at next executing locked waits (Searching at) executing locked
     unfolding searching moveTo
-    search-waits shut s t nx ex lk wt th =
+    search-waits shut s t al nx ex lk wt th =
         rw (value nx (at .0) ∙ next-is, ne-eqb y 0 more, value lk y ∙ shut, upd-id (s .threads) t (Searching at) (sym th), ← lk, ← ex)
 
     -- Whether the next node is ready is read from the arrays.
@@ -51,20 +56,20 @@ module _ (at : Node) (next : List ℕ) (executing locked : List Bool) (waits : L
     unfolding ready
     ready-is s ex wt = rw (value ex y, value wt y)
 
-    -- The next node is ready: it is executing and unlocked, and so is the old one.
-    pub search-takes : (executing′ locked′ : List Bool) → flags locked y ≡ false → (not (flags executing y) && noneBelow 192 (sets waits y)) ≡ true
+    -- The worker is allowed, and the next node is ready: it is executing and unlocked, and so is the old one.
+    pub search-takes : (executing′ locked′ : List Bool) → flags locked y ≡ false → allowed ≡ true → (not (flags executing y) && noneBelow 192 (sets waits y)) ≡ true
         → flags executing′ ≡ upd (flags executing) y true → flags locked′ ≡ upd (upd (upd (flags locked) y true) (at .0) false) y false
-        → Searches at next executing locked waits (Holding (node y)) executing′ locked′
+        → Searches allowed at next executing locked waits (Holding (node y)) executing′ locked′
     unfolding searching examine stepOn moveTo setLocked setExecuting
-    search-takes executing′ locked′ clear found executed stored s t nx ex lk wt th =
-        rw (value nx (at .0) ∙ next-is, ne-eqb y 0 more, value lk y ∙ clear, ready-is s ex wt ∙ found, executed, stored, ← lk, ← ex)
+    search-takes executing′ locked′ clear may found executed stored s t al nx ex lk wt th =
+        rw (value nx (at .0) ∙ next-is, ne-eqb y 0 more, value lk y ∙ clear, al ∙ may, ready-is s ex wt ∙ found, executed, stored, ← lk, ← ex)
 
-    -- The next node is not ready: it is locked, and the old one is not.
-    pub search-steps : (locked′ : List Bool) → flags locked y ≡ false → (not (flags executing y) && noneBelow 192 (sets waits y)) ≡ false
-        → flags locked′ ≡ upd (upd (flags locked) y true) (at .0) false → Searches at next executing locked waits (Searching (node y)) executing locked′
+    -- The worker is not allowed, or the next node is not ready: it is locked, and the old one is not.
+    pub search-steps : (locked′ : List Bool) → flags locked y ≡ false → (allowed ≡ false) ⊎ ((not (flags executing y) && noneBelow 192 (sets waits y)) ≡ false)
+        → flags locked′ ≡ upd (upd (flags locked) y true) (at .0) false → Searches allowed at next executing locked waits (Searching (node y)) executing locked′
     unfolding searching examine stepOn moveTo setLocked
-    search-steps locked′ clear found stored s t nx ex lk wt th =
-        rw (value nx (at .0) ∙ next-is, ne-eqb y 0 more, value lk y ∙ clear, ready-is s ex wt ∙ found, stored, ← lk, ← ex)
+    search-steps locked′ clear found stored s t al nx ex lk wt th =
+        rw (value nx (at .0) ∙ next-is, ne-eqb y 0 more, value lk y ∙ clear, al, ready-is s ex wt, one-fails allowed (not (flags executing y) && noneBelow 192 (sets waits y)) found, stored, ← lk, ← ex)
 
 -- ---- walking, with y the next node
 

@@ -7,15 +7,17 @@ use mathlib.Core.Option.{Option, none, some}
 use native.Mathlib.Omega.{arith}
 use lib.ListN.{length, set}
 use Rattle.command.specs.declared.Kind.{Kind}
-use Rattle.command.specs.declared.Kind.the-variants.{Insert, Delete, Read, Update}
+use Rattle.command.specs.declared.Kind.the-variants.{Insert, Delete, Read, Update, Workers}
 use Rattle.command.specs.declared.Command.{Command}
 use Rattle.command.specs.Dependent.{isRead}
+use Rattle.command.proofs.Laws.{read-has-item}
+use Rattle.command.proofs.Count.{item-keeps-count}
 use Rattle.model.specs.Upd.{upd}
 use Rattle.model.specs.Store.{Store}
 use Rattle.model.specs.Service.{inOneStep, write, writeKind, writeFor}
 use Rattle.model.specs.Proof.Tests.{true-false}
 use Rattle.store.specs.Lists.{storeOf}
-use Rattle.graph.specs.Memory.{answersOf, Writes}
+use Rattle.graph.specs.Memory.{answersOf, limitAfter, Writes}
 use Rattle.graph.proofs.Bridge.{set-is-upd}
 
 -- the answer to the command of a place stands one before the place in the list: answers are counted from 0, places from 1
@@ -28,7 +30,7 @@ answered answers (suc p) v from to =
 -- a node with no command: nothing is written
 pub writes-none : (place found : ℕ) (keys chutes answers : List ℕ) (used : ℕ) → Writes none place found keys chutes answers used keys chutes answers used
 unfolding writeFor
-writes-none place found keys chutes answers used o capacity = refl
+writes-none place found keys chutes answers used o limit capacity = refl
 
 -- a command that is served: its store, and its answer at its place
 pub writes-served : (c : Command) (place found : ℕ) (keys chutes answers : List ℕ) (used : ℕ) (keys′ chutes′ : List ℕ) (answer used′ : ℕ)
@@ -36,7 +38,7 @@ pub writes-served : (c : Command) (place found : ℕ) (keys chutes answers : Lis
     → writeKind (c .kind) (length keys) (c .key) (c .chute) found (storeOf keys chutes used) ≡ write answer (storeOf keys′ chutes′ used′)
     → Writes (some c) place found keys chutes answers used keys′ chutes′ (set answers (place - 1) answer) used′
 unfolding writeFor
-writes-served c place found keys chutes answers used keys′ chutes′ answer used′ from to served o capacity =
+writes-served c place found keys chutes answers used keys′ chutes′ answer used′ from to served o limit capacity =
     rw (capacity, served, answered answers place answer from to)
 
 -- a command that is written in the step of its lookup is a read: the store stays
@@ -53,3 +55,10 @@ writes-read (some c) one place found keys chutes answers used answer from to rea
     go Delete e = absurd (true-false false e refl)
     go Read e = read (length keys) (c .key) (c .chute) (storeOf keys chutes used)
     go Update e = absurd (true-false false e refl)
+    go Workers e = absurd (true-false false e refl)
+
+-- and so does the worker count in force
+pub read-keeps-limit : (c : Option Command) → inOneStep c ≡ true → (limit : ℕ) → limitAfter c limit ≡ limit
+unfolding inOneStep
+read-keeps-limit none one limit = refl
+read-keeps-limit (some c) one limit = item-keeps-count c limit (read-has-item (c .kind) one)

@@ -10,7 +10,7 @@ use Rattle.model.specs.declared.Thread.{Thread}
 use Rattle.model.specs.declared.Thread.the-variants.{Idle, Loading, Searching, Holding, LookedUp, Written, Walking, Clearing}
 use Rattle.model.specs.Upd.{upd}
 use Rattle.model.specs.Graph.{Graph, graphOf, noNode}
-use Rattle.model.specs.Step.{State, moveTo, enter, searching, walking, clearing}
+use Rattle.model.specs.Step.{State, isAllowed, moveTo, enter, searching, walking, clearing}
 
 -- an array of numbers, of flags, and of sets of nodes
 abbrev pub numbers : List ℕ → ℕ → ℕ
@@ -77,9 +77,9 @@ Entered thread entered locked r locked′ =
     → enter t entered s ≡ movedTo t r (s .graph .next) (s .graph .seq) (s .graph .executing) (flags locked′) (s .graph .waits) (s .graph .free) s
 
 -- the kinds of a worker's step along the chain: on every state that the arrays show, the model's step
-abbrev pub Searches : Node → List ℕ → List Bool → List Bool → List (List ℕ) → Thread → List Bool → List Bool → Type 0
-Searches at next executing locked waits r executing′ locked′ =
-    (s : State) (t : ℕ) → s .graph .next ≡ numbers next → s .graph .executing ≡ flags executing → s .graph .locked ≡ flags locked → s .graph .waits ≡ sets waits → s .threads t ≡ Searching at
+abbrev pub Searches : Bool → Node → List ℕ → List Bool → List Bool → List (List ℕ) → Thread → List Bool → List Bool → Type 0
+Searches allowed at next executing locked waits r executing′ locked′ =
+    (s : State) (t : ℕ) → isAllowed t s ≡ allowed → s .graph .next ≡ numbers next → s .graph .executing ≡ flags executing → s .graph .locked ≡ flags locked → s .graph .waits ≡ sets waits → s .threads t ≡ Searching at
     → searching t (at .0) (s .graph .next (at .0)) s ≡ movedTo t r (s .graph .next) (s .graph .seq) (flags executing′) (flags locked′) (s .graph .waits) (s .graph .free) s
 
 abbrev pub Walks : Node → Node → List ℕ → List Bool → Thread → List ℕ → List Bool → Type 0

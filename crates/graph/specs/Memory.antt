@@ -3,9 +3,10 @@ use Prim.Native.Nat.{ℕ, _≤_, _*_}
 use mathlib.Core.Path.{_≡_}
 use mathlib.Core.Bool.{Bool}
 use mathlib.Core.List.{List, _∷_}
-use mathlib.Core.Option.{Option}
+use mathlib.Core.Option.{Option, none, some}
 use lib.ListN.{length, getD}
 use Rattle.command.specs.declared.Command.{Command}
+use Rattle.command.specs.Count.{countAfter}
 use Rattle.node_set.specs.declared.Node.{Node}
 use Rattle.model.specs.declared.Thread.{Thread}
 use Rattle.model.specs.declared.Thread.the-variants.{Loading}
@@ -34,12 +35,13 @@ pub record GraphArrays : Type 0 where
   pub free : ℕ
   pub loaded : ℕ
 
--- the store's lists and count, and the answers
+-- the store's lists and count, the answers, and the worker count in force
 pub record ServiceLists : Type 0 where
   pub keys : List ℕ
   pub chutes : List ℕ
   pub answers : List ℕ
   pub used : ℕ
+  pub limit : ℕ
 
 pub record Memory : Type 0 where
   pub graph : GraphArrays
@@ -49,14 +51,14 @@ pub record Memory : Type 0 where
 abbrev pub shownGraph : GraphArrays → Graph
 shownGraph a = graphOf (numbers (a .next)) (numbers (a .seq)) (flags (a .executing)) (flags (a .locked)) (sets (a .waits)) (a .free) (a .loaded)
 
-abbrev pub serviceOf : List ℕ → List ℕ → List ℕ → ℕ → Service
-serviceOf keys chutes answers used = record { store = storeOf keys chutes used; answers = answersOf answers }
+abbrev pub serviceOf : List ℕ → List ℕ → List ℕ → ℕ → ℕ → Service
+serviceOf keys chutes answers used limit = record { store = storeOf keys chutes used; answers = answersOf answers; limit = limit }
 
 abbrev pub shown : Memory → (ℕ → Thread) → State
 shown m threads = record {
   graph = shownGraph (m .graph);
   threads = threads;
-  service = serviceOf (m .service .keys) (m .service .chutes) (m .service .answers) (m .service .used);
+  service = serviceOf (m .service .keys) (m .service .chutes) (m .service .answers) (m .service .used) (m .service .limit);
 }
 
 -- the loader's walk on the arrays: on every state that they show, the model's
@@ -66,10 +68,16 @@ LoaderWalks at own next executing locked waits kinds keys chutes r next′ execu
     → Kept (o .commands) (s .graph .seq) kinds keys chutes → s .threads 0 ≡ Loading at own
     → loaderWalk o (at .0) (own .0) (s .graph .next (at .0)) s ≡ movedTo 0 r (numbers next′) (s .graph .seq) (flags executing′) (flags locked′) (sets waits′) (s .graph .free) s
 
+-- the worker count in force after a command is written
+abbrev pub limitAfter : Option Command → ℕ → ℕ
+limitAfter none limit = limit
+limitAfter (some c) limit = countAfter c limit
+
 -- the writing of a command's answer in these lists: the model's
 abbrev pub Writes : Option Command → ℕ → ℕ → List ℕ → List ℕ → List ℕ → ℕ → List ℕ → List ℕ → List ℕ → ℕ → Type 0
 Writes item place found keys chutes answers used keys′ chutes′ answers′ used′ =
-    (o : Setup) → o .capacity ≡ length keys → writeFor o item place found (serviceOf keys chutes answers used) ≡ serviceOf keys′ chutes′ answers′ used′
+    (o : Setup) (limit : ℕ) → o .capacity ≡ length keys
+    → writeFor o item place found (serviceOf keys chutes answers used limit) ≡ serviceOf keys′ chutes′ answers′ used′ (limitAfter item limit)
 
 -- what a step needs of its memory: node numbers that are nodes', each node's command kept, and a list of as many commands as answers
 pub record Ready (list : List ℕ) (kinds itemKeys itemChutes : List ℕ) (m : Memory) (thread : Thread) : Type 0 where
@@ -83,7 +91,7 @@ pub record Ready (list : List ℕ) (kinds itemKeys itemChutes : List ℕ) (m : M
 abbrev pub memory : List ℕ → List ℕ → List Bool → List Bool → List (List ℕ) → List ℕ → List ℕ → List ℕ → Counters → Memory
 memory next seq executing locked waits keys chutes answers c = record {
   graph = record { next = next; seq = seq; executing = executing; locked = locked; waits = waits; free = c .free .0; loaded = c .loaded .0 };
-  service = record { keys = keys; chutes = chutes; answers = answers; used = c .used };
+  service = record { keys = keys; chutes = chutes; answers = answers; used = c .used; limit = c .limit };
 }
 
 -- what a step promises: for all threads of which t is in state `thread`, memory and threads show the model's next state, and the memory is

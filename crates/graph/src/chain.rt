@@ -52,17 +52,18 @@ pub fn enter(locked: &mut [bool; 151], thread: Thread, entered: Thread) -> Threa
     entered
 }
 
-// A searching worker's step.
+// A searching worker's step; one that is not allowed to takes no node.
 pub fn search(
     next: &[u8; 151],
     executing: &mut [bool; 151],
     locked: &mut [bool; 151],
     waits: &[[u64; 3]; 151],
     at: Node,
+    allowed: bool,
 ) -> Thread
     requires { ⌜ Nodes (now next) × (at .0 ≤ 150) ⌝ }
     ensures within { λ r. ⌜ NodesWithin r ⌝ }
-    ensures steps { λ r. ⌜ Searches at (now (next .entry)) (now (executing .entry)) (now (locked .entry)) (now (waits .entry)) r (now (executing .exit)) (now (locked .exit)) ⌝ }
+    ensures steps { λ r. ⌜ Searches allowed at (now (next .entry)) (now (executing .entry)) (now (locked .entry)) (now (waits .entry)) r (now (executing .exit)) (now (locked .exit)) ⌝ }
 {
     let a = at.0 as usize;
     let y = next[a];
@@ -75,6 +76,9 @@ pub fn search(
         return Thread::Searching { at };
     }
     step_on(locked, at, Node(y));
+    if !allowed {
+        return Thread::Searching { at: Node(y) };
+    }
     let set = waits[n];
     if !executing[n] && node_set::is_empty(set) {
         set_flag(executing, n, true);

@@ -21,6 +21,7 @@ pub use items::item_of;
 pub use items::keep;
 pub use loader::loader_walk;
 pub use service::in_one_step;
+pub use service::limit_after;
 pub use service::look_up;
 pub use service::write;
 pub use service::write_read;

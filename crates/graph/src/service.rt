@@ -11,19 +11,25 @@ ghost use Rattle.model.specs.Service.{foundFor, inOneStep, writeKind, write as 
 ghost use Rattle.model.specs.Store.{Store};
 ghost use Rattle.store.specs.Lists.{storeOf};
 ghost use Rattle.graph.specs.Items.{itemOf};
-ghost use Rattle.graph.specs.Memory.{Writes};
+ghost use Rattle.graph.specs.Memory.{limitAfter, Writes};
 use crate::items::Item;
 use command::Command;
 use command::Kind;
 use command::Seq;
 
-// What a lookup finds for a command: the chute of its key, 0 where there is none.
+// What a lookup finds for a command: the chute of its item, 0 where there is none.
 pub fn look_up(item: Item, keys: &[u64], chutes: &[u16], used: usize) -> u16
     ensures { λ r. ⌜ r ≡ foundFor (itemOf item) (storeOf (now (keys .entry)) (now (chutes .entry)) used) ⌝ }
 {
     match item {
         Item::Nothing => 0,
-        Item::Of(command) => store::look_up(keys, chutes, used, command.key),
+        Item::Of(command) => {
+            let wanted = command.kind;
+            if !wanted.has_item() {
+                return 0;
+            }
+            store::look_up(keys, chutes, used, command.key)
+        }
     }
 }
 
@@ -109,6 +115,7 @@ fn serve(command: Command, found: u16, keys: &mut [u64], chutes: &mut [u16], use
             store::replace(keys, chutes, used, command.key, command.chute);
             Written { answer: 1000, used }
         }
+        Kind::Workers => Written { answer: 1000, used },
     }
 }
 
@@ -133,6 +140,16 @@ pub fn write(
             answers[i] = written.answer;
             written.used
         }
+    }
+}
+
+// The worker count in force after a command is written.
+pub fn limit_after(item: Item, limit: usize) -> usize
+    ensures { λ r. ⌜ r ≡ limitAfter (itemOf item) limit ⌝ }
+{
+    match item {
+        Item::Nothing => limit,
+        Item::Of(command) => command.count_after(limit),
     }
 }
 

@@ -8,4 +8,5 @@ pub mod Step
 pub mod Statement
 pub mod OneTurn
 pub mod WaitsFor
+pub mod Count
 pub mod Proof

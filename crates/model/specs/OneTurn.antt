@@ -33,5 +33,5 @@ pub record InTurns (o : Setup) (s : State) (t : ℕ) (own : Node) (c : Command) 
 -- the statement: after every schedule
 abbrev pub ReadsInOneTurn : Type 0
 ReadsInOneTurn =
-    (o : Setup) → Accepted o → (ts : List ℕ) → allWithin (o .workers) ts ≡ true → (t : ℕ) → 1 ≤ t → t ≤ o .workers → (own : Node) (c : Command)
+    (o : Setup) → Accepted o → (ts : List ℕ) → allWithin (o .largest) ts ≡ true → (t : ℕ) → 1 ≤ t → t ≤ o .largest → (own : Node) (c : Command)
     → commandOf o (steps o ts (opened o) .graph) (own .0) ≡ some c → InTurns o (steps o ts (opened o)) t own c

@@ -15,3 +15,4 @@ pub mod WaitsFor
 pub mod Finish
 pub mod Theorem
 pub mod Bounds
+pub mod Count

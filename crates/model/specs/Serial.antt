@@ -6,7 +6,7 @@ use mathlib.Core.List.{List, [], _∷_}
 use lib.ListN.{length}
 use lib.Dec.{eqb, leb, ltb}
 use Rattle.command.specs.declared.Kind.{Kind}
-use Rattle.command.specs.declared.Kind.the-variants.{Insert, Delete, Read, Update}
+use Rattle.command.specs.declared.Kind.the-variants.{Insert, Delete, Read, Update, Workers}
 use Rattle.command.specs.declared.Command.{Command}
 
 -- "Its state is a list of entries, key and chute, keys ascending, empty at first."
@@ -59,6 +59,8 @@ serveKind Delete capacity key chute es = cond (present key es) (served 1000 (tak
 serveKind Read capacity key chute es = cond (present key es) (served (chuteAt key es) es) (served 1002 es)
 -- "Update: absent, 1002; else its entry gets the command's chute, 1000."
 serveKind Update capacity key chute es = cond (present key es) (served 1000 (setChute key chute es)) (served 1002 es)
+-- "the serial run, where kind 5 answers 1000" (02, A.2)
+serveKind Workers capacity key chute es = served 1000 es
 
 unfoldable pub serve : ℕ → Command → List Entry → Served
 unfolding serveKind

@@ -1,32 +1,35 @@
--- What commands read and write: the store and the answers, and what a lookup finds and a write changes. Nothing here knows of a chain or
--- of threads. Assumes nothing.
+-- What commands read and write: the store, the answers and the worker count in force, and what a lookup finds and a write changes. Nothing
+-- here knows of a chain or of threads. Assumes nothing.
 use Prim.Native.Nat.{ℕ}
 use mathlib.Core.Bool.{Bool, false, cond}
 use mathlib.Core.List.{[]}
 use mathlib.Core.Option.{Option, none, some}
 use lib.Dec.{eqb, leb}
 use Rattle.command.specs.declared.Kind.{Kind}
-use Rattle.command.specs.declared.Kind.the-variants.{Insert, Delete, Read, Update}
+use Rattle.command.specs.declared.Kind.the-variants.{Insert, Delete, Read, Update, Workers}
 use Rattle.command.specs.declared.Command.{Command}
-use Rattle.command.specs.Dependent.{isRead}
+use Rattle.command.specs.Dependent.{isRead, hasItem}
+use Rattle.command.specs.Count.{countAfter}
 use Rattle.model.specs.Upd.{upd}
 use Rattle.model.specs.Setup.{Setup}
 use Rattle.model.specs.Store.{Store, layOut, lookUp, insert, remove, replace}
 
--- the store, and the answer to the command of each place, 0 for "not yet given"
+-- the store, the answer to the command of each place, 0 for "not yet given", and the worker count in force
 pub record Service : Type 0 where
   pub store : Store
   pub answers : ℕ → ℕ
+  pub limit : ℕ
 
--- "Opening sets store and answers to 0"
+-- "Opening sets store and answers to 0"; the opening's count is in force
 unfoldable pub openedService : Setup → Service
 unfolding layOut
-openedService o = record { store = layOut (o .capacity) []; answers = λ c. 0 }
+openedService o = record { store = layOut (o .capacity) []; answers = λ c. 0; limit = o .workers }
 
--- what a lookup finds for a command: the chute of its key, 0 where there is none
+-- what a lookup finds for a command: the chute of its item, 0 where there is none
 unfoldable pub foundFor : Option Command → Store → ℕ
+unfolding hasItem
 foundFor none st = 0
-foundFor (some c) st = lookUp (c .key) st
+foundFor (some c) st = cond (hasItem (c .kind)) (lookUp (c .key) st) 0
 
 -- whether a command is written in the step of its lookup: "A worker's look and writing become one turn for kind 3; other kinds keep two."
 -- (02, A.8)
@@ -52,11 +55,13 @@ writeKind Insert capacity key chute found st =
 writeKind Delete capacity key chute found st = cond (eqb found 0) (write 1002 st) (write 1000 (remove key st))
 writeKind Read capacity key chute found st = cond (eqb found 0) (write 1002 st) (write found st)
 writeKind Update capacity key chute found st = cond (eqb found 0) (write 1002 st) (write 1000 (replace key chute st))
+writeKind Workers capacity key chute found st = write 1000 st
 
--- "Write store and answer": the command of place c, after its lookup found something
+-- "Write store and answer": the command of place c, after its lookup found something; kind 5's count is in force "from its writing turn"
+-- (02, A.2)
 unfoldable pub writeFor : Setup → Option Command → ℕ → ℕ → Service → Service
-unfolding writeKind
+unfolding writeKind countAfter
 writeFor o none c found v = v
 writeFor o (some cmd) c found v =
     let w : Write = writeKind (cmd .kind) (o .capacity) (cmd .key) (cmd .chute) found (v .store) in
-    record { store = w .store; answers = upd (v .answers) c (w .answer) }
+    record { store = w .store; answers = upd (v .answers) c (w .answer); limit = countAfter cmd (v .limit) }

@@ -7,10 +7,11 @@ use lib.ListN.{getElem?}
 use Rattle.command.specs.declared.Command.{Command}
 use Rattle.command.specs.Dependent.{areDependent}
 
--- graph size, worker count, capacity ("store room") and commands
+-- graph size, worker count, "the largest count of the opening and the list" (02, A.2), capacity ("store room") and commands
 pub record Setup : Type 0 where
   pub size : ℕ
   pub workers : ℕ
+  pub largest : ℕ
   pub capacity : ℕ
   pub commands : List Command
 

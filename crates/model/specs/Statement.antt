@@ -9,6 +9,7 @@ use lib.ListN.{length, getD}
 use lib.Dec.{eqb, leb}
 use Rattle.command.specs.declared.Command.{Command}
 use Rattle.command.specs.Read.{chuteFits}
+use Rattle.command.specs.Count.{largestCount}
 use Rattle.model.specs.declared.Thread.{Thread}
 use Rattle.model.specs.declared.Thread.the-variants.{Idle, Loading, Searching, Holding, LookedUp, Written, Walking, Clearing}
 use Rattle.model.specs.Serial.{serialAnswers, serialEntries}
@@ -21,11 +22,12 @@ use Rattle.model.specs.Step.{State, commandOf, opened, step, steps}
 pub record Accepted (o : Setup) : Type 0 where
   pub size : (1 ≤ o .size) × (o .size ≤ 150)
   pub workers : (1 ≤ o .workers) × (o .workers ≤ 64)
+  pub largest : o .largest ≡ largestCount (o .workers) (o .commands)
   pub capacity : (1 ≤ o .capacity) × (o .capacity ≤ 4096)
   pub count : length (o .commands) ≤ 4096
   pub chutes : (c : ℕ) (cmd : Command) → commandAt (o .commands) c ≡ some cmd → chuteFits (cmd .kind) (cmd .chute) ≡ true
 
--- every step of a schedule names a thread up to the worker count
+-- every step of a schedule names a thread up to a worker count
 unfoldable pub allWithin : ℕ → List ℕ → Bool
 allWithin workers [] = true
 allWithin workers (t ∷ ts) = leb t workers && allWithin workers ts
@@ -81,9 +83,9 @@ pub record Holds (o : Setup) (ts : List ℕ) : Type 0 where
   pub table : EachCommand o (λ c. removed o c ts (opened o) ≡ true) →
       EachCommand o (λ c. 1 ≤ steps o ts (opened o) .service .answers c) × (steps o ts (opened o) .service .store ≡ layOut (o .capacity) (serialEntries (o .capacity) (o .commands)))
   -- "And some further dealing is accepted and leaves every command removed and every party idle"
-  pub finish : (more : List ℕ) × (allWithin (o .workers) more ≡ true) × EachCommand o (λ c. removed o c (ts ++ more) (opened o) ≡ true)
-      × ((t : ℕ) → t ≤ o .workers → steps o (ts ++ more) (opened o) .threads t ≡ Idle)
+  pub finish : (more : List ℕ) × (allWithin (o .largest) more ≡ true) × EachCommand o (λ c. removed o c (ts ++ more) (opened o) ≡ true)
+      × ((t : ℕ) → t ≤ o .largest → steps o (ts ++ more) (opened o) .threads t ≡ Idle)
 
--- the statement
+-- the statement: "A dealing may name parties up to the largest count of the opening and the list" (02, A.2)
 abbrev pub Demand3 : Type 0
-Demand3 = (o : Setup) → Accepted o → (ts : List ℕ) → allWithin (o .workers) ts ≡ true → Holds o ts
+Demand3 = (o : Setup) → Accepted o → (ts : List ℕ) → allWithin (o .largest) ts ≡ true → Holds o ts

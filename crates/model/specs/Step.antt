@@ -103,11 +103,16 @@ enter t thread s = cond (s .graph .locked 0) s (moveTo t thread (setLocked 0 tru
 unfoldable pub ready : Graph → ℕ → Bool
 ready g n = not (g .executing n) && noneBelow 192 (g .waits n)
 
--- "if that record is waiting with an empty set, mark it executing, unlock it and hold it"
+-- whether worker t is within the worker count in force (02, A.2)
+unfoldable pub isAllowed : ℕ → State → Bool
+isAllowed t s = leb t (s .service .limit)
+
+-- "if that record is waiting with an empty set, mark it executing, unlock it and hold it"; a worker above the count "walks to the end and
+-- takes nothing" (02, A.2)
 unfoldable pub examine : ℕ → ℕ → ℕ → State → State
-unfolding ready stepOn moveTo setLocked setExecuting
+unfolding isAllowed ready stepOn moveTo setLocked setExecuting
 examine t at y s =
-    cond (ready (s .graph) y) (moveTo t (Holding (node y)) (setLocked y false (setExecuting y true (stepOn at y (s .graph)))) s)
+    cond (isAllowed t s && ready (s .graph) y) (moveTo t (Holding (node y)) (setLocked y false (setExecuting y true (stepOn at y (s .graph)))) s)
     (moveTo t (Searching (node y)) (stepOn at y (s .graph)) s)
 
 -- "unlock, be idle"
@@ -161,10 +166,15 @@ clearing t at own y s =
     cond (eqb y 0) (moveTo t Idle (return own (setLocked at false g)) s)
     (cond (g .locked y) s (moveTo t (Clearing (node y) (node own)) (setWaits y (upd (g .waits y) own false) (stepOn at y g)) s))
 
+-- "a worker above the count starts no search and waits when idle" (02, A.2)
+unfoldable pub idle : ℕ → State → State
+unfolding isAllowed enter
+idle t s = cond (isAllowed t s) (enter t (Searching (node 0)) s) s
+
 -- "Turns of parties 1 and up, the workers". A worker is never in the loader's walking state.
 unfoldable pub workerStep : Setup → ℕ → Thread → State → State
-unfolding enter searching holding lookedUp walking clearing
-workerStep o t Idle s = enter t (Searching (node 0)) s
+unfolding enter idle searching holding lookedUp walking clearing
+workerStep o t Idle s = idle t s
 workerStep o t (Loading at own) s = s
 workerStep o t (Searching at) s = searching t (at .0) (s .graph .next (at .0)) s
 workerStep o t (Holding own) s = holding o t (own .0) s

@@ -20,9 +20,11 @@ pub enum Thread {
     Clearing { at: Node, own: Node },
 }
 
-// What steps count: the first free node, the place of the last command loaded, and the store's places in use.
+// What steps count: the first free node, the place of the last command loaded, the store's places in use, and the worker count
+// in force.
 pub struct Counters {
     pub free: Node,
     pub loaded: Seq,
     pub used: usize,
+    pub limit: usize,
 }

@@ -13,7 +13,7 @@ use Rattle.state_bytes.specs.Layout.{Lists, stateIn, stateLength}
 use Rattle.panel.specs.declared.Report.{Report}
 use Rattle.panel.specs.declared.Report.the-variants.{Reported, WrongLength, WrongState}
 use Rattle.panel.specs.declared.WorkerStatus.{WorkerStatus}
-use Rattle.panel.specs.Reports.{reportOf, reportNumber, reportLeft, statusOf, reported, workerStatus, workersIn}
+use Rattle.panel.specs.Reports.{reportOf, reportNumber, reportLeft, statusOf, reported, workerStatus, largestIn}
 use Rattle.panel.proofs.Reporting.{passed-lengths}
 
 -- ---- entry by entry
@@ -27,11 +27,11 @@ set-next (suc i) (x ∷ xs) f r less e = ap (λ (l : List _). f 0 ∷ l) (set-ne
 
 -- what `status_at` says of its result at the worker t
 abbrev pub Said : List ℕ → ℕ → WorkerStatus → Type 0
-Said st t r = (l : Lists) → l .state ≡ st → r ≡ statusOf (reported (workersIn st) (stateIn l) t)
+Said st t r = (l : Lists) → l .state ≡ st → r ≡ statusOf (reported (largestIn st) (stateIn l) t)
 
 -- ys is xs with the status of the first i workers written
 abbrev pub Wrote : List ℕ → List WorkerStatus → ℕ → List WorkerStatus → Type 0
-Wrote st xs i ys = (l : Lists) → l .state ≡ st → ys ≡ tabulate i (λ j. statusOf (reported (workersIn st) (stateIn l) (suc j))) ++ drop i xs
+Wrote st xs i ys = (l : Lists) → l .state ≡ st → ys ≡ tabulate i (λ j. statusOf (reported (largestIn st) (stateIn l) (suc j))) ++ drop i xs
 
 pub wrote-none : (st : List ℕ) (xs : List WorkerStatus) → Wrote st xs 0 xs
 unfolding tabulate
@@ -40,7 +40,7 @@ wrote-none st xs l e = refl
 pub wrote-next : (st : List ℕ) (xs ys : List WorkerStatus) (i : ℕ) (r : WorkerStatus) → i < length xs → Said st (i + 1) r → Wrote st xs i ys → Wrote st xs (suc i) (set ys i r)
 wrote-next st xs ys i r less said wrote l e =
     ap (λ (zs : List WorkerStatus). set zs i r) (wrote l e)
-    ∙ set-next i xs (λ j. statusOf (reported (workersIn st) (stateIn l) (suc j))) r less (said l e ∙ ap (λ (t : ℕ). statusOf (reported (workersIn st) (stateIn l) t)) (add-one i))
+    ∙ set-next i xs (λ j. statusOf (reported (largestIn st) (stateIn l) (suc j))) r less (said l e ∙ ap (λ (t : ℕ). statusOf (reported (largestIn st) (stateIn l) t)) (add-one i))
 
 -- what is asked for each of the c entries to be written
 abbrev pub Asked : List ℕ → List WorkerStatus → ℕ → Type 0
@@ -68,15 +68,15 @@ module _ (l : Lists) (commands : List ℕ) (xs : List WorkerStatus) where
   none-left zs wrote = wrote l refl
 
   -- all entries written leave the report
-  all-left : (zs : List WorkerStatus) → length xs ≡ 64 → Wrote (l .state) xs 64 zs → zs ≡ workerStatus (workersIn (l .state)) (stateIn l)
+  all-left : (zs : List WorkerStatus) → length xs ≡ 64 → Wrote (l .state) xs 64 zs → zs ≡ workerStatus (largestIn (l .state)) (stateIn l)
   unfolding workerStatus
   all-left zs same wrote =
       wrote l refl
-      ∙ ap (λ (rest : List WorkerStatus). tabulate 64 (λ j. statusOf (reported (workersIn (l .state)) (stateIn l) (suc j))) ++ rest) (drop-of-length-le xs {i = 64} (omega (arith, same)))
-      ∙ append-nil (tabulate 64 (λ j. statusOf (reported (workersIn (l .state)) (stateIn l) (suc j))))
+      ∙ ap (λ (rest : List WorkerStatus). tabulate 64 (λ j. statusOf (reported (largestIn (l .state)) (stateIn l) (suc j))) ++ rest) (drop-of-length-le xs {i = 64} (omega (arith, same)))
+      ∙ append-nil (tabulate 64 (λ j. statusOf (reported (largestIn (l .state)) (stateIn l) (suc j))))
 
   pub leaves : (r : Report) (c : ℕ) (zs : List WorkerStatus) → reportOf r ≡ reportNumber l commands (length xs) 64 → Count r c → Wrote (l .state) xs c zs
-      → zs ≡ reportLeft (reportOf r) (workerStatus (workersIn (l .state)) (stateIn l)) xs
+      → zs ≡ reportLeft (reportOf r) (workerStatus (largestIn (l .state)) (stateIn l)) xs
   unfolding reportLeft
   leaves Reported c zs number count wrote = all-left zs (passed-lengths l commands (length xs) 64 number .1) (subst (λ (k : ℕ). Wrote (l .state) xs k zs) count wrote)
   leaves WrongLength c zs number count wrote = none-left zs (subst (λ (k : ℕ). Wrote (l .state) xs k zs) count wrote)

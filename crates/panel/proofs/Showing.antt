@@ -17,12 +17,12 @@ use Rattle.state_bytes.proofs.Fill.{number-one}
 use Rattle.state_bytes.proofs.Paste.{PutFields, fields-put, fields-all, pasted-whole}
 use Rattle.panel.specs.declared.WorkerStatus.{WorkerStatus}
 use Rattle.panel.specs.declared.WorkerState.the-variants as worker
-use Rattle.panel.specs.Reports.{entry, statusOf, reported, stateNumber, statusBytes, workerStatus, workerStatusBytes, workersIn}
+use Rattle.panel.specs.Reports.{entry, statusOf, reported, stateNumber, statusBytes, workerStatus, workerStatusBytes, largestIn}
 
--- the worker count is byte 1
-workers-in : (b : List ℕ) → length b ≡ stateLength → workersIn b ≡ getD b 1 0
+-- the largest worker count is byte 3
+largest-in : (b : List ℕ) → length b ≡ stateLength → largestIn b ≡ getD b 3 0
 unfolding stateLength
-workers-in b long = number-one 1 b (omega arith)
+largest-in b long = number-one 3 b (omega arith)
 
 -- a worker past the count is reported idle, any other as the bytes have it
 reported-idle : (workers t : ℕ) (s : State) → workers < t → reported workers s t ≡ Idle
@@ -36,17 +36,17 @@ reported-thread workers t l h k =
     rw (le-leb t workers h, lt-ltb t 65 among)
 
 -- what is shown of a worker past the count, and of any other
-pub past-shown : (b : List ℕ) (s : State) (t : ℕ) → length b ≡ stateLength → getD b 1 0 < t → entry worker.Idle 0 ≡ statusOf (reported (workersIn b) s t)
+pub past-shown : (b : List ℕ) (s : State) (t : ℕ) → length b ≡ stateLength → getD b 3 0 < t → entry worker.Idle 0 ≡ statusOf (reported (largestIn b) s t)
 unfolding statusOf
 past-shown b s t long h =
-    let past : workersIn b < t = omega (arith, workers-in b long) in
-    sym (ap statusOf (reported-idle (workersIn b) t s past))
+    let past : largestIn b < t = omega (arith, largest-in b long) in
+    sym (ap statusOf (reported-idle (largestIn b) t s past))
 
-pub worker-shown : (b : List ℕ) (l : Lists) (t : ℕ) {thread : Thread} {r : WorkerStatus} → l .state ≡ b → length b ≡ stateLength → t ≤ getD b 1 0 → t ≤ 64
-    → thread ≡ threadAt b t → r ≡ statusOf thread → r ≡ statusOf (reported (workersIn b) (stateIn l) t)
+pub worker-shown : (b : List ℕ) (l : Lists) (t : ℕ) {thread : Thread} {r : WorkerStatus} → l .state ≡ b → length b ≡ stateLength → t ≤ getD b 3 0 → t ≤ 64
+    → thread ≡ threadAt b t → r ≡ statusOf thread → r ≡ statusOf (reported (largestIn b) (stateIn l) t)
 worker-shown b l t same long h k is shown =
-    let within : t ≤ workersIn b = omega (arith, workers-in b long) in
-    shown ∙ ap statusOf (is ∙ ap (λ (a : List ℕ). threadAt a t) (sym same) ∙ sym (reported-thread (workersIn b) t l within k))
+    let within : t ≤ largestIn b = omega (arith, largest-in b long) in
+    shown ∙ ap statusOf (is ∙ ap (λ (a : List ℕ). threadAt a t) (sym same) ∙ sym (reported-thread (largestIn b) t l within k))
 
 -- ---- as bytes
 

@@ -62,14 +62,14 @@ statusOf (Written own) = entry worker.Written (own .0)
 statusOf (Walking at own) = entry worker.Walking (own .0)
 statusOf (Clearing at own) = entry worker.Clearing (own .0)
 
--- "those past the worker count say idle"
+-- "those past the worker count say idle"; "up to the largest count of the opening and the list, [..] the panel shows them" (02, A.2)
 unfoldable pub reported : ℕ → State → ℕ → Thread
-reported workers s t = cond (leb t workers) (s .threads t) Idle
+reported largest s t = cond (leb t largest) (s .threads t) Idle
 
 -- the 64 entries; worker 1 has the first
 unfoldable pub workerStatus : ℕ → State → List WorkerStatus
 unfolding tabulate statusOf reported
-workerStatus workers s = tabulate 64 (λ i. statusOf (reported workers s (suc i)))
+workerStatus largest s = tabulate 64 (λ i. statusOf (reported largest s (suc i)))
 
 -- a state's number, as in docs/STATE-LAYOUT.md
 unfoldable pub stateNumber : WorkerState → ℕ
@@ -88,11 +88,11 @@ statusBytes e = stateNumber (e .state) ∷ e .own .0 ∷ []
 
 unfoldable pub workerStatusBytes : ℕ → State → List ℕ
 unfolding fields statusBytes statusOf reported
-workerStatusBytes workers s = fields 64 (λ i. statusBytes (statusOf (reported workers s (suc i))))
+workerStatusBytes largest s = fields 64 (λ i. statusBytes (statusOf (reported largest s (suc i))))
 
--- the worker count of state bytes
-abbrev pub workersIn : List ℕ → ℕ
-workersIn b = numberAt 1 1 b
+-- the largest worker count of state bytes
+abbrev pub largestIn : List ℕ → ℕ
+largestIn b = numberAt 1 3 b
 
 -- ---- answers from a place on
 

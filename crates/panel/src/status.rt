@@ -9,14 +9,14 @@ ghost use Rattle.model.specs.Step.{State};
 ghost use Rattle.state_bytes.specs.Bytes.{tabulate};
 ghost use Rattle.state_bytes.specs.Layout.{atEntry, Lists, stateLength, stateIn};
 ghost use Rattle.s10.specs.Refusal.{plain};
-ghost use Rattle.panel.specs.Reports.{reportOf, reportRefusal, reportNumber, reportLeft, statusOf, reported, stateNumber, workerStatus, workerStatusBytes, workersIn};
+ghost use Rattle.panel.specs.Reports.{reportOf, reportRefusal, reportNumber, reportLeft, statusOf, reported, stateNumber, workerStatus, workerStatusBytes, largestIn};
 use crate::Report;
 use crate::WorkerState;
 use crate::WorkerStatus;
 use crate::tested::tested;
 use model::Thread;
 use node_set::Node;
-use state_bytes::WORKERS;
+use state_bytes::LARGEST;
 use state_bytes::thread_at;
 
 // How many entries the report has, and how many bytes it is.
@@ -67,10 +67,10 @@ fn status_of(thread: Thread) -> WorkerStatus
 // The status of one worker; one past the worker count is idle.
 fn status_at(state: &[u8], worker: usize) -> WorkerStatus
     requires { ⌜ (length (now state) ≡ stateLength) × (worker ≤ 64) ⌝ }
-    ensures { λ r. ⌜ ((l : Lists) → l .state ≡ now (state .entry) → r ≡ statusOf (reported (workersIn (now (state .entry))) (stateIn l) worker)) ⌝ }
+    ensures { λ r. ⌜ ((l : Lists) → l .state ≡ now (state .entry) → r ≡ statusOf (reported (largestIn (now (state .entry))) (stateIn l) worker)) ⌝ }
 {
-    let workers = state[WORKERS] as usize;
-    if worker > workers {
+    let largest = state[LARGEST] as usize;
+    if worker > largest {
         return WorkerStatus {
             state: WorkerState::Idle,
             own: Node(0),
@@ -108,7 +108,7 @@ fn shown(report: Report) -> usize
 // Writes the status of the first `count` workers, and leaves the entries after them as they were.
 fn write_status(state: &[u8], status: &mut [WorkerStatus], count: usize)
     requires { ⌜ ((i : ℕ) → i < count → (length (now state) ≡ stateLength) × (i < 64) × (i < length (now status))) ⌝ }
-    ensures { λ _. ⌜ ((l : Lists) → l .state ≡ now (state .entry) → now (status .exit) ≡ tabulate count (λ i. statusOf (reported (workersIn (now (state .entry))) (stateIn l) (suc i))) ++ drop count (now (status .entry))) ⌝ }
+    ensures { λ _. ⌜ ((l : Lists) → l .state ≡ now (state .entry) → now (status .exit) ≡ tabulate count (λ i. statusOf (reported (largestIn (now (state .entry))) (stateIn l) (suc i))) ++ drop count (now (status .entry))) ⌝ }
 {
     let mut i = 0;
     while i < count {
@@ -127,7 +127,7 @@ pub fn worker_status(
     status: &mut [WorkerStatus],
 ) -> Report
     ensures refusal { λ r. ⌜ reportRefusal r ≡ plain (reportNumber (atEntry state keys chutes answers) (now (commands .entry)) (length (now (status .entry))) 64) ⌝ }
-    ensures left { λ r. ⌜ now (status .exit) ≡ reportLeft (reportOf r) (workerStatus (workersIn (now (state .entry))) (stateIn (atEntry state keys chutes answers))) (now (status .entry)) ⌝ }
+    ensures left { λ r. ⌜ now (status .exit) ≡ reportLeft (reportOf r) (workerStatus (largestIn (now (state .entry))) (stateIn (atEntry state keys chutes answers))) (now (status .entry)) ⌝ }
 {
     let report = tested(
         state,
@@ -187,7 +187,7 @@ fn status_as_bytes(
     bytes: &mut [u8],
 ) -> Report
     requires { ⌜ length (now bytes) ≡ 128 ⌝ }
-    ensures { λ r. ⌜ (reportOf r ≡ reportNumber (atEntry state keys chutes answers) (now (commands .entry)) 64 64) × (now (bytes .exit) ≡ reportLeft (reportOf r) (workerStatusBytes (workersIn (now (state .entry))) (stateIn (atEntry state keys chutes answers))) (now (bytes .entry))) ⌝ }
+    ensures { λ r. ⌜ (reportOf r ≡ reportNumber (atEntry state keys chutes answers) (now (commands .entry)) 64 64) × (now (bytes .exit) ≡ reportLeft (reportOf r) (workerStatusBytes (largestIn (now (state .entry))) (stateIn (atEntry state keys chutes answers))) (now (bytes .entry))) ⌝ }
 {
     let mut status = new_status();
     let report = worker_status(state, keys, chutes, answers, commands, &mut status);
@@ -205,7 +205,7 @@ pub fn worker_status_bytes(
     bytes: &mut [u8],
 ) -> Report
     ensures refusal { λ r. ⌜ reportRefusal r ≡ plain (reportNumber (atEntry state keys chutes answers) (now (commands .entry)) (length (now (bytes .entry))) 128) ⌝ }
-    ensures left { λ r. ⌜ now (bytes .exit) ≡ reportLeft (reportOf r) (workerStatusBytes (workersIn (now (state .entry))) (stateIn (atEntry state keys chutes answers))) (now (bytes .entry)) ⌝ }
+    ensures left { λ r. ⌜ now (bytes .exit) ≡ reportLeft (reportOf r) (workerStatusBytes (largestIn (now (state .entry))) (stateIn (atEntry state keys chutes answers))) (now (bytes .entry)) ⌝ }
 {
     if bytes.len() != STATUS_BYTES {
         return Report::WrongLength;

@@ -203,8 +203,8 @@ set-bytes ws fits =
 
 -- ---- a state
 
--- settings and counters are 11 bytes
-pub head-length : (c : Settings) (k : Counters) → length (headOf c k) ≡ 11
+-- chain, settings and counters are 14 bytes
+pub head-length : (c : Settings) (k : Counters) → length (headOf c k) ≡ 14
 unfolding bytesOf
 head-length c k = refl
 
@@ -221,11 +221,13 @@ module _ (o : Setup) (s : State) where
         head-joined o s,
         h .size,
         h .workers,
+        h .largest,
         h .capacity,
         h .count,
         i .loaded-is,
         i .used-is,
         i .free-is,
+        i .limit-is,
         i .graph-is .next-is,
         i .graph-is .seq-is,
         i .graph-is .executing-is,

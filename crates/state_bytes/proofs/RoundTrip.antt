@@ -18,29 +18,32 @@ use Rattle.model.specs.Proof.Chain.Invariant.{isLoader, isWorker}
 use Rattle.model.specs.Proof.Formed.{ThreadFormed, SetupFormed, Formed}
 use Rattle.command.specs.Read.{commandsIn}
 use Rattle.state_bytes.specs.Bytes.{bytesOf, numberAt, tabulate, fields, allBelow}
-use Rattle.state_bytes.specs.Layout.{Lists, flagByte, setBytes, threadBytes, stateBytes, listsOf, threadAt, setAt, setupIn, countIn, stateIn, stateLength, settingsFit, threadFits, threadFitsAt, setFits, nodeFitsAt, ascends, stateFits, lengthsFit, handedBackFit}
+use Rattle.state_bytes.specs.Layout.{lockCoupled, headFits, Lists, flagByte, setBytes, threadBytes, stateBytes, listsOf, threadAt, setAt, setupIn, countIn, stateIn, stateLength, settingsFit, threadFits, threadFitsAt, setFits, nodeFitsAt, ascends, stateFits, lengthsFit, handedBackFit}
 use Rattle.state_bytes.proofs.Bytes.{bytes-length, one-byte, Lies, total, lies-part, lies-first, lies-rest, lies-field, lies-number, lies-element, tabulate-at, tabulate-past, tabulate-length, below-or-past, each-all-below}
 use Rattle.state_bytes.proofs.StateParts.{wordsOf, members-of-words, tagOf, atOf, ownOf, foundOf, threadHead, thread-parts, thread-again, found-fits, flag-length, setParts, set-parts, set-lengths, set-length, thread-length, state-length, part-lies}
 
 -- What is read of a state's bytes and lists, field by field.
 pub record Laid (o : Setup) (s : State) (l : Lists) : Type 0 where
-  pub long : length (l .state) ≡ 4715
-  pub size : numberAt 1 0 (l .state) ≡ o .size
-  pub workers : numberAt 1 1 (l .state) ≡ o .workers
-  pub capacity : numberAt 2 2 (l .state) ≡ o .capacity
-  pub count : numberAt 2 4 (l .state) ≡ length (o .commands)
-  pub loaded : numberAt 2 6 (l .state) ≡ s .graph .loaded
-  pub used : numberAt 2 8 (l .state) ≡ s .service .store .used
-  pub free : numberAt 1 10 (l .state) ≡ s .graph .free
-  pub next : (n : ℕ) → n < 151 → getD (l .state) (11 + n) 0 ≡ s .graph .next n
-  pub seq : (n : ℕ) → n < 151 → numberAt 2 (162 + 2 * n) (l .state) ≡ s .graph .seq n
-  pub executing : (n : ℕ) → n < 151 → getD (l .state) (464 + n) 0 ≡ cond (s .graph .executing n) 1 0
-  pub locked : (n : ℕ) → n < 151 → getD (l .state) (615 + n) 0 ≡ cond (s .graph .locked n) 1 0
+  pub long : length (l .state) ≡ 4718
+  pub size : numberAt 1 1 (l .state) ≡ o .size
+  pub workers : numberAt 1 2 (l .state) ≡ o .workers
+  pub chain : numberAt 1 0 (l .state) ≡ lockCoupled
+  pub largest : numberAt 1 3 (l .state) ≡ o .largest
+  pub limit : numberAt 1 13 (l .state) ≡ s .service .limit
+  pub capacity : numberAt 2 4 (l .state) ≡ o .capacity
+  pub count : numberAt 2 6 (l .state) ≡ length (o .commands)
+  pub loaded : numberAt 2 8 (l .state) ≡ s .graph .loaded
+  pub used : numberAt 2 10 (l .state) ≡ s .service .store .used
+  pub free : numberAt 1 12 (l .state) ≡ s .graph .free
+  pub next : (n : ℕ) → n < 151 → getD (l .state) (14 + n) 0 ≡ s .graph .next n
+  pub seq : (n : ℕ) → n < 151 → numberAt 2 (165 + 2 * n) (l .state) ≡ s .graph .seq n
+  pub executing : (n : ℕ) → n < 151 → getD (l .state) (467 + n) 0 ≡ cond (s .graph .executing n) 1 0
+  pub locked : (n : ℕ) → n < 151 → getD (l .state) (618 + n) 0 ≡ cond (s .graph .locked n) 1 0
   pub waits : (n : ℕ) → n < 151 → setAt (l .state) n ≡ wordsOf (s .graph .waits n)
-  pub tag : (t : ℕ) → t < 65 → getD (l .state) (4390 + 5 * t) 0 ≡ tagOf (s .threads t)
-  pub at : (t : ℕ) → t < 65 → getD (l .state) (4391 + 5 * t) 0 ≡ atOf (s .threads t)
-  pub own : (t : ℕ) → t < 65 → getD (l .state) (4392 + 5 * t) 0 ≡ ownOf (s .threads t)
-  pub found : (t : ℕ) → t < 65 → numberAt 2 (4393 + 5 * t) (l .state) ≡ foundOf (s .threads t)
+  pub tag : (t : ℕ) → t < 65 → getD (l .state) (4393 + 5 * t) 0 ≡ tagOf (s .threads t)
+  pub at : (t : ℕ) → t < 65 → getD (l .state) (4394 + 5 * t) 0 ≡ atOf (s .threads t)
+  pub own : (t : ℕ) → t < 65 → getD (l .state) (4395 + 5 * t) 0 ≡ ownOf (s .threads t)
+  pub found : (t : ℕ) → t < 65 → numberAt 2 (4396 + 5 * t) (l .state) ≡ foundOf (s .threads t)
   pub answers : l .answers ≡ tabulate (length (o .commands)) (λ i. s .service .answers (suc i))
   pub keys : l .keys ≡ s .service .store .keys
   pub chutes : l .chutes ≡ s .service .store .chutes
@@ -49,6 +52,11 @@ pub record Laid (o : Setup) (s : State) (l : Lists) : Type 0 where
 flag-read : (b : Bool) → getD (flagByte b) 0 0 ≡ cond b 1 0
 flag-read false = refl
 flag-read true = refl
+
+-- the chain's number is one of a byte
+one-small : lockCoupled < 256
+unfolding lockCoupled
+one-small = omega arith
 
 module _ (o : Setup) (s : State) where
   -- one byte of a run of single bytes
@@ -60,9 +68,9 @@ module _ (o : Setup) (s : State) where
 
   -- one word of a set
   word-read : (n : ℕ) → n < 151 → (i : ℕ) (set : ℕ → Bool) → i < 3 → getD (setParts (s .graph .waits n)) i [] ≡ bytesOf 8 (wordOf 64 set)
-      → (at : ℕ) → at ≡ 766 + 24 * n + total (take i (8 ∷ 8 ∷ 8 ∷ [])) → numberAt 8 at (stateBytes o s) ≡ wordOf 64 set
+      → (at : ℕ) → at ≡ 769 + 24 * n + total (take i (8 ∷ 8 ∷ 8 ∷ [])) → numberAt 8 at (stateBytes o s) ≡ wordOf 64 set
   word-read n h i set k part at place =
-      let set-lies = lies-field 24 151 (λ m. setBytes (s .graph .waits m)) (λ m. set-length (s .graph .waits m)) (part-lies o s 11 (omega arith)) n h in
+      let set-lies = lies-field 24 151 (λ m. setBytes (s .graph .waits m)) (λ m. set-length (s .graph .waits m)) (part-lies o s 14 (omega arith)) n h in
       let word-lies = lies-part (setParts (s .graph .waits n)) (8 ∷ 8 ∷ 8 ∷ []) (set-lengths (s .graph .waits n)) (rw set-parts at set-lies) i k in
       lies-number 8 (wordOf 64 set) (word-of-is-word-of 64 set .fits) (rw (place, ← part) word-lies)
 
@@ -70,23 +78,23 @@ module _ (o : Setup) (s : State) where
   set-read : (n : ℕ) → n < 151 → setAt (stateBytes o s) n ≡ wordsOf (s .graph .waits n)
   unfolding setAt
   set-read n h =
-      let first = word-read n h 0 (s .graph .waits n) (omega arith) refl (766 + 24 * n) (omega arith) in
-      let second = word-read n h 1 (λ b. s .graph .waits n (64 + b)) (omega arith) refl (774 + 24 * n) (omega arith) in
-      let third = word-read n h 2 (λ b. s .graph .waits n (128 + b)) (omega arith) refl (782 + 24 * n) (omega arith) in
+      let first = word-read n h 0 (s .graph .waits n) (omega arith) refl (769 + 24 * n) (omega arith) in
+      let second = word-read n h 1 (λ b. s .graph .waits n (64 + b)) (omega arith) refl (777 + 24 * n) (omega arith) in
+      let third = word-read n h 2 (λ b. s .graph .waits n (128 + b)) (omega arith) refl (785 + 24 * n) (omega arith) in
       rw (first, second, third)
 
   -- a thread's parts
-  thread-lies : (t : ℕ) → t < 65 → Lies (threadHead (s .threads t) ++ bytesOf 2 (foundOf (s .threads t))) (4390 + 5 * t) (stateBytes o s)
+  thread-lies : (t : ℕ) → t < 65 → Lies (threadHead (s .threads t) ++ bytesOf 2 (foundOf (s .threads t))) (4393 + 5 * t) (stateBytes o s)
   thread-lies t h =
-      rw thread-parts at (lies-field 5 65 (λ i. threadBytes (s .threads i)) (λ i. thread-length (s .threads i)) (part-lies o s 12 (omega arith)) t h)
+      rw thread-parts at (lies-field 5 65 (λ i. threadBytes (s .threads i)) (λ i. thread-length (s .threads i)) (part-lies o s 15 (omega arith)) t h)
 
-  thread-read : (t : ℕ) → t < 65 → (i : ℕ) → i < 3 → (at : ℕ) → at ≡ 4390 + 5 * t + i → getD (stateBytes o s) at 0 ≡ getD (threadHead (s .threads t)) i 0
+  thread-read : (t : ℕ) → t < 65 → (i : ℕ) → i < 3 → (at : ℕ) → at ≡ 4393 + 5 * t + i → getD (stateBytes o s) at 0 ≡ getD (threadHead (s .threads t)) i 0
   thread-read t h i k at place =
       rw place (lies-element (lies-first (threadHead (s .threads t)) (bytesOf 2 (foundOf (s .threads t))) (thread-lies t h)) i k)
 
-  found-read : (t : ℕ) → t < 65 → foundOf (s .threads t) < 65536 → numberAt 2 (4393 + 5 * t) (stateBytes o s) ≡ foundOf (s .threads t)
+  found-read : (t : ℕ) → t < 65 → foundOf (s .threads t) < 65536 → numberAt 2 (4396 + 5 * t) (stateBytes o s) ≡ foundOf (s .threads t)
   found-read t h fits =
-      let place : 4393 + 5 * t ≡ 4390 + 5 * t + 3 = omega arith in
+      let place : 4396 + 5 * t ≡ 4393 + 5 * t + 3 = omega arith in
       rw place
       (lies-number 2 (foundOf (s .threads t)) fits (lies-rest (threadHead (s .threads t)) (bytesOf 2 (foundOf (s .threads t))) 3 refl (thread-lies t h)))
 
@@ -95,21 +103,24 @@ module _ (o : Setup) (s : State) where
       → l .answers ≡ tabulate (length (o .commands)) (λ i. s .service .answers (suc i)) → l .keys ≡ s .service .store .keys → l .chutes ≡ s .service .store .chutes → Laid o s l
   state-laid fo fs l state answers keys chutes = record {
     long = rw state (state-length o s);
-    size = rw state (lies-number 1 (o .size) (omega (arith, fo .size)) (part-lies o s 0 (omega arith)));
-    workers = rw state (lies-number 1 (o .workers) (omega (arith, fo .workers)) (part-lies o s 1 (omega arith)));
-    capacity = rw state (lies-number 2 (o .capacity) (omega (arith, fo .capacity)) (part-lies o s 2 (omega arith)));
-    count = rw state (lies-number 2 (length (o .commands)) (omega (arith, fo .count)) (part-lies o s 3 (omega arith)));
-    loaded = rw state (lies-number 2 (s .graph .loaded) (omega (arith, fo .count, fs .graph .loaded)) (part-lies o s 4 (omega arith)));
-    used = rw state (lies-number 2 (s .service .store .used) (omega (arith, fo .capacity, fs .service .store .used-fits)) (part-lies o s 5 (omega arith)));
-    free = rw state (lies-number 1 (s .graph .free) (omega (arith, fo .size, fs .graph .free)) (part-lies o s 6 (omega arith)));
-    next = λ n h. rw state (byte-read _ (λ m. bytes-length 1 (s .graph .next m)) 11 (part-lies o s 7 (omega arith)) n h ∙ ap (λ (r : List ℕ). getD r 0 0) (one-byte (s .graph .next n) (omega (arith, fo .size, fs .graph .next n .0))));
-    seq = λ n h. rw state (lies-number 2 (s .graph .seq n) (omega (arith, fo .count, fs .graph .seq n .0)) (lies-field 2 151 _ (λ m. bytes-length 2 (s .graph .seq m)) (part-lies o s 8 (omega arith)) n h));
-    executing = λ n h. rw state (byte-read _ (λ m. flag-length (s .graph .executing m)) 464 (part-lies o s 9 (omega arith)) n h ∙ flag-read (s .graph .executing n));
-    locked = λ n h. rw state (byte-read _ (λ m. flag-length (s .graph .locked m)) 615 (part-lies o s 10 (omega arith)) n h ∙ flag-read (s .graph .locked n));
+    size = rw state (lies-number 1 (o .size) (omega (arith, fo .size)) (part-lies o s 1 (omega arith)));
+    workers = rw state (lies-number 1 (o .workers) (omega (arith, fo .workers)) (part-lies o s 2 (omega arith)));
+    chain = rw state (lies-number 1 lockCoupled one-small (part-lies o s 0 (omega arith)));
+    largest = rw state (lies-number 1 (o .largest) (omega (arith, fo .largest)) (part-lies o s 3 (omega arith)));
+    limit = rw state (lies-number 1 (s .service .limit) (omega (arith, fs .service .limit .1)) (part-lies o s 9 (omega arith)));
+    capacity = rw state (lies-number 2 (o .capacity) (omega (arith, fo .capacity)) (part-lies o s 4 (omega arith)));
+    count = rw state (lies-number 2 (length (o .commands)) (omega (arith, fo .count)) (part-lies o s 5 (omega arith)));
+    loaded = rw state (lies-number 2 (s .graph .loaded) (omega (arith, fo .count, fs .graph .loaded)) (part-lies o s 6 (omega arith)));
+    used = rw state (lies-number 2 (s .service .store .used) (omega (arith, fo .capacity, fs .service .store .used-fits)) (part-lies o s 7 (omega arith)));
+    free = rw state (lies-number 1 (s .graph .free) (omega (arith, fo .size, fs .graph .free)) (part-lies o s 8 (omega arith)));
+    next = λ n h. rw state (byte-read _ (λ m. bytes-length 1 (s .graph .next m)) 14 (part-lies o s 10 (omega arith)) n h ∙ ap (λ (r : List ℕ). getD r 0 0) (one-byte (s .graph .next n) (omega (arith, fo .size, fs .graph .next n .0))));
+    seq = λ n h. rw state (lies-number 2 (s .graph .seq n) (omega (arith, fo .count, fs .graph .seq n .0)) (lies-field 2 151 _ (λ m. bytes-length 2 (s .graph .seq m)) (part-lies o s 11 (omega arith)) n h));
+    executing = λ n h. rw state (byte-read _ (λ m. flag-length (s .graph .executing m)) 467 (part-lies o s 12 (omega arith)) n h ∙ flag-read (s .graph .executing n));
+    locked = λ n h. rw state (byte-read _ (λ m. flag-length (s .graph .locked m)) 618 (part-lies o s 13 (omega arith)) n h ∙ flag-read (s .graph .locked n));
     waits = λ n h. rw state (set-read n h);
-    tag = λ t h. rw state (thread-read t h 0 (omega arith) (4390 + 5 * t) (omega arith));
-    at = λ t h. rw state (thread-read t h 1 (omega arith) (4391 + 5 * t) (omega arith));
-    own = λ t h. rw state (thread-read t h 2 (omega arith) (4392 + 5 * t) (omega arith));
+    tag = λ t h. rw state (thread-read t h 0 (omega arith) (4393 + 5 * t) (omega arith));
+    at = λ t h. rw state (thread-read t h 1 (omega arith) (4394 + 5 * t) (omega arith));
+    own = λ t h. rw state (thread-read t h 2 (omega arith) (4395 + 5 * t) (omega arith));
     found = λ t h. rw state (found-read t h (found-fits (o .size) (s .threads t) (fs .threads t .0)));
     answers = answers;
     keys = keys;
@@ -161,15 +172,16 @@ implied true b follows = follows refl
 implied false b follows = refl
 
 -- the tests of a handed-back state, each named
-pub state-tests : (l : Lists) → stateFits l ≡ (settingsFit (numberAt 1 0 (l .state)) (numberAt 1 1 (l .state)) (numberAt 2 2 (l .state)) (countIn (l .state))
-    && leb (numberAt 2 6 (l .state)) (countIn (l .state)) && leb (numberAt 1 10 (l .state)) (numberAt 1 0 (l .state))
-    && allBelow 151 (nodeFitsAt (l .state) (numberAt 1 0 (l .state)) (countIn (l .state))) && allBelow 65 (threadFitsAt (l .state) (numberAt 1 0 (l .state)))
-    && leb (numberAt 2 8 (l .state)) (numberAt 2 2 (l .state)) && ascends (numberAt 2 8 (l .state)) (l .keys))
+pub state-tests : (l : Lists) → stateFits l ≡ (headFits (numberAt 1 0 (l .state)) (numberAt 1 13 (l .state)) (numberAt 1 3 (l .state))
+    && settingsFit (numberAt 1 1 (l .state)) (numberAt 1 2 (l .state)) (numberAt 1 3 (l .state)) (numberAt 2 4 (l .state)) (countIn (l .state))
+    && leb (numberAt 2 8 (l .state)) (countIn (l .state)) && leb (numberAt 1 12 (l .state)) (numberAt 1 1 (l .state))
+    && allBelow 151 (nodeFitsAt (l .state) (numberAt 1 1 (l .state)) (countIn (l .state))) && allBelow 65 (threadFitsAt (l .state) (numberAt 1 1 (l .state)))
+    && leb (numberAt 2 10 (l .state)) (numberAt 2 4 (l .state)) && ascends (numberAt 2 10 (l .state)) (l .keys))
 unfolding stateFits
 state-tests l = refl
 
-pub node-tests : (b : List ℕ) (size count n : ℕ) → nodeFitsAt b size count n ≡ (leb (getD b (11 + n) 0) size && leb (numberAt 2 (162 + 2 * n) b) count
-    && leb (getD b (464 + n) 0) 1 && leb (getD b (615 + n) 0) 1 && setFits (setAt b n) size)
+pub node-tests : (b : List ℕ) (size count n : ℕ) → nodeFitsAt b size count n ≡ (leb (getD b (14 + n) 0) size && leb (numberAt 2 (165 + 2 * n) b) count
+    && leb (getD b (467 + n) 0) 1 && leb (getD b (618 + n) 0) 1 && setFits (setAt b n) size)
 unfolding nodeFitsAt
 node-tests b size count n = refl
 
@@ -178,11 +190,17 @@ unfolding setFits
 set-tests set size = refl
 
 -- settings in their ranges
-settings-fit : (size workers capacity count : ℕ) → (1 ≤ size) × (size ≤ 150) → (1 ≤ workers) × (workers ≤ 64) → (1 ≤ capacity) × (capacity ≤ 4096)
-    → count ≤ 4096 → settingsFit size workers capacity count ≡ true
+settings-fit : (size workers largest capacity count : ℕ) → (1 ≤ size) × (size ≤ 150) → (1 ≤ workers) × (workers ≤ 64) → (1 ≤ largest) × (largest ≤ 64)
+    → (1 ≤ capacity) × (capacity ≤ 4096) → count ≤ 4096 → settingsFit size workers largest capacity count ≡ true
 unfolding settingsFit
-settings-fit size workers capacity count a b c d =
-    both (both (both (both (both (both (le-leb _ _ (a .0)) (le-leb _ _ (a .1))) (le-leb _ _ (b .0))) (le-leb _ _ (b .1))) (le-leb _ _ (c .0))) (le-leb _ _ (c .1))) (le-leb _ _ d)
+settings-fit size workers largest capacity count a b e c d =
+    both (both (both (both (both (both (both (both (le-leb _ _ (a .0)) (le-leb _ _ (a .1))) (le-leb _ _ (b .0))) (le-leb _ _ (b .1))) (le-leb _ _ (e .0))) (le-leb _ _ (e .1)))
+    (le-leb _ _ (c .0))) (le-leb _ _ (c .1))) (le-leb _ _ d)
+
+-- the chain named, and a count in force
+head-fits : (limit largest : ℕ) → 1 ≤ limit → limit ≤ largest → headFits lockCoupled limit largest ≡ true
+unfolding headFits
+head-fits limit largest a b = both (both (eq-eqb lockCoupled lockCoupled refl) (le-leb _ _ a)) (le-leb _ _ b)
 
 -- a loader's state is one of the first two, a worker's any but the second
 loader-tag : (thread : Thread) → isLoader thread ≡ leb (tagOf thread) 1
@@ -262,12 +280,12 @@ module _ (o : Setup) (s : State) (fo : SetupFormed o) (fs : Formed o s) (l : Lis
       loaded = laid .loaded i;
     };
     threads = fun-ext (λ t. first-and-past 65 t _ Idle (s .threads t) (read-thread t) (fs .threads t .1)) i;
-    service = record { store = record { keys = laid .keys i; chutes = laid .chutes i; used = laid .used i }; answers = fun-ext read-answer i };
+    service = record { store = record { keys = laid .keys i; chutes = laid .chutes i; used = laid .used i }; answers = fun-ext read-answer i; limit = laid .limit i };
   }
 
   pub read-setup : (commands : List ℕ) → o .commands ≡ commandsIn commands → setupIn (l .state) commands ≡ o
   unfolding setupIn
-  read-setup commands e = λ i. record { size = laid .size i; workers = laid .workers i; capacity = laid .capacity i; commands = sym e i }
+  read-setup commands e = λ i. record { size = laid .size i; workers = laid .workers i; largest = laid .largest i; capacity = laid .capacity i; commands = sym e i }
 
   pub read-count : countIn (l .state) ≡ length (o .commands)
   unfolding countIn
@@ -300,14 +318,16 @@ module _ (o : Setup) (s : State) (fo : SetupFormed o) (fs : Formed o s) (l : Lis
       (thread-fits (o .size) t (s .threads t) (fs .threads t .0) (role-fits t (s .threads t) (fs .threads t .2) (fs .threads t .3)))
 
   -- and every test of the state passes
-  pub fit-state : 1 ≤ o .size → 1 ≤ o .workers → 1 ≤ o .capacity → ascends (s .service .store .used) (s .service .store .keys) ≡ true → stateFits l ≡ true
-  fit-state some-size some-workers some-capacity ascending =
-      rw (state-tests l, read-count, laid .size, laid .workers, laid .capacity, laid .loaded, laid .free, laid .used, laid .keys)
-      (both (both (both (both (both (both settings (le-leb _ _ (fs .graph .loaded))) (le-leb _ _ (fs .graph .free)))
+  pub fit-state : 1 ≤ o .size → 1 ≤ o .workers → s .service .limit ≤ o .largest → 1 ≤ o .capacity → ascends (s .service .store .used) (s .service .store .keys) ≡ true → stateFits l ≡ true
+  fit-state some-size some-workers within some-capacity ascending =
+      rw (state-tests l, read-count, laid .chain, laid .limit, laid .size, laid .workers, laid .largest, laid .capacity, laid .loaded, laid .free, laid .used, laid .keys)
+      (both (both (both (both (both (both (both (head-fits (s .service .limit) (o .largest) (fs .service .limit .0) within) settings) (le-leb _ _ (fs .graph .loaded))) (le-leb _ _ (fs .graph .free)))
       (each-all-below 151 _ node-fits)) (each-all-below 65 _ thread-fits-at)) (le-leb _ _ (fs .service .store .used-fits))) ascending)
     where
-      settings : settingsFit (o .size) (o .workers) (o .capacity) (length (o .commands)) ≡ true
-      settings = settings-fit (o .size) (o .workers) (o .capacity) (length (o .commands)) (some-size, fo .size) (some-workers, fo .workers) (some-capacity, fo .capacity) (fo .count)
+      settings : settingsFit (o .size) (o .workers) (o .largest) (o .capacity) (length (o .commands)) ≡ true
+      settings =
+          settings-fit (o .size) (o .workers) (o .largest) (o .capacity) (length (o .commands)) (some-size, fo .size) (some-workers, fo .workers)
+          (let low = fs .service .limit .0 in omega arith, fo .largest) (some-capacity, fo .capacity) (fo .count)
 
 -- ---- a formed state's own lists
 
@@ -326,5 +346,5 @@ module _ (o : Setup) (s : State) (fo : SetupFormed o) (fs : Formed o s) where
   pub lists-fit : (commands : List ℕ) → length commands ≡ 16 * length (o .commands) → handedBackFit (listsOf o s) commands ≡ true
   lists-fit = fit-handed-back o s fo fs (listsOf o s) (lists-laid o s fo fs)
 
-  pub state-fits : 1 ≤ o .size → 1 ≤ o .workers → 1 ≤ o .capacity → ascends (s .service .store .used) (s .service .store .keys) ≡ true → stateFits (listsOf o s) ≡ true
+  pub state-fits : 1 ≤ o .size → 1 ≤ o .workers → s .service .limit ≤ o .largest → 1 ≤ o .capacity → ascends (s .service .store .used) (s .service .store .keys) ≡ true → stateFits (listsOf o s) ≡ true
   state-fits = fit-state o s fo fs (listsOf o s) (lists-laid o s fo fs)

@@ -15,7 +15,7 @@ use Rattle.model.specs.Setup.{Setup}
 use Rattle.model.specs.Step.{State}
 use Rattle.model.specs.Proof.Formed.{ThreadFormed}
 use Rattle.state_bytes.specs.Bytes.{bytesOf, fields}
-use Rattle.state_bytes.specs.Layout.{flagByte, setBytes, threadBytes, headBytes, stateBytes, threadOf}
+use Rattle.state_bytes.specs.Layout.{lockCoupled, flagByte, setBytes, threadBytes, headBytes, stateBytes, threadOf}
 use Rattle.state_bytes.proofs.Bytes.{_▸_, bytes-length, Lies, HaveLengths, joined, total, lies-part, lies-whole, joined-length, fields-length, below-or-past}
 
 -- ---- a set as three words
@@ -156,22 +156,22 @@ thread-length thread = ap length (thread-parts thread) ∙ ap (λ (n : ℕ). suc
 
 -- ---- where each field lies
 
--- the lengths of the parts: seven numbers, then next indexes, sequence numbers, node states, locks, sets and threads
+-- the lengths of the parts: ten numbers, then next indexes, sequence numbers, node states, locks, sets and threads
 abbrev pub partLengths : List ℕ
-partLengths = 1 ∷ 1 ∷ 2 ∷ 2 ∷ 2 ∷ 2 ∷ 1 ∷ 151 ∷ 302 ∷ 151 ∷ 151 ∷ 3624 ∷ 325 ∷ []
+partLengths = 1 ∷ 1 ∷ 1 ∷ 1 ∷ 2 ∷ 2 ∷ 2 ∷ 2 ∷ 1 ∷ 1 ∷ 151 ∷ 302 ∷ 151 ∷ 151 ∷ 3624 ∷ 325 ∷ []
 
 module _ (o : Setup) (s : State) where
   -- the parts of a state's bytes, in order
   abbrev pub partsOf : List (List ℕ)
   partsOf =
-      bytesOf 1 (o .size) ∷ bytesOf 1 (o .workers) ∷ bytesOf 2 (o .capacity) ∷ bytesOf 2 (length (o .commands)) ∷ bytesOf 2 (s .graph .loaded)
-      ∷ bytesOf 2 (s .service .store .used) ∷ bytesOf 1 (s .graph .free) ∷ fields 151 (λ n. bytesOf 1 (s .graph .next n)) ∷ fields 151 (λ n. bytesOf 2 (s .graph .seq n))
+      bytesOf 1 lockCoupled ∷ bytesOf 1 (o .size) ∷ bytesOf 1 (o .workers) ∷ bytesOf 1 (o .largest) ∷ bytesOf 2 (o .capacity) ∷ bytesOf 2 (length (o .commands)) ∷ bytesOf 2 (s .graph .loaded)
+      ∷ bytesOf 2 (s .service .store .used) ∷ bytesOf 1 (s .graph .free) ∷ bytesOf 1 (s .service .limit) ∷ fields 151 (λ n. bytesOf 1 (s .graph .next n)) ∷ fields 151 (λ n. bytesOf 2 (s .graph .seq n))
       ∷ fields 151 (λ n. flagByte (s .graph .executing n)) ∷ fields 151 (λ n. flagByte (s .graph .locked n)) ∷ fields 151 (λ n. setBytes (s .graph .waits n))
       ∷ fields 65 (λ t. threadBytes (s .threads t)) ∷ []
 
   -- the definitions, unfolded once
-  pub head-joined : headBytes o s ≡ bytesOf 1 (o .size) ++ bytesOf 1 (o .workers) ++ bytesOf 2 (o .capacity) ++ bytesOf 2 (length (o .commands))
-      ++ bytesOf 2 (s .graph .loaded) ++ bytesOf 2 (s .service .store .used) ++ bytesOf 1 (s .graph .free)
+  pub head-joined : headBytes o s ≡ bytesOf 1 lockCoupled ++ bytesOf 1 (o .size) ++ bytesOf 1 (o .workers) ++ bytesOf 1 (o .largest) ++ bytesOf 2 (o .capacity) ++ bytesOf 2 (length (o .commands))
+      ++ bytesOf 2 (s .graph .loaded) ++ bytesOf 2 (s .service .store .used) ++ bytesOf 1 (s .graph .free) ++ bytesOf 1 (s .service .limit)
   unfolding headBytes
   head-joined = refl
 
@@ -188,16 +188,16 @@ module _ (o : Setup) (s : State) where
   -- each part is its elements' length times their count
   parts-lengths : HaveLengths partsOf partLengths
   parts-lengths =
-      bytes-length 1 (o .size) ▸ bytes-length 1 (o .workers) ▸ bytes-length 2 (o .capacity) ▸ bytes-length 2 (length (o .commands))
-      ▸ bytes-length 2 (s .graph .loaded) ▸ bytes-length 2 (s .service .store .used) ▸ bytes-length 1 (s .graph .free)
+      bytes-length 1 lockCoupled ▸ bytes-length 1 (o .size) ▸ bytes-length 1 (o .workers) ▸ bytes-length 1 (o .largest) ▸ bytes-length 2 (o .capacity) ▸ bytes-length 2 (length (o .commands))
+      ▸ bytes-length 2 (s .graph .loaded) ▸ bytes-length 2 (s .service .store .used) ▸ bytes-length 1 (s .graph .free) ▸ bytes-length 1 (s .service .limit)
       ▸ fields-length 1 151 _ (λ n. bytes-length 1 (s .graph .next n)) ▸ fields-length 2 151 _ (λ n. bytes-length 2 (s .graph .seq n))
       ▸ fields-length 1 151 _ (λ n. flag-length (s .graph .executing n)) ▸ fields-length 1 151 _ (λ n. flag-length (s .graph .locked n))
       ▸ fields-length 24 151 _ (λ n. set-length (s .graph .waits n)) ▸ fields-length 5 65 _ (λ t. thread-length (s .threads t)) ▸ tt
 
   -- together they are all the bytes
-  pub state-length : length (stateBytes o s) ≡ 4715
+  pub state-length : length (stateBytes o s) ≡ 4718
   state-length = ap length parts-joined ∙ joined-length partsOf partLengths parts-lengths
 
   -- part i, counted from 0, lies after the lengths of those before it
-  pub part-lies : (i : ℕ) → i < 13 → Lies (getD partsOf i []) (0 + total (take i partLengths)) (stateBytes o s)
+  pub part-lies : (i : ℕ) → i < 16 → Lies (getD partsOf i []) (0 + total (take i partLengths)) (stateBytes o s)
   part-lies i h = rw parts-joined (lies-part partsOf partLengths parts-lengths (lies-whole (joined partsOf)) i h)

@@ -38,7 +38,7 @@ abbrev pub atExit : Lent → Lent → Lent → Lent → Lists
 atExit state keys chutes answers = lists (state .exit .now) (keys .exit .now) (chutes .exit .now) (answers .exit .now)
 
 unfoldable pub stateLength : ℕ
-stateLength = 4715
+stateLength = 4718
 
 -- ---- a state as bytes
 
@@ -63,14 +63,18 @@ threadBytes (Written own) = 5 ∷ 0 ∷ own .0 ∷ bytesOf 2 0
 threadBytes (Walking at own) = 6 ∷ at .0 ∷ own .0 ∷ bytesOf 2 0
 threadBytes (Clearing at own) = 7 ∷ at .0 ∷ own .0 ∷ bytesOf 2 0
 
--- settings and counters: offsets 0 to 10
+-- the number of the lock-coupled chain, which the first byte names
+unfoldable pub lockCoupled : ℕ
+lockCoupled = 1
+
+-- chain, settings and counters: offsets 0 to 13
 unfoldable pub headBytes : Setup → State → List ℕ
 unfolding bytesOf
 headBytes o s =
-    bytesOf 1 (o .size) ++ bytesOf 1 (o .workers) ++ bytesOf 2 (o .capacity) ++ bytesOf 2 (length (o .commands))
-    ++ bytesOf 2 (s .graph .loaded) ++ bytesOf 2 (s .service .store .used) ++ bytesOf 1 (s .graph .free)
+    bytesOf 1 lockCoupled ++ bytesOf 1 (o .size) ++ bytesOf 1 (o .workers) ++ bytesOf 1 (o .largest) ++ bytesOf 2 (o .capacity) ++ bytesOf 2 (length (o .commands))
+    ++ bytesOf 2 (s .graph .loaded) ++ bytesOf 2 (s .service .store .used) ++ bytesOf 1 (s .graph .free) ++ bytesOf 1 (s .service .limit)
 
--- then next indexes at 11, sequence numbers at 162, node states at 464, locks at 615, sets at 766, threads at 4390
+-- then next indexes at 14, sequence numbers at 165, node states at 467, locks at 618, sets at 769, threads at 4393
 unfoldable pub stateBytes : Setup → State → List ℕ
 unfolding headBytes fields setBytes threadBytes
 stateBytes o s =
@@ -99,38 +103,39 @@ threadOf tag at own found =
 unfoldable pub threadAt : List ℕ → ℕ → Thread
 unfolding threadOf numberAt
 threadAt b t =
-    threadOf (getD b (4390 + 5 * t) 0) (getD b (4391 + 5 * t) 0) (getD b (4392 + 5 * t) 0) (numberAt 2 (4393 + 5 * t) b)
+    threadOf (getD b (4393 + 5 * t) 0) (getD b (4394 + 5 * t) 0) (getD b (4395 + 5 * t) 0) (numberAt 2 (4396 + 5 * t) b)
 
 -- the three words of node n's set
 unfoldable pub setAt : List ℕ → ℕ → List ℕ
 unfolding numberAt
-setAt b n = numberAt 8 (766 + 24 * n) b ∷ numberAt 8 (774 + 24 * n) b ∷ numberAt 8 (782 + 24 * n) b ∷ []
+setAt b n = numberAt 8 (769 + 24 * n) b ∷ numberAt 8 (777 + 24 * n) b ∷ numberAt 8 (785 + 24 * n) b ∷ []
 
 -- the settings of state bytes, with the commands handed over beside them
 unfoldable pub setupIn : List ℕ → List ℕ → Setup
 unfolding numberAt commandsIn
-setupIn b commands = record { size = numberAt 1 0 b; workers = numberAt 1 1 b; capacity = numberAt 2 2 b; commands = commandsIn commands }
+setupIn b commands = record { size = numberAt 1 1 b; workers = numberAt 1 2 b; largest = numberAt 1 3 b; capacity = numberAt 2 4 b; commands = commandsIn commands }
 
 unfoldable pub countIn : List ℕ → ℕ
 unfolding numberAt
-countIn b = numberAt 2 4 b
+countIn b = numberAt 2 6 b
 
 unfoldable pub stateIn : Lists → State
 unfolding numberAt setAt threadAt member
 stateIn l = record {
   graph = record {
-    next = λ n. cond (ltb n 151) (getD (l .state) (11 + n) 0) 0;
-    seq = λ n. cond (ltb n 151) (numberAt 2 (162 + 2 * n) (l .state)) 0;
-    executing = λ n. cond (ltb n 151) (eqb (getD (l .state) (464 + n) 0) 1) false;
-    locked = λ n. cond (ltb n 151) (eqb (getD (l .state) (615 + n) 0) 1) false;
+    next = λ n. cond (ltb n 151) (getD (l .state) (14 + n) 0) 0;
+    seq = λ n. cond (ltb n 151) (numberAt 2 (165 + 2 * n) (l .state)) 0;
+    executing = λ n. cond (ltb n 151) (eqb (getD (l .state) (467 + n) 0) 1) false;
+    locked = λ n. cond (ltb n 151) (eqb (getD (l .state) (618 + n) 0) 1) false;
     waits = λ n y. cond (ltb n 151) (member (setAt (l .state) n) y) false;
-    free = numberAt 1 10 (l .state);
-    loaded = numberAt 2 6 (l .state);
+    free = numberAt 1 12 (l .state);
+    loaded = numberAt 2 8 (l .state);
   };
   threads = λ t. cond (ltb t 65) (threadAt (l .state) t) Idle;
   service = record {
-    store = record { keys = l .keys; chutes = l .chutes; used = numberAt 2 8 (l .state) };
+    store = record { keys = l .keys; chutes = l .chutes; used = numberAt 2 10 (l .state) };
     answers = λ c. getD (0 ∷ l .answers) c 0;
+    limit = numberAt 1 13 (l .state);
   };
 }
 
@@ -149,8 +154,14 @@ handedBackFit l commands =
 -- ---- refusal 12: "a handed-back run whose own settings or command count break 1 to 5, whose record index or set passes the graph size,
 -- whose place passes the list, whose state is none of those named, or whose used store passes the room or doesn't ascend"
 
-unfoldable pub settingsFit : ℕ → ℕ → ℕ → ℕ → Bool
-settingsFit size workers capacity count = leb 1 size && leb size 150 && leb 1 workers && leb workers 64 && leb 1 capacity && leb capacity 4096 && leb count 4096
+unfoldable pub settingsFit : ℕ → ℕ → ℕ → ℕ → ℕ → Bool
+settingsFit size workers largest capacity count =
+    leb 1 size && leb size 150 && leb 1 workers && leb workers 64 && leb 1 largest && leb largest 64 && leb 1 capacity && leb capacity 4096 && leb count 4096
+
+-- the chain is the lock-coupled one; the worker count in force is from 1 to the largest
+unfoldable pub headFits : ℕ → ℕ → ℕ → Bool
+unfolding lockCoupled
+headFits chain limit largest = eqb chain lockCoupled && leb 1 limit && leb limit largest
 
 -- whether a thread's state is one of those named: thread 0 is idle or loading, a worker is anything but loading; its nodes are at most the
 -- graph size, and what its state has none of is 0
@@ -164,7 +175,7 @@ threadFits size t tag at own found =
 unfoldable pub threadFitsAt : List ℕ → ℕ → ℕ → Bool
 unfolding threadFits numberAt
 threadFitsAt b size t =
-    threadFits size t (getD b (4390 + 5 * t) 0) (getD b (4391 + 5 * t) 0) (getD b (4392 + 5 * t) 0) (numberAt 2 (4393 + 5 * t) b)
+    threadFits size t (getD b (4393 + 5 * t) 0) (getD b (4394 + 5 * t) 0) (getD b (4395 + 5 * t) 0) (numberAt 2 (4396 + 5 * t) b)
 
 -- the members of a set are at most the graph size
 unfoldable pub setFits : List ℕ → ℕ → Bool
@@ -175,7 +186,7 @@ setFits set size = allBelow 192 (λ y. not (member set y) || leb y size)
 unfoldable pub nodeFitsAt : List ℕ → ℕ → ℕ → ℕ → Bool
 unfolding numberAt setFits setAt
 nodeFitsAt b size count n =
-    leb (getD b (11 + n) 0) size && leb (numberAt 2 (162 + 2 * n) b) count && leb (getD b (464 + n) 0) 1 && leb (getD b (615 + n) 0) 1
+    leb (getD b (14 + n) 0) size && leb (numberAt 2 (165 + 2 * n) b) count && leb (getD b (467 + n) 0) 1 && leb (getD b (618 + n) 0) 1
     && setFits (setAt b n) size
 
 -- the keys of the first `used` places ascend
@@ -184,10 +195,10 @@ unfolding allBelow
 ascends used keys = allBelow used (λ i. leb used (i + 1) || ltb (getD keys i 0) (getD keys (i + 1) 0))
 
 unfoldable pub stateFits : Lists → Bool
-unfolding settingsFit nodeFitsAt threadFitsAt ascends allBelow numberAt countIn
+unfolding headFits settingsFit nodeFitsAt threadFitsAt ascends allBelow numberAt countIn
 stateFits l =
     let b : List ℕ = l .state in
-    let size : ℕ = numberAt 1 0 b in
-    settingsFit size (numberAt 1 1 b) (numberAt 2 2 b) (countIn b) && leb (numberAt 2 6 b) (countIn b) && leb (numberAt 1 10 b) size
+    let size : ℕ = numberAt 1 1 b in
+    headFits (numberAt 1 0 b) (numberAt 1 13 b) (numberAt 1 3 b) && settingsFit size (numberAt 1 2 b) (numberAt 1 3 b) (numberAt 2 4 b) (countIn b) && leb (numberAt 2 8 b) (countIn b) && leb (numberAt 1 12 b) size
     && allBelow 151 (nodeFitsAt b size (countIn b)) && allBelow 65 (threadFitsAt b size)
-    && leb (numberAt 2 8 b) (numberAt 2 2 b) && ascends (numberAt 2 8 b) (l .keys)
+    && leb (numberAt 2 10 b) (numberAt 2 4 b) && ascends (numberAt 2 10 b) (l .keys)

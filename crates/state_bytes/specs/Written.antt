@@ -17,6 +17,7 @@ use Rattle.state_bytes.specs.Layout.{stateBytes}
 pub record Sets (c : Settings) (o : Setup) : Type 0 where
   pub size : o .size ≡ c .size
   pub workers : o .workers ≡ c .workers
+  pub largest : o .largest ≡ c .largest
   pub capacity : o .capacity ≡ c .capacity
   pub count : length (o .commands) ≡ c .count
 
@@ -27,6 +28,7 @@ pub record Shown (k : Counters) (next seq : List ℕ) (executing locked : List B
   pub free-is : s .graph .free ≡ k .free .0
   pub loaded-is : s .graph .loaded ≡ k .loaded .0
   pub used-is : s .service .store .used ≡ k .used
+  pub limit-is : s .service .limit ≡ k .limit
 
 abbrev pub Lays : Settings → Counters → List ℕ → List ℕ → List Bool → List Bool → List (List ℕ) → List Thread → List ℕ → Type 0
 Lays c k next seq executing locked waits threads bytes =

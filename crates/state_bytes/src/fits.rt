@@ -7,12 +7,16 @@ ghost use lib.ListN.{length, getD};
 ghost use lib.Dec.{eqb, leb};
 ghost use Rattle.model.specs.Statement.{allWithin};
 ghost use Rattle.state_bytes.specs.Bytes.{allBelow};
-ghost use Rattle.state_bytes.specs.Layout.{Lists, stateLength, settingsFit, nodeFitsAt, threadFits, threadFitsAt, ascends, stateFits, handedBackFit};
+ghost use Rattle.state_bytes.specs.Layout.{Lists, stateLength, headFits, settingsFit, nodeFitsAt, threadFits, threadFitsAt, ascends, stateFits, handedBackFit};
 use crate::layout::CAPACITY;
+use crate::layout::CHAIN;
 use crate::layout::COUNT;
 use crate::layout::EXECUTING;
 use crate::layout::FREE;
+use crate::layout::LARGEST;
+use crate::layout::LIMIT;
 use crate::layout::LOADED;
+use crate::layout::LOCK_COUPLED;
 use crate::layout::LOCKED;
 use crate::layout::NEXT;
 use crate::layout::SEQ;
@@ -53,8 +57,8 @@ pub fn lengths_fit(
 }
 
 // Whether the settings and the number of commands are in range.
-fn settings_fit(size: u8, workers: u8, capacity: u16, count: u16) -> bool
-    ensures { λ r. ⌜ r ≡ settingsFit size workers capacity count ⌝ }
+fn settings_fit(size: u8, workers: u8, largest: u8, capacity: u16, count: u16) -> bool
+    ensures { λ r. ⌜ r ≡ settingsFit size workers largest capacity count ⌝ }
 {
     if size < 1 {
         return false;
@@ -66,6 +70,12 @@ fn settings_fit(size: u8, workers: u8, capacity: u16, count: u16) -> bool
         return false;
     }
     if workers > 64 {
+        return false;
+    }
+    if largest < 1 {
+        return false;
+    }
+    if largest > 64 {
         return false;
     }
     if capacity < 1 {
@@ -239,19 +249,38 @@ fn keys_ascend(keys: &[u64], used: u16) -> bool
     true
 }
 
-// Refusal 12: whether settings, counters, nodes, threads and store are in range.
+// Whether the chain is the lock-coupled one, and the worker count in force from 1 to the largest.
+fn head_fits(chain: u8, limit: u8, largest: u8) -> bool
+    ensures { λ r. ⌜ r ≡ headFits chain limit largest ⌝ }
+{
+    if chain != LOCK_COUPLED {
+        return false;
+    }
+    if limit < 1 {
+        return false;
+    }
+    limit <= largest
+}
+
+// Refusal 12: whether chain, settings, counters, nodes, threads and store are in range.
 pub fn state_fits(state: &[u8], keys: &[u64]) -> bool
     requires { ⌜ length (now state) ≡ stateLength ⌝ }
     ensures { λ r. ⌜ ((l : Lists) → l .state ≡ now (state .entry) → l .keys ≡ now (keys .entry) → stateFits l ≡ r) ⌝ }
 {
+    let chain = state[CHAIN];
     let size = state[SIZE];
     let workers = state[WORKERS];
+    let largest = state[LARGEST];
     let free = state[FREE];
+    let limit = state[LIMIT];
     let capacity = number_at(state, CAPACITY);
     let count = number_at(state, COUNT);
     let loaded = number_at(state, LOADED);
     let used = number_at(state, USED);
-    if !settings_fit(size, workers, capacity, count) {
+    if !head_fits(chain, limit, largest) {
+        return false;
+    }
+    if !settings_fit(size, workers, largest, capacity, count) {
         return false;
     }
     if loaded > count {

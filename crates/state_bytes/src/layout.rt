@@ -1,31 +1,40 @@
 // Where each field of the state bytes begins, docs/STATE-LAYOUT.md, and how many bytes there are.
-pub const STATE_LENGTH: usize = 4715;
+pub const STATE_LENGTH: usize = 4718;
 
-pub const SIZE: usize = 0;
+pub const CHAIN: usize = 0;
 
-pub const WORKERS: usize = 1;
+pub const SIZE: usize = 1;
 
-pub const CAPACITY: usize = 2;
+pub const WORKERS: usize = 2;
 
-pub const COUNT: usize = 4;
+pub const LARGEST: usize = 3;
 
-pub const LOADED: usize = 6;
+pub const CAPACITY: usize = 4;
 
-pub const USED: usize = 8;
+pub const COUNT: usize = 6;
 
-pub const FREE: usize = 10;
+pub const LOADED: usize = 8;
 
-pub const NEXT: usize = 11;
+pub const USED: usize = 10;
 
-pub const SEQ: usize = 162;
+pub const FREE: usize = 12;
 
-pub const EXECUTING: usize = 464;
+pub const LIMIT: usize = 13;
 
-pub const LOCKED: usize = 615;
+pub const NEXT: usize = 14;
 
-pub const WAITS: usize = 766;
+pub const SEQ: usize = 165;
 
-pub const THREADS: usize = 4390;
+pub const EXECUTING: usize = 467;
+
+pub const LOCKED: usize = 618;
+
+pub const WAITS: usize = 769;
+
+pub const THREADS: usize = 4393;
 
 // The largest number of a node.
 pub const LAST_NODE: u8 = 150;
+
+// The number of the lock-coupled chain.
+pub const LOCK_COUPLED: u8 = 1;

@@ -11,7 +11,9 @@ pub use layout::CAPACITY;
 pub use layout::COUNT;
 pub use layout::EXECUTING;
 pub use layout::FREE;
+pub use layout::LARGEST;
 pub use layout::LAST_NODE;
+pub use layout::LIMIT;
 pub use layout::LOADED;
 pub use layout::LOCKED;
 pub use layout::NEXT;
@@ -37,6 +39,7 @@ pub use write::write_state;
 pub struct Settings {
     pub size: u8,
     pub workers: u8,
+    pub largest: u8,
     pub capacity: u16,
     pub count: u16,
 }

@@ -12,10 +12,14 @@ ghost use Rattle.state_bytes.specs.Pasted.{pasted, headOf};
 ghost use Rattle.state_bytes.specs.Written.{Lays};
 use crate::Settings;
 use crate::layout::CAPACITY;
+use crate::layout::CHAIN;
 use crate::layout::COUNT;
 use crate::layout::EXECUTING;
 use crate::layout::FREE;
+use crate::layout::LARGEST;
+use crate::layout::LIMIT;
 use crate::layout::LOADED;
+use crate::layout::LOCK_COUPLED;
 use crate::layout::LOCKED;
 use crate::layout::NEXT;
 use crate::layout::SEQ;
@@ -153,18 +157,21 @@ fn write_threads(state: &mut [u8], at: usize, threads: [Thread; 65])
 
 // Writes the settings and counters.
 fn write_head(state: &mut [u8], settings: Settings, counters: Counters)
-    requires { ⌜ 11 ≤ length (now state) ⌝ }
+    requires { ⌜ 14 ≤ length (now state) ⌝ }
     ensures { λ _. ⌜ now (state .exit) ≡ pasted 0 (headOf settings counters) (now (state .entry)) ⌝ }
 {
     let free = counters.free;
     let loaded = counters.loaded;
+    put_number(state, CHAIN, 1, LOCK_COUPLED as u64);
     put_number(state, SIZE, 1, settings.size as u64);
     put_number(state, WORKERS, 1, settings.workers as u64);
+    put_number(state, LARGEST, 1, settings.largest as u64);
     put_number(state, CAPACITY, 2, settings.capacity as u64);
     put_number(state, COUNT, 2, settings.count as u64);
     put_number(state, LOADED, 2, loaded.0 as u64);
     put_number(state, USED, 2, counters.used as u64);
     put_number(state, FREE, 1, free.0 as u64);
+    put_number(state, LIMIT, 1, counters.limit as u64);
 }
 
 // Writes every field of a state.

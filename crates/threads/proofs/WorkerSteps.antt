@@ -7,7 +7,7 @@ use mathlib.Core.Logic.{_⊎_, inl, inr, ⊎-elim}
 use mathlib.Core.Option.{Option, none, some}
 use native.Mathlib.Omega.{arith}
 use lib.ListN.{length}
-use lib.Dec.{eqb}
+use lib.Dec.{eqb, leb}
 use borrow.Author.Tests.{ne-eqb}
 use denote.Enum.Declared.{tagOf}
 use types.Run.{OneOf, miss}
@@ -20,14 +20,15 @@ use Rattle.model.specs.Upd.{upd}
 use Rattle.model.specs.Setup.{Setup}
 use Rattle.model.specs.Graph.{setSeq, setFree, setNext, setExecuting, setLocked, setWaits}
 use Rattle.model.specs.Service.{foundFor, inOneStep}
-use Rattle.model.specs.Step.{State, node, step, workerStep, moveTo, serveTo, enter, commandOf, holding, lookedUp, return, clearing, stepOn}
+use Rattle.model.specs.Step.{State, node, isAllowed, idle, step, workerStep, moveTo, serveTo, enter, commandOf, holding, lookedUp, return, clearing, stepOn}
 use Rattle.model.specs.Proof.Tests.{true-false}
 use Rattle.model.specs.Proof.Upd.{upd-id, upd-same}
 use Rattle.store.specs.Lists.{storeOf}
 use Rattle.graph.specs.Arrays.{numbers, flags, Nodes, NodesWithin, Shows, Entered, Searches, Walks, ClearsOn}
 use Rattle.command.specs.Read.{commandsIn}
 use Rattle.graph.specs.Items.{keptAt, Kept}
-use Rattle.graph.specs.Memory.{Memory, memory, shown, Ready, Steps, Writes}
+use Rattle.graph.specs.Memory.{Memory, memory, shown, limitAfter, Ready, Steps, Writes}
+use Rattle.graph.proofs.Writing.{read-keeps-limit}
 use Rattle.threads.proofs.Readiness.{withArrays, withStore, graph-ready, store-ready}
 
 -- what a worker's step makes of memory and threads, by the worker's state
@@ -76,7 +77,7 @@ module _ (at own : Node) (free : ℕ) (next seq : List ℕ) (executing locked : 
       was t = Clearing at own
 
       s : State
-      s = shown (memory next seq executing locked waits [] [] [] (record { free = node free; loaded = record { 0 = 0 }; used = 0 })) was
+      s = shown (memory next seq executing locked waits [] [] [] (record { free = node free; loaded = record { 0 = 0 }; used = 0; limit = 0 })) was
 
       showing : Shows (s .graph) next seq executing locked waits
       showing = record { next-is = refl; seq-is = refl; executing-is = refl; locked-is = refl; waits-is = refl }
@@ -121,21 +122,25 @@ module _ (list kinds itemKeys itemChutes : List ℕ) (t : ℕ) (other : t ≡ 0 
       (λ o threads commands capacity is. rw (upd-id threads t thread (sym is), known))
 
   -- a worker that enters, in either of the states from which it does
-  enters : (thread entered r : Thread) (locked′ : List Bool) → ((o : Setup) (s : State) → workerStep o t thread s ≡ enter t entered s)
+  enters : (thread entered r : Thread) (locked′ : List Bool) → ((o : Setup) (threads : ℕ → Thread) → workerStep o t thread (shown m threads) ≡ enter t entered (shown m threads))
       → Entered thread entered (m .graph .locked) r locked′ → NodesWithin entered → Ready list kinds itemKeys itemChutes m thread
       → Steps list t thread m kinds itemKeys itemChutes r (withArrays (m .graph .next) (m .graph .seq) (m .graph .executing) locked′ (m .graph .waits) (m .graph .free) m)
   unfolding moveTo
   enters thread entered r locked′ does steps within ready =
       worker-steps kinds itemKeys itemChutes thread r (withArrays (m .graph .next) (m .graph .seq) (m .graph .executing) locked′ (m .graph .waits) (m .graph .free) m)
-      (λ o threads commands capacity is. does o (shown m threads) ∙ steps (shown m threads) t refl is)
+      (λ o threads commands capacity is. does o threads ∙ steps (shown m threads) t refl is)
       (graph-ready list kinds itemKeys itemChutes m thread ready r (m .graph .next) (m .graph .executing) locked′ (m .graph .waits) (ready .nodes)
       (⊎-elim (λ e. rw e (ready .within)) (λ e. rw e within) (entered-cases m thread entered r locked′ steps)))
 
-  -- an idle worker, and one that has written, try to enter as the model's do
-  pub idle-enters : (r : Thread) (locked′ : List Bool) → Entered Idle (Searching (node 0)) (m .graph .locked) r locked′ → Ready list kinds itemKeys itemChutes m Idle
+  -- an idle worker above the count in force waits; one within it, and one that has written, try to enter as the model's do
+  pub idle-waits : (thread : Thread) → thread ≡ Idle → leb t (m .service .limit) ≡ false → Ready list kinds itemKeys itemChutes m thread → Steps list t thread m kinds itemKeys itemChutes thread m
+  unfolding workerStep idle isAllowed
+  idle-waits thread known above = worker-steps kinds itemKeys itemChutes thread thread m (λ o threads commands capacity is. rw (upd-id threads t thread (sym is), known, above))
+
+  pub idle-enters : leb t (m .service .limit) ≡ true → (r : Thread) (locked′ : List Bool) → Entered Idle (Searching (node 0)) (m .graph .locked) r locked′ → Ready list kinds itemKeys itemChutes m Idle
       → Steps list t Idle m kinds itemKeys itemChutes r (withArrays (m .graph .next) (m .graph .seq) (m .graph .executing) locked′ (m .graph .waits) (m .graph .free) m)
-  unfolding workerStep
-  idle-enters r locked′ steps ready = enters Idle (Searching (node 0)) r locked′ (λ o s. refl) steps (omega arith) ready
+  unfolding workerStep idle isAllowed
+  idle-enters may r locked′ steps ready = enters Idle (Searching (node 0)) r locked′ (λ o threads. rw may) steps (omega arith) ready
 
   module _ (own : Node) where
     pub written-enters : (r : Thread) (locked′ : List Bool) → Entered (Written own) (Walking (node 0) own) (m .graph .locked) r locked′
@@ -143,7 +148,7 @@ module _ (list kinds itemKeys itemChutes : List ℕ) (t : ℕ) (other : t ≡ 0 
         → Steps list t (Written own) m kinds itemKeys itemChutes r (withArrays (m .graph .next) (m .graph .seq) (m .graph .executing) locked′ (m .graph .waits) (m .graph .free) m)
     unfolding workerStep
     written-enters r locked′ steps ready =
-        enters (Written own) (Walking (node 0) own) r locked′ (λ o s. refl) steps (omega arith, ready .within) ready
+        enters (Written own) (Walking (node 0) own) r locked′ (λ o threads. refl) steps (omega arith, ready .within) ready
 
     -- the command of a ready node is the one kept for it
     command-kept : (thread : Thread) (o : Setup) (threads : ℕ → Thread) → Ready list kinds itemKeys itemChutes m thread → own .0 ≤ 150 → o .commands ≡ commandsIn list
@@ -158,15 +163,15 @@ module _ (list kinds itemKeys itemChutes : List ℕ) (t : ℕ) (other : t ≡ 0 
           (writes : Writes item place found (m .service .keys) (m .service .chutes) (m .service .answers) (m .service .used) keys′ chutes′ answers′ used′)
           (count : length answers′ ≡ length (m .service .answers)) where
         abbrev written : Memory
-        written = withStore keys′ chutes′ answers′ used′ m
+        written = withStore keys′ chutes′ answers′ used′ (limitAfter item (m .service .limit)) m
 
         writes-as-model : (o : Setup) (threads : ℕ → Thread) → o .commands ≡ commandsIn list → o .capacity ≡ length (m .service .keys)
             → lookedUp o t (own .0) found (shown m threads) ≡ shown written (upd threads t (Written own))
         unfolding lookedUp serveTo
-        writes-as-model o threads commands capacity = rw (command-kept thread o threads ready small commands, ← item-is, ← place-is, writes o capacity)
+        writes-as-model o threads commands capacity = rw (command-kept thread o threads ready small commands, ← item-is, ← place-is, writes o (m .service .limit) capacity)
 
         written-ready : Ready list kinds itemKeys itemChutes written (Written own)
-        written-ready = store-ready list kinds itemKeys itemChutes m thread ready (Written own) keys′ chutes′ answers′ used′ count small
+        written-ready = store-ready list kinds itemKeys itemChutes m thread ready (Written own) keys′ chutes′ answers′ used′ _ count small
 
       -- a holding worker finds what the model's lookup of that command finds, and writes at once what is written in one step
       module _ (ready : Ready list kinds itemKeys itemChutes m (Holding own)) (found : ℕ)
@@ -176,42 +181,43 @@ module _ (list kinds itemKeys itemChutes : List ℕ) (t : ℕ) (other : t ≡ 0 
         holding-looks-up two =
             worker-steps kinds itemKeys itemChutes (Holding own) (LookedUp own found) m
             (λ o threads commands capacity is. rw (command-kept (Holding own) o threads ready (ready .within) commands, ← item-is, two, ← found-is))
-            (store-ready list kinds itemKeys itemChutes m (Holding own) ready (LookedUp own found) (m .service .keys) (m .service .chutes) (m .service .answers) (m .service .used) refl (ready .within))
+            (store-ready list kinds itemKeys itemChutes m (Holding own) ready (LookedUp own found) (m .service .keys) (m .service .chutes) (m .service .answers) (m .service .used) (m .service .limit) refl (ready .within))
 
         -- the store stays, whatever is written in one step
         pub holding-writes : inOneStep item ≡ true → (place : ℕ) → place ≡ numbers (m .graph .seq) (own .0) → (answers′ : List ℕ)
             → Writes item place found (m .service .keys) (m .service .chutes) (m .service .answers) (m .service .used) (m .service .keys) (m .service .chutes) answers′ (m .service .used)
             → length answers′ ≡ length (m .service .answers)
-            → Steps list t (Holding own) m kinds itemKeys itemChutes (Written own) (withStore (m .service .keys) (m .service .chutes) answers′ (m .service .used) m)
+            → Steps list t (Holding own) m kinds itemKeys itemChutes (Written own) (withStore (m .service .keys) (m .service .chutes) answers′ (m .service .used) (m .service .limit) m)
         unfolding workerStep holding
         holding-writes one place place-is answers′ writes count =
-            worker-steps kinds itemKeys itemChutes (Holding own) (Written own) (withStore (m .service .keys) (m .service .chutes) answers′ (m .service .used) m)
+            let kept = read-keeps-limit item one (m .service .limit) in
+            worker-steps kinds itemKeys itemChutes (Holding own) (Written own) (withStore (m .service .keys) (m .service .chutes) answers′ (m .service .used) (m .service .limit) m)
             (λ o threads commands capacity is.
             let same = command-kept (Holding own) o threads ready (ready .within) commands ∙ sym item-is in
             rw (ap inOneStep same ∙ one, ap (λ (c : Option Command). foundFor c (shown m threads .service .store)) same ∙ sym found-is)
-            (writes-as-model (Holding own) ready (ready .within) place place-is found _ _ answers′ _ writes count o threads commands capacity))
-            (written-ready (Holding own) ready (ready .within) place place-is found _ _ answers′ _ writes count)
+            (rw kept at (writes-as-model (Holding own) ready (ready .within) place place-is found _ _ answers′ _ writes count o threads commands capacity)))
+            (store-ready list kinds itemKeys itemChutes m (Holding own) ready (Written own) _ _ answers′ _ _ count (ready .within))
 
       -- and one that has looked up writes
       pub looked-up-writes : (place : ℕ) → place ≡ numbers (m .graph .seq) (own .0) → (found : ℕ) (keys′ chutes′ answers′ : List ℕ) (used′ : ℕ)
           → Writes item place found (m .service .keys) (m .service .chutes) (m .service .answers) (m .service .used) keys′ chutes′ answers′ used′
           → length answers′ ≡ length (m .service .answers) → Ready list kinds itemKeys itemChutes m (LookedUp own found)
-          → Steps list t (LookedUp own found) m kinds itemKeys itemChutes (Written own) (withStore keys′ chutes′ answers′ used′ m)
+          → Steps list t (LookedUp own found) m kinds itemKeys itemChutes (Written own) (withStore keys′ chutes′ answers′ used′ (limitAfter item (m .service .limit)) m)
       unfolding workerStep
       looked-up-writes place place-is found keys′ chutes′ answers′ used′ writes count ready =
-          worker-steps kinds itemKeys itemChutes (LookedUp own found) (Written own) (withStore keys′ chutes′ answers′ used′ m)
+          worker-steps kinds itemKeys itemChutes (LookedUp own found) (Written own) (withStore keys′ chutes′ answers′ used′ (limitAfter item (m .service .limit)) m)
           (λ o threads commands capacity is. writes-as-model (LookedUp own found) ready (ready .within) place place-is found keys′ chutes′ answers′ used′ writes count o threads commands capacity)
           (written-ready (LookedUp own found) ready (ready .within) place place-is found keys′ chutes′ answers′ used′ writes count)
 
   module _ (at : Node) where
     -- searching, walking and clearing are the model's: the functions along the chain ensure it of every state that the arrays show
-    pub searching-steps : (r : Thread) (executing′ locked′ : List Bool) → Searches at (m .graph .next) (m .graph .executing) (m .graph .locked) (m .graph .waits) r executing′ locked′
+    pub searching-steps : (allowed : Bool) → leb t (m .service .limit) ≡ allowed → (r : Thread) (executing′ locked′ : List Bool) → Searches allowed at (m .graph .next) (m .graph .executing) (m .graph .locked) (m .graph .waits) r executing′ locked′
         → NodesWithin r → Ready list kinds itemKeys itemChutes m (Searching at)
         → Steps list t (Searching at) m kinds itemKeys itemChutes r (withArrays (m .graph .next) (m .graph .seq) executing′ locked′ (m .graph .waits) (m .graph .free) m)
-    unfolding workerStep moveTo
-    searching-steps r executing′ locked′ steps within ready =
+    unfolding workerStep moveTo isAllowed
+    searching-steps allowed al r executing′ locked′ steps within ready =
         worker-steps kinds itemKeys itemChutes (Searching at) r (withArrays (m .graph .next) (m .graph .seq) executing′ locked′ (m .graph .waits) (m .graph .free) m)
-        (λ o threads commands capacity is. steps (shown m threads) t refl refl refl refl is)
+        (λ o threads commands capacity is. steps (shown m threads) t al refl refl refl refl is)
         (graph-ready list kinds itemKeys itemChutes m (Searching at) ready r (m .graph .next) executing′ locked′ (m .graph .waits) (ready .nodes) within)
 
     module _ (own : Node) where

@@ -1,4 +1,6 @@
 // A thread's step: which kind of step on the graph's arrays its state asks for. Together they are the model's `step`.
+ghost use mathlib.Core.Path.{_≡_};
+ghost use lib.Dec.{leb};
 ghost use Rattle.graph.specs.Memory.{Ready, Steps, memory};
 
 mod loader_thread;
@@ -13,6 +15,13 @@ use worker_thread::worker_step;
 pub struct Stepped {
     pub thread: Thread,
     pub counters: Counters,
+}
+
+// Whether thread t is within the worker count in force.
+fn is_allowed(t: u8, limit: usize) -> bool
+    ensures { λ r. ⌜ r ≡ leb t limit ⌝ }
+{
+    t as usize <= limit
 }
 
 // One step of thread t, which is in state `thread`.
@@ -55,6 +64,7 @@ pub fn step(
             counters,
         );
     }
+    let allowed = is_allowed(t, counters.limit);
     worker_step(
         next,
         seq,
@@ -67,6 +77,7 @@ pub fn step(
         keys,
         chutes,
         answers,
+        allowed,
         thread,
         counters,
     )

@@ -35,6 +35,7 @@ fn load_next(
     let free = counters.free;
     let loaded = counters.loaded;
     let used = counters.used;
+    let limit = counters.limit;
     if answers.len() <= loaded.0 || free.0 == 0 || locked[0] {
         return Stepped {
             thread: Thread::Idle,
@@ -47,7 +48,12 @@ fn load_next(
     let own = free;
     let free = load(next, seq, locked, own, loaded);
     let thread = Thread::Loading { at: Node(0), own };
-    let counters = Counters { free, loaded, used };
+    let counters = Counters {
+        free,
+        loaded,
+        used,
+        limit,
+    };
     Stepped { thread, counters }
 }
 

@@ -2,6 +2,7 @@
 ghost use mathlib.Core.Path.{_≡_};
 ghost use mathlib.Core.List.{List};
 ghost use Prim.Native.Nat.{ℕ, _≤_};
+ghost use lib.Dec.{leb};
 ghost use Rattle.command.specs.declared.Command.{Command};
 ghost use Rattle.graph.specs.Arrays.{numbers, Nodes, NodesWithin, ClearsOn};
 ghost use Rattle.graph.specs.Items.{Kept};
@@ -15,6 +16,7 @@ use graph::enter;
 use graph::forget;
 use graph::in_one_step;
 use graph::item_of;
+use graph::limit_after;
 use graph::look_up;
 use graph::search;
 use graph::walk;
@@ -56,7 +58,8 @@ fn clear_own(
     cleared
 }
 
-// One step of a worker, which is in state `thread`.
+// One step of a worker, which is in state `thread`. It is allowed to begin a search and to take a node where the worker count in
+// force is at least its number.
 pub fn worker_step(
     next: &mut [u8; 151],
     seq: &mut [u16; 151],
@@ -69,11 +72,12 @@ pub fn worker_step(
     keys: &mut [u64],
     chutes: &mut [u16],
     answers: &mut [u16],
+    allowed: bool,
     thread: Thread,
     counters: Counters,
 ) -> Stepped
     requires { ⌜ WorkerReady (now next) (now seq) (now kinds) (now «item_keys») (now «item_chutes») (now answers) (counters .free .0) thread ⌝ }
-    ensures { λ r. ⌜ ((list : List ℕ) (t : ℕ) → (t ≡ 0 → ⊥)
+    ensures { λ r. ⌜ ((list : List ℕ) (t : ℕ) → (t ≡ 0 → ⊥) → leb t (counters .limit) ≡ allowed
         → Ready list (now (kinds .entry)) (now («item_keys» .entry)) (now («item_chutes» .entry))
         (memory (now (next .entry)) (now (seq .entry)) (now (executing .entry)) (now (locked .entry)) (now (waits .entry)) (now (keys .entry)) (now (chutes .entry)) (now (answers .entry)) counters) thread
         → Steps list t thread
@@ -84,10 +88,16 @@ pub fn worker_step(
     let free = counters.free;
     let loaded = counters.loaded;
     let used = counters.used;
+    let limit = counters.limit;
     let thread = match thread {
-        Thread::Idle => enter(locked, thread, Thread::Searching { at: Node(0) }),
+        Thread::Idle => {
+            if !allowed {
+                return Stepped { thread, counters };
+            }
+            enter(locked, thread, Thread::Searching { at: Node(0) })
+        }
         Thread::Loading { at: _, own: _ } => thread,
-        Thread::Searching { at } => search(next, executing, locked, waits, at),
+        Thread::Searching { at } => search(next, executing, locked, waits, at, allowed),
         Thread::Holding { own } => {
             let item = item_of(kinds, item_keys, item_chutes, own);
             let found = look_up(item, keys, chutes, used);
@@ -103,8 +113,14 @@ pub fn worker_step(
             let item = item_of(kinds, item_keys, item_chutes, own);
             let place = place_of(seq[own.0 as usize]);
             let used = write(item, place, found, keys, chutes, answers, used);
+            let limit = limit_after(item, limit);
             let thread = Thread::Written { own };
-            let counters = Counters { free, loaded, used };
+            let counters = Counters {
+                free,
+                loaded,
+                used,
+                limit,
+            };
             return Stepped { thread, counters };
         }
         Thread::Written { own } => enter(locked, thread, Thread::Walking { at: Node(0), own }),
@@ -113,7 +129,12 @@ pub fn worker_step(
             let cleared = clear_own(next, seq, executing, locked, waits, kinds, at, own, free);
             let thread = cleared.thread;
             let free = cleared.free;
-            let counters = Counters { free, loaded, used };
+            let counters = Counters {
+                free,
+                loaded,
+                used,
+                limit,
+            };
             return Stepped { thread, counters };
         }
     };

@@ -4,9 +4,8 @@ use mathlib.Core.Bool.{cond}
 use borrow.Author.Needs.{needs}
 use borrow.Author.Tests.{eq-eqb, ne-eqb, not-true, not-false}
 use lib.ListN.{length}
-use Rattle.s10.specs.Refusal.{plain}
 use Rattle.s10.specs.Outcome as Identifier
-use Rattle.command.specs.Read.{accepted, refused, chuteOf, withChute}
+use Rattle.command.specs.Read.{accepted, refused, chuteRefusal, chuteOf, withChute}
 use Rattle.command.proofs.with_chute.Statement.{statement}
 use Rattle.command.proofs.with_chute.Tie as tie
 
@@ -17,10 +16,16 @@ entry c = c .before .before .before .before .before
 sub-if1 : tie.Need-sub-if1
 sub-if1 c = search needs
 
+chute-reason-requires : tie.Need-chute-reason-requires
+chute-reason-requires c κs = search needs
+
+chute-reason-requires-2 : tie.Need-chute-reason-requires-2
+chute-reason-requires-2 c κs = search needs
+
 -- a chute of another length
 returns : tie.Need-returns
 unfolding withChute
-returns c = rw (ne-eqb (length (c .before .before .args .bytes .now)) 2 (c .if1 .taken))
+returns c = rw (ne-eqb (length (c .before .before .before .args .bytes .now)) 2 (c .before .if1 .taken), c .chute-reason .ensures)
 
 shared-slice-read-number-of : tie.Need-shared-slice-read-number-of
 shared-slice-read-number-of c = search needs
@@ -39,7 +44,7 @@ tested : (c : tie.After-takes) →
     let n = c .before in
     let a = entry n .args in
     withChute (a .kind) (Identifier.accepted (a .key)) (a .bytes .now)
-    ≡ cond (c .takes .result) (accepted (record { kind = a .kind; key = a .key; chute = n .number-of .result })) (refused (plain 10))
+    ≡ cond (c .takes .result) (accepted (record { kind = a .kind; key = a .key; chute = n .number-of .result })) (refused (chuteRefusal (a .kind)))
 unfolding withChute chuteOf
 tested c =
     let n = c .before in
@@ -47,7 +52,7 @@ tested c =
     rw (eq-eqb (length (e .before .before .args .bytes .now)) 2 (e .if1 .left), ← n .number-of .ensures, ← c .takes .ensures)
 
 returns-2 : tie.Need-returns-2
-returns-2 c = rw (tested (c .before), not-true (c .before .takes .result) (c .if2 .taken))
+returns-2 c = rw (tested (c .before .before), not-true (c .before .before .takes .result) (c .before .if2 .taken), c .chute-reason2 .ensures)
 
 returns-3 : tie.Need-returns-3
 returns-3 c = rw (tested (c .before), not-false (c .before .takes .result) (c .if2 .left))
@@ -57,10 +62,12 @@ with-chute-spec =
     tie.close
     (tie.spec
     sub-if1
+    chute-reason-requires
     returns
     shared-slice-read-number-of
     shared-slice-read-number-of-2
     number-of-requires
     takes-requires
+    chute-reason-requires-2
     returns-2
     returns-3)

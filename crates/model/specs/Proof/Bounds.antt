@@ -8,7 +8,7 @@ use mathlib.Core.Option.{some}
 use lib.ListN.{length, getElem?, getD, replicate}
 use lib.Dec.{eqb, leb}
 use Rattle.command.specs.declared.Kind.{Kind}
-use Rattle.command.specs.declared.Kind.the-variants.{Insert, Delete, Read, Update}
+use Rattle.command.specs.declared.Kind.the-variants.{Insert, Delete, Read, Update, Workers}
 use Rattle.command.specs.declared.Command.{Command}
 use Rattle.command.proofs.Laws.{chute-that-fits}
 use Rattle.model.specs.Serial.{Entry, Served, present, chuteAt, serveKind, serve, answersAfter, serialAnswers}
@@ -68,6 +68,7 @@ answer-fits Insert capacity key chute es h =
 answer-fits Delete capacity key chute es h = cond-cases (λ (s : Served). s .answer < 65536) (present key es) (λ _. omega arith) (λ _. omega arith)
 answer-fits Read capacity key chute es h = cond-cases (λ (s : Served). s .answer < 65536) (present key es) (λ _. chuteAt-fits key es h) (λ _. omega arith)
 answer-fits Update capacity key chute es h = cond-cases (λ (s : Served). s .answer < 65536) (present key es) (λ _. omega arith) (λ _. omega arith)
+answer-fits Workers capacity key chute es h = omega arith
 
 answers-fit : (capacity : ℕ) (cs : List Command) (es : List Entry) (n : ℕ) → ChutesFit es
     → ((j : ℕ) (c : Command) → getElem? cs j ≡ some c → c .chute < 65536) → getD (answersAfter capacity cs es) n 0 < 65536
@@ -86,7 +87,7 @@ serial-fits o acc (suc n) =
 
 -- ---- what a schedule reaches
 
-module _ (o : Setup) (acc : Accepted o) (ts : List ℕ) (within : allWithin (o .workers) ts ≡ true) where
+module _ (o : Setup) (acc : Accepted o) (ts : List ℕ) (within : allWithin (o .largest) ts ≡ true) where
   -- what holds of 0 and of each command's key holds of each key of the store
   pub reached-keys : (P : ℕ → Type 0) → P 0 → ((k : ℕ) (c : Command) → commandAt (o .commands) k ≡ some c → P (c .key)) → (i : ℕ)
       → P (getD (steps o ts (opened o) .service .store .keys) i 0)

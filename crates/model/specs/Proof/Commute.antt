@@ -4,16 +4,18 @@
 use Prim.Native.Nat.{ℕ}
 use mathlib.Core.Path.{_≡_, refl, sym, _∙_, ap}
 use mathlib.Core.Logic.{_⊎_, inl, inr, ⊎-elim}
-use mathlib.Core.Bool.{Bool, true, false, cond, not, _&&_, true≢false, false≢true, and-eq-true-iff}
+use mathlib.Core.Bool.{Bool, true, false, cond, not, _&&_, _||_, true≢false, false≢true, and-eq-true-iff}
 use mathlib.Core.List.{List, [], _∷_}
 use lib.ListN.{length}
 use lib.Dec.{eqb, leb, ltb}
-use borrow.Author.Tests.{eqb-true, ne-eqb}
+use borrow.Author.Tests.{eqb-true, ne-eqb, not-false}
 use Rattle.command.specs.declared.Kind.{Kind}
-use Rattle.command.specs.declared.Kind.the-variants.{Insert, Delete, Read, Update}
+use Rattle.command.specs.declared.Kind.the-variants.{Insert, Delete, Read, Update, Workers}
 use Rattle.command.specs.declared.Command.{Command}
-use Rattle.command.specs.Dependent.{areDependent, isInsertOrDelete, isRead}
+use Rattle.command.specs.Dependent.{areDependent, hasItem, isInsertOrDelete, isRead}
+use Rattle.command.specs.Count.{countAfter}
 use Rattle.command.proofs.Laws.{dependence-is-symmetric}
+use Rattle.command.proofs.Count.{item-keeps-count}
 use Rattle.model.specs.Serial.{Entry, present, chuteAt, putIn, takeOut, setChute, Served, served, serveKind, serve}
 use Rattle.model.specs.Proof.Tests.{true-false, neither, not-both, passes-or-fails, eqb-cases, cond-cases}
 use Rattle.model.specs.Proof.Serial.{length-setChute, serve-keeps}
@@ -28,27 +30,29 @@ replyOf capacity c es = serve capacity c es .answer
 
 -- ---- which commands are independent
 
--- of two independent commands one is no insert and no delete
-one-is-neither : (a b : Command) → areDependent a b ≡ false → (isInsertOrDelete (a .kind) ≡ false) ⊎ (isInsertOrDelete (b .kind) ≡ false)
+-- independent commands pass every test of the definition
+independent : (a b : Command) → areDependent a b ≡ false
+    → (hasItem (a .kind) && hasItem (b .kind) ≡ true) × (isInsertOrDelete (a .kind) && isInsertOrDelete (b .kind) ≡ false)
+    × (eqb (a .key) (b .key) && not (isRead (a .kind) && isRead (b .kind)) ≡ false)
 unfolding areDependent
-one-is-neither a b e = not-both (isInsertOrDelete (a .kind)) (isInsertOrDelete (b .kind)) (neither _ _ e .0)
+independent a b e =
+    let k = neither (not (hasItem (a .kind) && hasItem (b .kind)) || (isInsertOrDelete (a .kind) && isInsertOrDelete (b .kind))) _ e in
+    let j = neither (not (hasItem (a .kind) && hasItem (b .kind))) _ (k .0) in
+    (not-false _ (j .0), j .1, k .1)
+
+-- one of the two is no insert and no delete
+one-is-neither : (a b : Command) → areDependent a b ≡ false → (isInsertOrDelete (a .kind) ≡ false) ⊎ (isInsertOrDelete (b .kind) ≡ false)
+one-is-neither a b e = not-both (isInsertOrDelete (a .kind)) (isInsertOrDelete (b .kind)) (independent a b e .1)
 
 -- and their keys differ, or both are reads
 other-key : (a b : Command) → areDependent a b ≡ false → (a .key ≡ b .key → ⊥) ⊎ ((isRead (a .kind) ≡ true) × (isRead (b .kind) ≡ true))
-unfolding areDependent
 other-key a b e = ⊎-elim (λ p. inr (reads (p .1))) (λ p. inl (p .0)) (eqb-cases (a .key) (b .key))
   where
     both : Bool
     both = isRead (a .kind) && isRead (b .kind)
 
-    not-false : (t : Bool) → not t ≡ false → t ≡ true
-    not-false true h = refl
-    not-false false h = absurd (true≢false h)
-
     reads : eqb (a .key) (b .key) ≡ true → (isRead (a .kind) ≡ true) × (isRead (b .kind) ≡ true)
-    reads k =
-        let f = neither (isInsertOrDelete (a .kind) && isInsertOrDelete (b .kind)) (eqb (a .key) (b .key) && not both) e .1 in
-        and-eq-true-iff (isRead (a .kind)) (isRead (b .kind)) .0 (not-false both (rw k at f))
+    reads k = let f = independent a b e .2 in and-eq-true-iff (isRead (a .kind)) (isRead (b .kind)) .0 (not-false both (rw k at f))
 
 -- ---- a command and another key
 
@@ -107,6 +111,7 @@ read-of Insert capacity key chute r es = absurd (false≢true r)
 read-of Delete capacity key chute r es = absurd (false≢true r)
 read-of Read capacity key chute r es = cond-cases (λ (s : Served). s .entries ≡ es) (present key es) (λ _. refl) (λ _. refl)
 read-of Update capacity key chute r es = absurd (false≢true r)
+read-of Workers capacity key chute r es = absurd (false≢true r)
 
 -- an absent key gets no chute
 set-absent : (key chute : ℕ) (es : List Entry) → present key es ≡ false → setChute key chute es ≡ es
@@ -121,14 +126,15 @@ unfolding serveKind
 update-of capacity key chute es =
     cond-cases (λ (s : Served). s .entries ≡ setChute key chute es) (present key es) (λ _. refl) (λ a. sym (set-absent key chute es a))
 
--- a command that is no insert and no delete is one of the two
+-- a command that is no insert and no delete does one of the two
 change-of : (k : Kind) (capacity key chute : ℕ) → isInsertOrDelete k ≡ false
     → ((es : List Entry) → serveKind k capacity key chute es .entries ≡ es) ⊎ ((es : List Entry) → serveKind k capacity key chute es .entries ≡ setChute key chute es)
-unfolding isInsertOrDelete isRead
+unfolding isInsertOrDelete isRead serveKind
 change-of Insert capacity key chute f = absurd (true≢false f)
 change-of Delete capacity key chute f = absurd (true≢false f)
 change-of Read capacity key chute f = inl (read-of Read capacity key chute refl)
 change-of Update capacity key chute f = inr (update-of capacity key chute)
+change-of Workers capacity key chute f = inl (λ es. refl)
 
 -- and keeps the number of entries
 length-kept : (capacity : ℕ) (c : Command) (es : List Entry) → isInsertOrDelete (c .kind) ≡ false → length (effectOf capacity c es) ≡ length es
@@ -197,6 +203,7 @@ set-passes Read capacity key chute y v es h =
     read-of Read capacity key chute refl (setChute y v es) ∙ ap (setChute y v) (sym (read-of Read capacity key chute refl es))
 set-passes Update capacity key chute y v es h =
     update-of capacity key chute (setChute y v es) ∙ (set-set-commute key chute y v es h ∙ ap (setChute y v) (sym (update-of capacity key chute es)))
+set-passes Workers capacity key chute y v es h = refl
 
 -- ---- the law
 
@@ -245,6 +252,7 @@ answer-of Insert capacity key chute es fs s n =
 answer-of Delete capacity key chute es fs s n = rw (s .0) (answer-cond (present key fs) _ _ _ _ refl refl)
 answer-of Read capacity key chute es fs s n = rw (s .0) (answer-cond (present key fs) _ _ _ _ (s .1) refl)
 answer-of Update capacity key chute es fs s n = rw (s .0) (answer-cond (present key fs) _ _ _ _ refl refl)
+answer-of Workers capacity key chute es fs s n = refl
 
 -- and independent commands leave one another's answers
 pub replies-kept : (capacity : ℕ) (a b : Command) (es : List Entry) → areDependent a b ≡ false
@@ -259,4 +267,20 @@ service-commutes capacity = record {
   symmetric = dependence-is-symmetric;
   effects = effects-commute capacity;
   replies = replies-kept capacity;
+}
+
+-- ---- the worker count
+
+-- of two independent commands each is for an item, and keeps the count
+keeps-count : (a b : Command) → areDependent a b ≡ false → ((n : ℕ) → countAfter a n ≡ n) × ((n : ℕ) → countAfter b n ≡ n)
+keeps-count a b e =
+    let both = and-eq-true-iff (hasItem (a .kind)) (hasItem (b .kind)) .0 (independent a b e .0) in
+    (λ n. item-keeps-count a n (both .0), λ n. item-keeps-count b n (both .1))
+
+-- so the counts after commands obey the law too, the reply to a command being the count that it finds
+pub counts-commute : Commuting countAfter (λ (c : Command) (n : ℕ). n) areDependent
+counts-commute = record {
+  symmetric = dependence-is-symmetric;
+  effects = λ a b n e. let k = keeps-count a b e in k .0 (countAfter b n) ∙ (k .1 n ∙ sym (ap (countAfter b) (k .0 n) ∙ k .1 n));
+  replies = λ a b n e. keeps-count a b e .1 n;
 }

@@ -8,27 +8,30 @@ use mathlib.Core.List.{List}
 use mathlib.Core.Option.{Option, none, some}
 use mathlib.Core.Logic.{⊎-elim}
 use Rattle.command.specs.declared.Command.{Command}
-use Rattle.command.specs.Dependent.{areDependent}
+use Rattle.command.specs.Dependent.{areDependent, hasItem}
+use Rattle.command.specs.Count.{countAfter}
 use Rattle.model.specs.Upd.{upd}
 use Rattle.model.specs.Setup.{Setup, commandAt}
 use Rattle.model.specs.Serial.{Entry, serve, chuteAt}
 use Rattle.model.specs.Store.{layOut, lookUp}
 use Rattle.model.specs.Service.{Service, openedService, foundFor, write, writeKind, writeFor}
 use Rattle.model.specs.Statement.{Accepted, EachCommand, serialAnswer}
+use Rattle.model.specs.Count.{countOf}
 use Rattle.model.specs.Proof.Tests.{true-false, none-some}
 use Rattle.model.specs.Proof.Upd.{upd-at, upd-other, upd-cases}
 use Rattle.model.specs.Proof.Commute.{look-keeps}
 use Rattle.model.specs.Proof.Store.{lookUp-is-chuteAt}
 use Rattle.model.specs.Proof.Write.{written-as-served}
-use Rattle.model.specs.Proof.Service.{ClosedDown, EarlierIn, entriesOf, entries-none, served-next, closed-next, entries-ascending, entries-fit, entries-positive}
+use Rattle.model.specs.Proof.Service.{ClosedDown, EarlierIn, entriesOf, entries-none, served-next, closed-next, entries-ascending, entries-fit, entries-positive, count-none, count-next}
 
 -- a written command has every earlier command that it depends on written; each answer is the serial run's; the store is what the written
--- commands give when run alone in delivery order; what thread t found for the name z is what a lookup for its command would find now,
+-- commands give when run alone in delivery order, and so is the worker count in force; what thread t found for the name z is what a lookup for its command would find now,
 -- though its entry may stand elsewhere in the store than it did
 pub record Consistent (o : Setup) (place : ℕ → ℕ) (written : ℕ → Bool) (v : Service) (looked : ℕ → Option ℕ) (found : ℕ → ℕ) : Type 0 where
   pub closed : ClosedDown o written
   pub answered : EachCommand o (λ c. v .answers c ≡ cond (written c) (serialAnswer o c) 0)
   pub stored : v .store ≡ layOut (o .capacity) (entriesOf o written)
+  pub limited : v .limit ≡ countOf o written
   pub look : (t z : ℕ) → looked t ≡ some z → found t ≡ foundFor (commandAt (o .commands) (place z)) (v .store)
 
 -- at the opening nothing is written and nothing looked up
@@ -38,6 +41,7 @@ opened-consistent o place = record {
   closed = λ j k a b p q l d e. absurd (true-false true refl (sym e));
   answered = λ c l h. refl;
   stored = ap (layOut (o .capacity)) (sym (entries-none o));
+  limited = sym (count-none o);
   look = λ t z e. absurd (none-some none refl e);
 }
 
@@ -45,7 +49,7 @@ module _ {o : Setup} {place : ℕ → ℕ} {written : ℕ → Bool} {v : Service
   -- other lookups, and names with other places, are right as long as each lookup found what it would find now
   pub lookups-consistent : (place′ : ℕ → ℕ) (looked′ : ℕ → Option ℕ) (found′ : ℕ → ℕ)
       → ((t z : ℕ) → looked′ t ≡ some z → found′ t ≡ foundFor (commandAt (o .commands) (place′ z)) (v .store)) → Consistent o place′ written v looked′ found′
-  lookups-consistent place′ looked′ found′ look = record { closed = i .closed; answered = i .answered; stored = i .stored; look = look }
+  lookups-consistent place′ looked′ found′ look = record { closed = i .closed; answered = i .answered; stored = i .stored; limited = i .limited; look = look }
 
   -- ---- a command is written that has no answer yet, while every earlier command that it depends on has one
 
@@ -59,7 +63,7 @@ module _ {o : Setup} {place : ℕ → ℕ} {written : ℕ → Bool} {v : Service
 
     -- the service after it
     abbrev pub serviceAfter : Service
-    serviceAfter = record { store = layOut (o .capacity) (entriesOf o written′); answers = upd (v .answers) c (serialAnswer o c) }
+    serviceAfter = record { store = layOut (o .capacity) (entriesOf o written′); answers = upd (v .answers) c (serialAnswer o c); limit = countAfter cmd (v .limit) }
 
     -- what its lookup found is what it would find now, so the write is the serial service on the written commands' entries
     served : (f : ℕ) → f ≡ foundFor (some cmd) (v .store)
@@ -80,10 +84,11 @@ module _ {o : Setup} {place : ℕ → ℕ} {written : ℕ → Bool} {v : Service
     unfolding foundFor
     found-kept b free =
         let k = served-next o written c cmd (i .closed) command not-written earlier in
-        ap (lookUp (b .key)) (i .stored)
+        ap (λ (n : ℕ). cond (hasItem (b .kind)) n 0)
+        (ap (lookUp (b .key)) (i .stored)
         ∙ (lookUp-is-chuteAt (o .capacity) (b .key) es (entries-ascending o written) (entries-fit o written)
         ∙ (sym (look-keeps (o .capacity) b cmd es free) ∙ (ap (chuteAt (b .key)) (k .1)
-        ∙ sym (lookUp-is-chuteAt (o .capacity) (b .key) (entriesOf o written′) (entries-ascending o written′) (entries-fit o written′)))))
+        ∙ sym (lookUp-is-chuteAt (o .capacity) (b .key) (entriesOf o written′) (entries-ascending o written′) (entries-fit o written′))))))
 
     -- the lookups that go on are for commands that are independent of it
     pub written-consistent : (looked′ : ℕ → Option ℕ) (found′ : ℕ → ℕ)
@@ -93,6 +98,7 @@ module _ {o : Setup} {place : ℕ → ℕ} {written : ℕ → Bool} {v : Service
       closed = closed-next o written c cmd (i .closed) command earlier;
       answered = λ k a b. ⊎-elim (λ h. h .1 ∙ rw (upd-at written c true k (h .0)) (ap (serialAnswer o) (sym (h .0)))) (λ h. h .1 ∙ rw (upd-other written c true k (h .0)) (i .answered k a b)) (upd-cases (v .answers) c (serialAnswer o c) k);
       stored = refl;
+      limited = ap (countAfter cmd) (i .limited) ∙ count-next o written c cmd (i .closed) command not-written;
       look = look;
     }
       where

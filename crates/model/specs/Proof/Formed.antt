@@ -11,6 +11,7 @@ use mathlib.Core.Bool.{Bool, true, false}
 use mathlib.Core.Option.{some}
 use lib.ListN.{length}
 use Rattle.command.specs.declared.Command.{Command}
+use Rattle.command.specs.Read.{chuteFits}
 use Rattle.model.specs.declared.Thread.{Thread}
 use Rattle.model.specs.declared.Thread.the-variants.{Idle, Loading, Searching, Holding, LookedUp, Written, Walking, Clearing}
 use Rattle.model.specs.Setup.{Setup, commandAt}
@@ -35,9 +36,10 @@ ThreadFormed size (Clearing at own) = (at .0 ≤ size) × (own .0 ≤ size)
 pub record SetupFormed (o : Setup) : Type 0 where
   pub size : o .size ≤ 150
   pub workers : o .workers ≤ 64
+  pub largest : o .largest ≤ 64
   pub capacity : o .capacity ≤ 4096
   pub count : length (o .commands) ≤ 4096
-  pub chutes : (c : ℕ) (cmd : Command) → commandAt (o .commands) c ≡ some cmd → cmd .chute < 65536
+  pub chutes : (c : ℕ) (cmd : Command) → commandAt (o .commands) c ≡ some cmd → chuteFits (cmd .kind) (cmd .chute) ≡ true
 
 -- of a node: a number up to a bound, a flag, a set of nodes; nothing past node 150
 abbrev pub NumberAt : ℕ → ℕ → ℕ → Type 0
@@ -71,6 +73,7 @@ pub record GraphFormed (o : Setup) (g : Graph) : Type 0 where
 pub record ServiceFormed (o : Setup) (v : Service) : Type 0 where
   pub store : StoreFormed (o .capacity) (v .store)
   pub answers : (c : ℕ) → AnswerAt (length (o .commands)) c (v .answers c)
+  pub limit : (1 ≤ v .limit) × (v .limit ≤ 64)
 
 pub record Formed (o : Setup) (s : State) : Type 0 where
   pub graph : GraphFormed o (s .graph)

@@ -9,7 +9,7 @@ use lib.ListN.{length}
 use lib.Dec.{eqb, leb}
 use borrow.Author.Tests.{leb-false}
 use Rattle.command.specs.declared.Kind.{Kind}
-use Rattle.command.specs.declared.Kind.the-variants.{Insert, Delete, Read, Update}
+use Rattle.command.specs.declared.Kind.the-variants.{Insert, Delete, Read, Update, Workers}
 use Rattle.model.specs.Serial.{Entry, present, putIn, takeOut, setChute}
 use Rattle.model.specs.Store.{Store, layOut, insert, remove, replace}
 use Rattle.model.specs.Service.{Write, writeKind}
@@ -70,3 +70,4 @@ module _ (capacity key : ℕ) (es : List Entry) (ascending : Ascending es) (fits
   written-in-order Delete chute found = cond-cases After (eqb found 0) (λ _. kept) (λ _. removed (present key es) refl)
   written-in-order Read chute found = cond-cases After (eqb found 0) (λ _. kept) (λ _. kept)
   written-in-order Update chute found = cond-cases After (eqb found 0) (λ _. kept) (λ _. replaced chute (present key es) refl)
+  written-in-order Workers chute found = kept

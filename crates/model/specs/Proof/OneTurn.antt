@@ -3,7 +3,7 @@
 use Prim.Native.Nat.{ℕ, _+_, _≤_}
 use native.Mathlib.Omega.{arith}
 use mathlib.Core.Path.{_≡_, refl, sym, ap, _∙_}
-use mathlib.Core.Bool.{Bool, true, false, cond, _||_, and-eq-true-iff}
+use mathlib.Core.Bool.{Bool, true, false, cond, _||_, and-eq-true-iff, _&&_}
 use mathlib.Core.List.{List, [], _∷_}
 use mathlib.Core.Option.{none, some}
 use mathlib.Core.Logic.{⊎-elim}
@@ -11,7 +11,7 @@ use lib.ListN.{length}
 use lib.Dec.{eqb, leb}
 use borrow.Author.Tests.{eqb-false, ne-eqb, leb-true, leb-false}
 use Rattle.command.specs.declared.Kind.{Kind}
-use Rattle.command.specs.declared.Kind.the-variants.{Insert, Delete, Read, Update}
+use Rattle.command.specs.declared.Kind.the-variants.{Insert, Delete, Read, Update, Workers}
 use Rattle.command.specs.Dependent.{isRead}
 use Rattle.node_set.specs.declared.Node.{Node}
 use Rattle.model.specs.declared.Thread.{Thread}
@@ -20,7 +20,7 @@ use Rattle.model.specs.Upd.{upd}
 use Rattle.model.specs.Setup.{Setup, commandAt, bothDependent}
 use Rattle.model.specs.Graph.{Graph, setNext, setSeq, setExecuting, setLocked, setWaits, setFree, setLoaded}
 use Rattle.model.specs.Service.{foundFor, inOneStep}
-use Rattle.model.specs.Step.{State, node, opened, moveTo, serveTo, commandOf, stepOn, load, loaderIdle, link, addDependence, loaderWalk, loaderStep}
+use Rattle.model.specs.Step.{State, node, opened, moveTo, serveTo, commandOf, stepOn, load, loaderIdle, link, addDependence, loaderWalk, loaderStep, isAllowed, idle}
 use Rattle.model.specs.Step.{enter, ready, examine, leave, searching, holding, lookedUp, bypass, walking, return, clearing, workerStep, step, steps}
 use Rattle.model.specs.Statement.{Accepted, allWithin, serialAnswer}
 use Rattle.model.specs.OneTurn.{ReadsInOneTurn}
@@ -87,13 +87,13 @@ module _ (o : Setup) (s : State) (g : Ghost) (i : Inv o s g) (p : InTwoAt o s) w
         mine h = let q : n ≡ x = cc in rw q two
 
     worker-two : (th : Thread) → s .threads t ≡ th → InTwoAt o (workerStep o t th s)
-    unfolding workerStep enter searching leave examine holding lookedUp walking bypass clearing return commandOf stepOn moveTo serveTo setNext setSeq setExecuting setLocked setWaits setFree
-    worker-two Idle e = cond-cases (InTwoAt o) (s .graph .locked 0) (λ _. p) (λ _. stays t (Searching (node 0)) refl)
+    unfolding workerStep idle enter searching leave examine holding lookedUp walking bypass clearing return commandOf stepOn moveTo serveTo setNext setSeq setExecuting setLocked setWaits setFree
+    worker-two Idle e = cond-cases (InTwoAt o) (isAllowed t s) (λ _. cond-cases (InTwoAt o) (s .graph .locked 0) (λ _. p) (λ _. stays t (Searching (node 0)) refl)) (λ _. p)
     worker-two (Loading a x) e = p
     worker-two (Searching a) e =
         let y = s .graph .next (a .0) in
         cond-cases (InTwoAt o) (eqb y 0) (λ _. stays t Idle refl) (λ _. cond-cases (InTwoAt o) (s .graph .locked y) (λ _. p)
-        (λ _. cond-cases (InTwoAt o) (ready (s .graph) y) (λ _. stays t (Holding (node y)) refl) (λ _. stays t (Searching (node y)) refl)))
+        (λ _. cond-cases (InTwoAt o) (isAllowed t s && ready (s .graph) y) (λ _. stays t (Holding (node y)) refl) (λ _. stays t (Searching (node y)) refl)))
     worker-two (Holding x) e =
         cond-cases (InTwoAt o) (inOneStep (commandOf o (s .graph) (x .0))) (λ _. stays t (Written (node (x .0))) refl) (looks (x .0) (foundFor (commandOf o (s .graph) (x .0)) (s .service .store)))
     worker-two (LookedUp x f) e = stays t (Written (node (x .0))) refl
@@ -112,15 +112,15 @@ step-two : (o : Setup) (s : State) (g : Ghost) → Inv o s g → InTwoAt o s →
 unfolding step
 step-two o s g i p t = cond-cases (InTwoAt o) (eqb t 0) (λ _. loader-two o s g i p (s .threads 0) refl) (λ _. worker-two o s g i p t (s .threads t) refl)
 
-steps-two : (o : Setup) → Accepted o → (ts : List ℕ) → allWithin (o .workers) ts ≡ true → (s : State) (g : Ghost) → Inv o s g → InTwoAt o s → InTwoAt o (steps o ts s)
+steps-two : (o : Setup) → Accepted o → (ts : List ℕ) → allWithin (o .largest) ts ≡ true → (s : State) (g : Ghost) → Inv o s g → InTwoAt o s → InTwoAt o (steps o ts s)
 unfolding steps allWithin
 steps-two o acc [] w s g i p = p
 steps-two o acc (t ∷ ts) w s g i p =
-    let k = and-eq-true-iff (leb t (o .workers)) (allWithin (o .workers) ts) .0 w in
-    steps-two o acc ts (k .1) (step o t s) (ghostStep o t s g) (keeps o acc t (leb-true t (o .workers) (k .0)) s g i) (step-two o s g i p t)
+    let k = and-eq-true-iff (leb t (o .largest)) (allWithin (o .largest) ts) .0 w in
+    steps-two o acc ts (k .1) (step o t s) (ghostStep o t s g) (keeps o acc t (leb-true t (o .largest) (k .0)) s g i) (step-two o s g i p t)
 
 -- from the opening, where nobody has looked up
-reached-two : (o : Setup) → Accepted o → (ts : List ℕ) → allWithin (o .workers) ts ≡ true → InTwoAt o (steps o ts (opened o))
+reached-two : (o : Setup) → Accepted o → (ts : List ℕ) → allWithin (o .largest) ts ≡ true → InTwoAt o (steps o ts (opened o))
 unfolding opened
 reached-two o acc ts w = steps-two o acc ts w (opened o) (openedGhost o) (opened-meets o acc) (λ u n e. absurd (none-some none refl e))
 
@@ -135,6 +135,7 @@ other-is Insert n = refl
 other-is Delete n = refl
 other-is Read n = absurd (n refl)
 other-is Update n = refl
+other-is Workers n = refl
 
 -- a holding worker's step, by that test
 module _ (o : Setup) (s : State) (t : ℕ) (low : 1 ≤ t) (own : Node) (here : s .threads t ≡ Holding own) where
@@ -153,7 +154,7 @@ module _ (o : Setup) (s : State) (t : ℕ) (low : 1 ≤ t) (own : Node) (here : 
   looks-first e = rw (ne-eqb t 0 (λ (z : t ≡ 0). omega arith), here, e) (upd-same (s .threads) t (LookedUp own found), refl)
 
   -- the command counts as answered from that step on, so its answer is the serial run's
-  answered-now : Accepted o → t ≤ o .workers → (g : Ghost) → Inv o s g → 1 ≤ s .graph .seq (own .0) → tried ≡ true
+  answered-now : Accepted o → t ≤ o .largest → (g : Ghost) → Inv o s g → 1 ≤ s .graph .seq (own .0) → tried ≡ true
       → step o t s .service .answers (s .graph .seq (own .0)) ≡ serialAnswer o (s .graph .seq (own .0))
   unfolding ghostStep workerGhost
   answered-now acc high g i used e =

@@ -11,7 +11,7 @@ use lib.ListN.{length}
 use lib.Dec.{eqb, leb, ltb}
 use borrow.Author.Tests.{ltb-true, ltb-false, leb-true, leb-false, eqb-true, eqb-false}
 use Rattle.command.specs.declared.Kind.{Kind}
-use Rattle.command.specs.declared.Kind.the-variants.{Insert, Delete, Read, Update}
+use Rattle.command.specs.declared.Kind.the-variants.{Insert, Delete, Read, Update, Workers}
 use Rattle.command.specs.declared.Command.{Command}
 use Rattle.command.specs.Read.{chuteFits}
 use Rattle.model.specs.Serial.{Entry, present, chuteAt, putIn, takeOut, setChute, Served, serveKind, serve}
@@ -131,6 +131,7 @@ serve-keeps P capacity c es same put out other = by (c .kind) refl
     by Delete q = cond-cases here (present (c .key) es) out (λ _. same)
     by Read q = cond-cases here (present (c .key) es) (λ _. same) (λ _. same)
     by Update q = cond-cases here (present (c .key) es) (λ _. other (inr q)) (λ _. same)
+    by Workers q = same
 
 -- Each of the three changes keeps the order.
 pub serve-ascending : (capacity : ℕ) (c : Command) (es : List Entry) → Ascending es → Ascending (serve capacity c es .entries)
@@ -151,6 +152,7 @@ BringsPositive Insert chute = 1 ≤ chute
 BringsPositive Delete chute = Unit {0}
 BringsPositive Read chute = Unit {0}
 BringsPositive Update chute = 1 ≤ chute
+BringsPositive Workers chute = Unit {0}
 
 -- "Insert and update carry chute 1 to 512": a chute that fits its kind is one.
 pub fitting-brings-positive : (kind : Kind) (chute : ℕ) → chuteFits kind chute ≡ true → BringsPositive kind chute
@@ -159,6 +161,7 @@ fitting-brings-positive Insert chute h = leb-true 1 chute (and-eq-true-iff (leb 
 fitting-brings-positive Delete chute h = tt
 fitting-brings-positive Read chute h = tt
 fitting-brings-positive Update chute h = leb-true 1 chute (and-eq-true-iff (leb 1 chute) (leb chute 512) .0 h .0)
+fitting-brings-positive Workers chute h = tt
 
 -- The only chute that comes in is the command's.
 pub serve-positive : (capacity : ℕ) (c : Command) (es : List Entry) → BringsPositive (c .kind) (c .chute) → AllPositive es → AllPositive (serve capacity c es .entries)

@@ -1,29 +1,32 @@
--- Part T and the commuting law put together for the model: the entries that a set of commands gives when it is run alone in delivery order,
--- and what one more command adds to them. Assumes nothing.
-use Prim.Native.Nat.{ℕ, zero, suc, _≤_, _<_}
+-- Part T and the commuting laws put together for the model: the entries and the worker count that a set of commands gives when it is run
+-- alone in delivery order, and what one more command adds to them. Assumes nothing.
+use Prim.Native.Nat.{ℕ, zero, suc, _+_, _≤_, _<_}
 use native.Mathlib.Omega.{arith}
 use mathlib.Core.Path.{_≡_, refl, sym, _∙_, ap}
 use mathlib.Core.Logic.{⊎-elim}
-use mathlib.Core.Bool.{Bool, true, false}
+use mathlib.Core.Bool.{Bool, true, false, cond}
 use mathlib.Core.List.{List, [], _∷_}
 use mathlib.Core.Option.{none, some}
 use lib.ListN.{length, getElem?, getD, take}
-use lib.Dec.{leb}
+use lib.Dec.{leb, ltb}
 use Rattle.command.specs.declared.Kind.{Kind}
-use Rattle.command.specs.declared.Kind.the-variants.{Insert, Delete, Read, Update}
+use Rattle.command.specs.declared.Kind.the-variants.{Insert, Delete, Read, Update, Workers}
 use Rattle.command.specs.declared.Command.{Command}
 use Rattle.command.specs.Dependent.{areDependent}
+use Rattle.command.specs.Count.{countAfter}
+use Rattle.command.proofs.Count.{count-fits, largest-from, largest-covers, largest-within}
 use Rattle.model.specs.Serial.{Entry, Served, present, serveKind, serve}
 use Rattle.model.specs.Serial.{entriesAfter, answersAfter, serialAnswers, serialEntries}
 use Rattle.model.specs.Upd.{upd}
 use Rattle.model.specs.Setup.{Setup, commandAt}
 use Rattle.model.specs.Statement.{Accepted, EachCommand, serialAnswer}
+use Rattle.model.specs.Count.{countFrom, countOf, countBefore}
 use Rattle.model.specs.Proof.Tests.{none-some, eqb-cases, cond-cases}
 use Rattle.model.specs.Proof.Upd.{upd-same, upd-other}
 use Rattle.model.specs.Proof.Trace.{Placed, Closed, run, runOnly}
-use Rattle.model.specs.Proof.Trace.{runOnly-agrees, runOnly-all, runOnly-none, runOnly-keeps, next-reply, next-effect}
+use Rattle.model.specs.Proof.Trace.{runOnly-agrees, runOnly-all, runOnly-none, runOnly-before, runOnly-keeps, next-reply, next-effect}
 use Rattle.model.specs.Proof.Serial.{Ascending, AllPositive, BringsPositive, fitting-brings-positive, serve-ascending, serve-fits, serve-positive, chuteAt-present}
-use Rattle.model.specs.Proof.Commute.{effectOf, replyOf, service-commutes}
+use Rattle.model.specs.Proof.Commute.{effectOf, replyOf, service-commutes, counts-commute}
 
 -- the entries after the commands of W alone, in delivery order
 unfoldable pub entriesOf : Setup → (ℕ → Bool) → List Entry
@@ -147,6 +150,7 @@ answer-positive Insert capacity key chute es h =
 answer-positive Delete capacity key chute es h = cond-cases (λ (s : Served). 1 ≤ s .answer) (present key es) (λ _. omega arith) (λ _. omega arith)
 answer-positive Read capacity key chute es h = cond-cases (λ (s : Served). 1 ≤ s .answer) (present key es) (chuteAt-present key es h) (λ _. omega arith)
 answer-positive Update capacity key chute es h = cond-cases (λ (s : Served). 1 ≤ s .answer) (present key es) (λ _. omega arith) (λ _. omega arith)
+answer-positive Workers capacity key chute es h = omega arith
 
 answers-positive : (capacity : ℕ) (cs : List Command) (es : List Entry) (n : ℕ) → AllPositive es
     → ((j : ℕ) (c : Command) → getElem? cs j ≡ some c → BringsPositive (c .kind) (c .chute)) → n < length cs → 1 ≤ getD (answersAfter capacity cs es) n 0
@@ -176,3 +180,67 @@ module _ (o : Setup) (accepted : Accepted o) where
 
   pub entries-positive : (W : ℕ → Bool) → AllPositive (entriesOf o W)
   entries-positive W = entries-keep AllPositive o W (λ k c es at. serve-positive (o .capacity) c es (accepted-positive k c at)) tt
+
+-- ---- the worker count
+
+-- the count of a set in the terms of part T
+count-as-run : (W : ℕ → Bool) (i : ℕ) (cs : List Command) (n : ℕ) → countFrom W i cs n ≡ runOnly countAfter W i cs n
+unfolding countFrom runOnly
+count-as-run W i [] n = refl
+count-as-run W i (c ∷ cs) n = count-as-run W (suc i) cs (cond (W i) (countAfter c n) n)
+
+-- it hangs only on which commands of the list are in the set
+pub count-agree : (o : Setup) (W U : ℕ → Bool) → EachCommand o (λ c. W c ≡ U c) → countOf o W ≡ countOf o U
+unfolding countOf
+count-agree o W U agree =
+    count-as-run W 1 (o .commands) (o .workers)
+    ∙ (runOnly-agrees countAfter W U 1 (o .commands) (o .workers) (λ k l h. agree k l (omega arith)) ∙ sym (count-as-run U 1 (o .commands) (o .workers)))
+
+pub count-none : (o : Setup) → countOf o (λ c. false) ≡ o .workers
+unfolding countOf
+count-none o = count-as-run (λ c. false) 1 (o .commands) (o .workers) ∙ runOnly-none countAfter (λ c. false) 1 (o .commands) (o .workers) (λ k l h. refl)
+
+-- the count of every set is from 1 to the largest, which is at most 64
+pub largest-fits : (o : Setup) → Accepted o → (1 ≤ o .largest) × (o .largest ≤ 64)
+unfolding commandAt
+largest-fits o acc =
+    rw (acc .largest) (largest-within (λ (n : ℕ). (1 ≤ n) × (n ≤ 64)) (o .workers) (o .commands) (acc .workers)
+    (λ m k p q. let a = p .0 in let b = p .1 in let c = q .1 in (omega arith, omega arith)) (λ j c e m. count-fits c m (acc .chutes (suc j) c e)))
+
+pub count-within : (o : Setup) → Accepted o → (W : ℕ → Bool) → (1 ≤ countOf o W) × (countOf o W ≤ o .largest)
+unfolding countOf commandAt
+count-within o acc W =
+    rw (count-as-run W 1 (o .commands) (o .workers))
+    (runOnly-keeps countAfter Within W 1 (o .commands) (o .workers) each (acc .workers .0, rw (acc .largest) (largest-from (o .workers) (o .commands))))
+  where
+    Within : ℕ → Type 0
+    Within n = (1 ≤ n) × (n ≤ o .largest)
+
+    each : (k : ℕ) (c : Command) (n : ℕ) → Placed 1 (o .commands) k c → Within n → Within (countAfter c n)
+    each k c n at h =
+        let most = largest-fits o acc .1 in
+        let high = h .1 in
+        let fits = count-fits c n (acc .chutes k c (command-placed (o .commands) k c at)) (h .0, omega arith) in
+        (fits .0, rw (acc .largest) (largest-covers (o .workers) (o .commands) (at .offset) c (at .found) n (rw (← acc .largest) (h .1))))
+
+module _ (o : Setup) (W : ℕ → Bool) (k : ℕ) (c : Command) (closed : ClosedDown o W) (at : commandAt (o .commands) k ≡ some c) (out : W k ≡ false) where
+  -- the count after one more command is that of the set with it
+  pub count-next : countAfter c (countOf o W) ≡ countOf o (upd W k true)
+  unfolding countOf
+  count-next =
+      let p = placed (o .commands) k c at in
+      rw (count-as-run W 1 (o .commands) (o .workers), count-as-run (upd W k true) 1 (o .commands) (o .workers))
+      (next-effect countAfter (λ (b : Command) (n : ℕ). n) areDependent counts-commute W 1 (o .commands) k c (o .workers) p (closed-trace o W k c closed at) out
+      (upd W k true) (upd-same W k true) (upd-other W k true))
+
+  -- and before it, where every earlier command on which it depends is in the set, that of the commands delivered before it: none of the
+  -- others sets a count
+  pub count-found : EarlierIn o W k c → countOf o W ≡ countBefore o k
+  unfolding countOf
+  count-found earlier =
+      let p = placed (o .commands) k c at in
+      let here : k ≡ 1 + p .offset = p .place in
+      count-as-run W 1 (o .commands) (o .workers)
+      ∙ (next-reply countAfter (λ (b : Command) (n : ℕ). n) areDependent counts-commute W 1 (o .commands) k c (o .workers) p (closed-trace o W k c closed at) out
+      (λ j a q. earlier j a (command-placed (o .commands) j a q))
+      ∙ (sym (runOnly-before countAfter (p .offset) 1 (o .commands) (o .workers)) ∙ (ap (λ (n : ℕ). runOnly countAfter (λ j. ltb j n) 1 (o .commands) (o .workers)) (sym here) ∙ sym (count-as-run (λ j. ltb j k) 1 (o .commands) (o .workers)))))

@@ -19,7 +19,7 @@ use Rattle.model.specs.Proof.Chain.Keep.{steps-keep}
 use Rattle.model.specs.Proof.Chain.Opening.{openedGhost, opened-meets}
 use Rattle.model.specs.Proof.Finish.{Φ, strategy, unremoved, steps-tell, schedule-finishes, finishes-soon}
 
-module _ (o : Setup) (acc : Accepted o) (ts : List ℕ) (within : allWithin (o .workers) ts ≡ true) where
+module _ (o : Setup) (acc : Accepted o) (ts : List ℕ) (within : allWithin (o .largest) ts ≡ true) where
   abbrev s : State
   s = steps o ts (opened o)
 
@@ -31,7 +31,7 @@ module _ (o : Setup) (acc : Accepted o) (ts : List ℕ) (within : allWithin (o .
   reached = steps-keep o acc ts within (opened o) (openedGhost o) (opened-meets o acc)
 
   -- what the invariant calls written and removed is what the steps wrote and returned
-  written-is : (c : ℕ) → 1 ≤ c → g .written c ≡ wrote o c ts (opened o)
+  pub written-is : (c : ℕ) → 1 ≤ c → g .written c ≡ wrote o c ts (opened o)
   written-is c low = steps-tell o acc c low ts within (opened o) (openedGhost o) (opened-meets o acc) .0 ∙ or-false (wrote o c ts (opened o))
 
   removed-is : (c : ℕ) → 1 ≤ c → g .removed c ≡ removed o c ts (opened o)
@@ -75,6 +75,6 @@ demand-3 o acc ts within = record {
 }
 
 -- from every state reached the strategy finishes within a bound on its steps
-pub finish-bound : (o : Setup) (acc : Accepted o) (ts : List ℕ) (within : allWithin (o .workers) ts ≡ true) →
-    length (strategy o (Φ o (s o acc ts within) (g o acc ts within)) (s o acc ts within)) ≤ (unremoved o (g o acc ts within) + o .workers) * (3 * o .size + 6)
+pub finish-bound : (o : Setup) (acc : Accepted o) (ts : List ℕ) (within : allWithin (o .largest) ts ≡ true) →
+    length (strategy o (Φ o (s o acc ts within) (g o acc ts within)) (s o acc ts within)) ≤ (unremoved o (g o acc ts within) + o .largest) * (3 * o .size + 6)
 finish-bound o acc ts within = finishes-soon o acc (s o acc ts within) (g o acc ts within) (reached o acc ts within)

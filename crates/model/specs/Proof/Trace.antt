@@ -7,6 +7,8 @@ use mathlib.Core.Bool.{Bool, true, false, cond}
 use mathlib.Core.List.{List, [], _∷_}
 use mathlib.Core.Option.{none, some}
 use lib.ListN.{length, getElem?, take}
+use lib.Dec.{ltb}
+use borrow.Author.Tests.{lt-ltb, le-ltb}
 use Rattle.model.specs.Proof.Tests.{fails, true-false, none-some}
 
 -- c stands at place k of a list whose first place is i
@@ -61,6 +63,15 @@ module _ {C S : Type 0} (effect : C → S → S) where
   runOnly-none W i [] s nothing = refl
   runOnly-none W i (c ∷ cs) s nothing =
       rw (nothing i (omega arith) (omega arith)) (runOnly-none W (suc i) cs s (λ k l h. nothing k (omega arith) (omega arith)))
+
+  -- W the places before the one n further on: the first n
+  pub runOnly-before : (n i : ℕ) (cs : List C) (s : S) → runOnly (λ k. ltb k (i + n)) i cs s ≡ run (take n cs) s
+  unfolding run runOnly
+  runOnly-before zero i cs s = runOnly-none (λ k. ltb k (i + 0)) i cs s (λ k l h. le-ltb k (i + 0) (omega arith))
+  runOnly-before (suc n) i [] s = refl
+  runOnly-before (suc n) i (c ∷ cs) s =
+      let on : i + suc n ≡ suc i + n = omega arith in
+      rw (lt-ltb i (i + suc n) (omega arith), on) (runOnly-before n (suc i) cs (effect c s))
 
   -- what the effect of each command keeps, the run keeps
   pub runOnly-keeps : (P : S → Type 0) (W : ℕ → Bool) (i : ℕ) (cs : List C) (s : S)

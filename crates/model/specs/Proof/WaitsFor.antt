@@ -2,40 +2,45 @@
 -- Assumes nothing.
 use Prim.Native.Nat.{ℕ, _<_}
 use native.Mathlib.Omega.{arith}
-use mathlib.Core.Path.{_≡_, refl, ap, _∙_}
+use mathlib.Core.Path.{_≡_, refl, sym, ap, _∙_}
 use mathlib.Core.Bool.{Bool, true, false, not, _&&_, false≢true, and-eq-true-iff}
 use mathlib.Core.Option.{Option, none, some}
 use mathlib.Core.Logic.{_⊎_, inl, inr, ⊎-elim}
 use lib.Dec.{eqb}
-use borrow.Author.Tests.{eqb-true}
+use borrow.Author.Tests.{eqb-true, not-true}
+use Rattle.command.specs.declared.Kind.{Kind}
 use Rattle.command.specs.declared.Command.{Command}
-use Rattle.command.specs.Dependent.{isInsertOrDelete, isRead, areDependent}
-use Rattle.command.proofs.Laws.{dependence-is-symmetric, no-read}
+use Rattle.command.specs.Dependent.{isInsertOrDelete, isRead, areDependent, hasItem}
+use Rattle.command.proofs.Laws.{dependence-is-symmetric, no-read, read-has-item}
 use Rattle.model.specs.declared.Thread.{Thread}
 use Rattle.model.specs.declared.Thread.the-variants.{Idle, Loading, Searching, Holding, LookedUp, Written, Walking, Clearing}
 use Rattle.model.specs.Setup.{Setup, bothDependent}
 use Rattle.model.specs.Step.{State, opened, commandOf, steps}
 use Rattle.model.specs.WaitsFor.{WaitsFor, WaitsOnlyForDependent}
-use Rattle.model.specs.Proof.Tests.{true-false, one-passes, none-some, le-cases}
+use Rattle.model.specs.Proof.Tests.{fails, true-false, one-passes, none-some, le-cases}
 use Rattle.model.specs.Proof.Chain.Invariant.{Ghost, Inv, at, loads, clears, Pending, Waited}
 use Rattle.model.specs.Proof.Chain.Keep.{steps-keep}
 use Rattle.model.specs.Proof.Chain.Opening.{openedGhost, opened-meets}
 
--- dependent commands both insert or delete, or are for one key; and they are no two reads
+-- dependent commands both insert or delete, or are for one key, or one is for no item; and they are no two reads
 abbrev Because : Command → Command → Type 0
 Because a b =
-    (((isInsertOrDelete (a .kind) ≡ true) × (isInsertOrDelete (b .kind) ≡ true)) ⊎ (a .key ≡ b .key)) × (isRead (a .kind) && isRead (b .kind) ≡ false)
+    (((isInsertOrDelete (a .kind) ≡ true) × (isInsertOrDelete (b .kind) ≡ true)) ⊎ (a .key ≡ b .key) ⊎ (hasItem (a .kind) && hasItem (b .kind) ≡ false))
+    × (isRead (a .kind) && isRead (b .kind) ≡ false)
+
+-- what is for no item is no read
+items-read : (a b : Kind) → hasItem a && hasItem b ≡ false → isRead a && isRead b ≡ false
+items-read a b h = fails (isRead a && isRead b) (λ r. let k = and-eq-true-iff (isRead a) (isRead b) .0 r in false≢true (sym h ∙ rw (read-has-item a (k .0), read-has-item b (k .1))))
 
 dependent-because : (a b : Command) → areDependent a b ≡ true → Because a b
 unfolding areDependent
-dependent-because a b e = ⊎-elim writers one-key (one-passes _ (eqb (a .key) (b .key) && not both) e)
+dependent-because a b e = ⊎-elim (λ w. ⊎-elim no-item writers (one-passes _ _ w)) one-key (one-passes _ (eqb (a .key) (b .key) && not both) e)
   where
     both : Bool
     both = isRead (a .kind) && isRead (b .kind)
 
-    not-true : (t : Bool) → not t ≡ true → t ≡ false
-    not-true true h = absurd (false≢true h)
-    not-true false h = refl
+    no-item : not (hasItem (a .kind) && hasItem (b .kind)) ≡ true → Because a b
+    no-item h = let k = not-true _ h in (inr (inr k), items-read (a .kind) (b .kind) k)
 
     writers : isInsertOrDelete (a .kind) && isInsertOrDelete (b .kind) ≡ true → Because a b
     writers h =
@@ -45,7 +50,7 @@ dependent-because a b e = ⊎-elim writers one-key (one-passes _ (eqb (a .key) (
     one-key : eqb (a .key) (b .key) && not both ≡ true → Because a b
     one-key h =
         let k = and-eq-true-iff (eqb (a .key) (b .key)) (not both) .0 h in
-        (inr (eqb-true _ _ (k .0)), not-true both (k .1))
+        (inr (inl (eqb-true _ _ (k .0))), not-true both (k .1))
 
 -- a loading thread stands somewhere
 loads-at : (th : Thread) (x : ℕ) → loads th ≡ some x → (l : ℕ) × (at th ≡ some l)

@@ -3,18 +3,19 @@
 use Prim.Native.Nat.{ℕ, _≤_}
 use native.Mathlib.Omega.{arith}
 use mathlib.Core.Path.{_≡_, refl, ap}
-use mathlib.Core.Bool.{Bool, true, false}
+use mathlib.Core.Bool.{Bool, true, false, cond}
 use mathlib.Core.List.{List}
 use lib.ListN.{length}
 use lib.Dec.{eqb, leb}
 use borrow.Author.Tests.{eq-eqb, ne-eqb, leb-false}
 use Rattle.command.specs.declared.Kind.{Kind}
-use Rattle.command.specs.declared.Kind.the-variants.{Insert, Delete, Read, Update}
+use Rattle.command.specs.declared.Kind.the-variants.{Insert, Delete, Read, Update, Workers}
 use Rattle.model.specs.Serial.{Entry, Served, present, chuteAt, serveKind}
 use Rattle.model.specs.Store.{layOut, lookUp}
 use Rattle.model.specs.Service.{Write, write, writeKind}
 use Rattle.model.specs.Proof.Serial.{Ascending, AllPositive, chuteAt-absent, chuteAt-present}
 use Rattle.model.specs.Proof.Store.{lookUp-is-chuteAt, insert-is-putIn, remove-is-takeOut, replace-is-setChute}
+use Rattle.command.specs.Dependent.{hasItem}
 
 module _ (capacity key chute : ℕ) (es : List Entry) (ascending : Ascending es) (positive : AllPositive es) (fits : length es ≤ capacity) where
   -- a served command as a write: the same answer, and the entries laid out
@@ -36,6 +37,7 @@ module _ (capacity key chute : ℕ) (es : List Entry) (ascending : Ascending es)
   same-present Delete p = rw (found p, p) (ap (write 1000) (remove-is-takeOut capacity key es ascending fits p))
   same-present Read p = rw (found p, p)
   same-present Update p = rw (found p, p) (ap (write 1000) (replace-is-setChute capacity key es ascending fits chute p))
+  same-present Workers p = refl
 
   -- an insert of an absent key, by whether the store is full
   same-insert : present key es ≡ false → (b : Bool) → leb capacity (length es) ≡ b → Same Insert
@@ -49,10 +51,20 @@ module _ (capacity key chute : ℕ) (es : List Entry) (ascending : Ascending es)
   same-absent Delete p = rw (missing p, p)
   same-absent Read p = rw (missing p, p)
   same-absent Update p = rw (missing p, p)
+  same-absent Workers p = refl
 
-  pub written-as-served : (kind : Kind) → writeKind kind capacity key chute (lookUp key (layOut capacity es)) (layOut capacity es) ≡ asWrite (serveKind kind capacity key chute es)
-  written-as-served kind = rw (lookUp-is-chuteAt capacity key es ascending fits) (go (present key es) refl)
+  looked-up : (kind : Kind) → writeKind kind capacity key chute (lookUp key (layOut capacity es)) (layOut capacity es) ≡ asWrite (serveKind kind capacity key chute es)
+  looked-up kind = rw (lookUp-is-chuteAt capacity key es ascending fits) (go (present key es) refl)
     where
       go : (b : Bool) → present key es ≡ b → Same kind
       go true p = same-present kind p
       go false p = same-absent kind p
+
+  -- a command that is for no item looks nothing up, and writes whatever was found
+  pub written-as-served : (kind : Kind) → writeKind kind capacity key chute (cond (hasItem kind) (lookUp key (layOut capacity es)) 0) (layOut capacity es) ≡ asWrite (serveKind kind capacity key chute es)
+  unfolding hasItem writeKind serveKind
+  written-as-served Insert = looked-up Insert
+  written-as-served Delete = looked-up Delete
+  written-as-served Read = looked-up Read
+  written-as-served Update = looked-up Update
+  written-as-served Workers = refl

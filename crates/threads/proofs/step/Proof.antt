@@ -1,4 +1,5 @@
 -- `threads::step` meets its contract: thread 0 takes the loader's step, any other a worker's. Assumes nothing.
+use mathlib.Core.Path.{sym}
 use mathlib.Core.List.{[]}
 use borrow.Author.Needs.{needs}
 use lib.ListN.{length}
@@ -16,9 +17,9 @@ entry c = c .before .before .before .before
 abbrev loads : tie.After-loader-step-arg9 → tie.Then1
 loads c = c .before .before .before .before .before .before .before .before .before
 
--- where the turn is a worker's, from its step
-abbrev works : tie.After-worker-step-arg11 → tie.Else1
-works c = c .before .before .before .before .before .before .before .before .before .before .before
+-- the call that tells whether the worker is allowed, from the worker's step
+abbrev allowed-called : tie.After-worker-step-arg11 → tie.After-is-allowed
+allowed-called c = c .before .before .before .before .before .before .before .before .before .before .before
 
 -- the worker's step, from the return
 abbrev worker-called : tie.After-slice-known6 → tie.After-worker-step
@@ -37,9 +38,12 @@ returns c =
     let start = entry (loads (c .before) .before) in
     of-loader (loads (c .before) .if1 .taken) (c .loader-step .ensures (start .args .keys .now) (start .args .chutes .now))
 
+is-allowed-requires : tie.Need-is-allowed-requires
+is-allowed-requires c κs = search needs
+
 worker-step-requires : tie.Need-worker-step-requires
 worker-step-requires c κs =
-    let start = entry (works c .before) in
+    let start = entry (allowed-called c .before .before) in
     let a = start .args in
     record {
       nodes = start .pre .nodes;
@@ -60,8 +64,11 @@ same-length-4 c = search needs
 
 returns-2 : tie.Need-returns-2
 returns-2 c =
-    let start = entry (works (worker-called c .before) .before) in
-    worker-called c .worker-step .ensures (start .args .list .now) (start .args .t) (works (worker-called c .before) .if1 .left) (start .pre)
+    let stepped = worker-called c in
+    let told = allowed-called (stepped .before) in
+    let works = told .before in
+    let start = entry (works .before) in
+    stepped .worker-step .ensures (start .args .list .now) (start .args .t) (works .if1 .left) (sym (told .is-allowed .ensures)) (start .pre)
 
 pub step-spec : {M : Type 1} → statement M
 step-spec =
@@ -70,6 +77,7 @@ step-spec =
     loader-step-requires
     same-length
     returns
+    is-allowed-requires
     worker-step-requires
     same-length-2
     same-length-3

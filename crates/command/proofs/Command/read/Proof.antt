@@ -5,9 +5,7 @@ use native.Mathlib.Omega.{arith}
 use borrow.Author.Needs.{needs}
 use lib.ListN.{length, take, drop, length-drop, List·getD-eq-default}
 use lib.Seq.{take-all}
-use Rattle.s10.specs.Outcome.{readText}
-use Rattle.s10.specs.Outcome as Identifier
-use Rattle.command.specs.Read.{knownKind, kindOf, withKind, withChute, readCommand}
+use Rattle.command.specs.Read.{knownKind, kindOf, identifierOutcome, withKind, withChute, readCommand}
 use Rattle.command.proofs.Parts.{part-min, drop-min}
 use Rattle.command.proofs.Command.read.Statement.{statement}
 use Rattle.command.proofs.Command.read.Tie as tie
@@ -17,7 +15,7 @@ abbrev entry : tie.After-shared-slice-known2 → tie.Start
 entry c = c .before .before .before
 
 -- where the kind is known, from the call that reads the identifier
-abbrev kind-known : tie.After-read → tie.After-kind
+abbrev kind-known : tie.After-read-identifier → tie.After-kind
 kind-known c = c .before .before .before .before
 
 -- no byte is no kind
@@ -40,7 +38,7 @@ enum-told c = search needs
 -- past the first test the kind's number decides
 numbered : (c : tie.After-of) →
     let part = entry (c .before) .args .part .now in
-    readCommand part ≡ withKind (knownKind (c .of .result)) (readText (take 13 (drop 1 part))) (drop 14 part)
+    readCommand part ≡ withKind (knownKind (c .of .result)) (take 13 (drop 1 part)) (drop 14 part)
 unfolding readCommand
 numbered c = rw (← c .of .ensures)
 
@@ -52,17 +50,17 @@ returns-2 c = rw (numbered (c .before .before), c .enum-told .given .1)
 smaller-requires : tie.Need-smaller-requires
 smaller-requires c κs = search needs
 
-sub-read : tie.Need-sub-read
-sub-read c = search needs
+sub-read-identifier : tie.Need-sub-read-identifier
+sub-read-identifier c = search needs
 
-part-read-start : tie.Need-part-read-start
-part-read-start c = search needs
+part-read-identifier-start : tie.Need-part-read-identifier-start
+part-read-identifier-start c = search needs
 
-part-read-end : tie.Need-part-read-end
-part-read-end c = search needs
+part-read-identifier-end : tie.Need-part-read-identifier-end
+part-read-identifier-end c = search needs
 
-read-requires : tie.Need-read-requires
-read-requires c κs = search needs
+read-identifier-requires : tie.Need-read-identifier-requires
+read-identifier-requires c κs = search needs
 
 enum-known-identifier : tie.Need-enum-known-identifier
 enum-known-identifier c = search needs
@@ -83,17 +81,17 @@ enum-known-identifier-2 : tie.Need-enum-known-identifier-2
 enum-known-identifier-2 c = search needs
 
 -- the identifier is what there is of its thirteen bytes, and the chute what is left
-identified : (c : tie.After-read) →
+identified : (c : tie.After-read-identifier) →
     let e = c .before .before in
     let k = e .before .before in
     let part = entry (k .before .before .before) .args .part .now in
-    readCommand part ≡ withChute (k .kind .given .0 .0) (Identifier.textOutcome (c .read .result)) (drop (e .smaller .result) part)
+    readCommand part ≡ withChute (k .kind .given .0 .0) (identifierOutcome (c .read-identifier .result)) (drop (e .smaller .result) part)
 unfolding withKind
 identified c =
     let e = c .before .before in
     let k = e .before .before in
     let part = entry (k .before .before .before) .args .part .now in
-    rw (numbered (k .before .before), k .kind .given .1, c .read .ensures, e .smaller .ensures, drop-min, part-min 1 13 part)
+    rw (numbered (k .before .before), k .kind .given .1, c .read-identifier .ensures, e .smaller .ensures, drop-min, part-min 1 13 part)
 
 returns-3 : tie.Need-returns-3
 returns-3 c =
@@ -119,10 +117,10 @@ read-spec =
     enum-told
     returns-2
     smaller-requires
-    sub-read
-    part-read-start
-    part-read-end
-    read-requires
+    sub-read-identifier
+    part-read-identifier-start
+    part-read-identifier-end
+    read-identifier-requires
     enum-known-identifier
     sub-with-chute
     part-with-chute-start

@@ -11,7 +11,7 @@ use Rattle.model.specs.Statement.{allWithin}
 use Rattle.state_bytes.specs.Layout.{Lists, lists, stateLength, setupIn, stateFits, handedBackFit}
 use Rattle.controller.specs.Performed.{CallPasses}
 use Rattle.state_bytes.proofs.Passed as Passed
-use Rattle.controller.proofs.Handed.{workers-in}
+use Rattle.controller.proofs.Handed.{largest-in}
 use Rattle.controller.proofs.Advancing.{refuses-lengths, refuses-state, refuses-thread, accepts, refused-so, accepted-so}
 use borrow.Author.Needs.{needs}
 use Rattle.controller.proofs.advance_call.advance.Statement.{statement}
@@ -69,9 +69,9 @@ long c = Passed.lengths-passed (given (entry1 (c .before))) (commandsOf (entry1 
 state-passed : (c : tie.Else2) → stateFits (given (entry2 (c .before))) ≡ true
 state-passed c = state-is (c .before) ∙ not-false _ (c .if2 .left)
 
-named-is : (c : tie.After-threads-named) → allWithin (setupIn (entry3 c .args .state .now) (commandsOf (entry3 c)) .workers) (scheduleOf (entry3 c)) ≡ c .threads-named .result
+named-is : (c : tie.After-threads-named) → allWithin (setupIn (entry3 c .args .state .now) (commandsOf (entry3 c)) .largest) (scheduleOf (entry3 c)) ≡ c .threads-named .result
 named-is c =
-    ap (λ (n : ℕ). allWithin n (scheduleOf (entry3 c))) (workers-in (entry3 c .args .state .now) (commandsOf (entry3 c)) (long (lengths-tested (state-tested c)))) ∙ sym (c .threads-named .ensures)
+    ap (λ (n : ℕ). allWithin n (scheduleOf (entry3 c))) (largest-in (entry3 c .args .state .now) (commandsOf (entry3 c)) (long (lengths-tested (state-tested c)))) ∙ sym (c .threads-named .ensures)
 
 lengths-fit-requires : tie.Need-lengths-fit-requires
 lengths-fit-requires c κs = search needs

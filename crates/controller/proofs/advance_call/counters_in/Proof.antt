@@ -1,6 +1,6 @@
 -- `advance_call::counters_in` meets its contract: each counter is read where it stands. Assumes nothing.
 use native.Mathlib.Omega.{arith}
-use mathlib.Core.Path.{sym}
+use mathlib.Core.Path.{sym, _∙_}
 use Rattle.state_bytes.specs.Layout.{stateLength}
 use Rattle.state_bytes.proofs.Fill.{number-one}
 use borrow.Author.Needs.{needs}
@@ -11,9 +11,9 @@ use Rattle.controller.proofs.advance_call.counters_in.Tie as tie
 abbrev entry : tie.After-number-at2 → tie.Start
 entry c = c .before .before .before .before
 
-shared-slice-read-t5 : tie.Need-shared-slice-read-t5
+shared-slice-read-number-of : tie.Need-shared-slice-read-number-of
 unfolding stateLength
-shared-slice-read-t5 c = omega arith
+shared-slice-read-number-of c = omega arith
 
 number-at-requires : tie.Need-number-at-requires
 unfolding stateLength
@@ -29,13 +29,35 @@ number-at-requires-2 c κs = omega arith
 cast-t7-2 : tie.Need-cast-t7-2
 cast-t7-2 c = search needs
 
+shared-slice-read-number-of-2 : tie.Need-shared-slice-read-number-of-2
+unfolding stateLength
+shared-slice-read-number-of-2 c = omega (arith, entry (c .before) .pre)
+
+number-of-requires : tie.Need-number-of-requires
+number-of-requires c κs = search needs
+
 returns : tie.Need-returns
 unfolding stateLength
 returns c =
-    let start = entry c in
-    record { free-is = sym (number-one 10 (start .args .state .now) (omega (arith, start .pre))); loaded-is = c .before .number-at .ensures; used-is = c .number-at2 .ensures }
+    let read = c .before .before in
+    let start = entry read in
+    let b = start .args .state .now in
+    record {
+      free-is = sym (number-one 12 b (omega (arith, start .pre)));
+      loaded-is = read .before .number-at .ensures;
+      used-is = read .number-at2 .ensures;
+      limit-is = c .number-of .ensures ∙ sym (number-one 13 b (omega (arith, start .pre)));
+    }
 
 pub counters-in-spec : {M : Type 1} → statement M
 counters-in-spec =
     tie.close
-    (tie.spec shared-slice-read-t5 number-at-requires cast-t7 number-at-requires-2 cast-t7-2 returns)
+    (tie.spec
+    shared-slice-read-number-of
+    number-at-requires
+    cast-t7
+    number-at-requires-2
+    cast-t7-2
+    shared-slice-read-number-of-2
+    number-of-requires
+    returns)

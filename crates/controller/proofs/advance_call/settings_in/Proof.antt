@@ -8,7 +8,7 @@ use Rattle.controller.proofs.advance_call.settings_in.Tie as tie
 
 -- the function's entry, from the last call
 abbrev entry : tie.After-number-at2 → tie.Start
-entry c = c .before .before .before .before .before
+entry c = c .before .before .before .before .before .before
 
 shared-slice-read-t3 : tie.Need-shared-slice-read-t3
 unfolding stateLength
@@ -17,6 +17,10 @@ shared-slice-read-t3 c = omega arith
 shared-slice-read-t5 : tie.Need-shared-slice-read-t5
 unfolding stateLength
 shared-slice-read-t5 c = omega arith
+
+shared-slice-read-t7 : tie.Need-shared-slice-read-t7
+unfolding stateLength
+shared-slice-read-t7 c = omega arith
 
 number-at-requires : tie.Need-number-at-requires
 unfolding stateLength
@@ -32,8 +36,9 @@ returns c commands count =
     let start = entry c in
     let b = start .args .state .now in
     record {
-      size = number-one 0 b (omega (arith, start .pre));
-      workers = number-one 1 b (omega (arith, start .pre));
+      size = number-one 1 b (omega (arith, start .pre));
+      workers = number-one 2 b (omega (arith, start .pre));
+      largest = number-one 3 b (omega (arith, start .pre));
       capacity = sym (c .before .number-at .ensures);
       count = count ∙ sym (c .number-at2 .ensures);
     }
@@ -44,6 +49,7 @@ settings-in-spec =
     (tie.spec
     shared-slice-read-t3
     shared-slice-read-t5
+    shared-slice-read-t7
     number-at-requires
     number-at-requires-2
     returns)

@@ -10,10 +10,13 @@ use Rattle.controller.proofs.open_call.write_opened.Tie as tie
 
 -- the call that numbers the free nodes, from the call that writes the state
 abbrev numbered : tie.After-write-state → tie.After-first-next
-numbered c = c .before .before .before .before .before .before .before
+numbered c = c .before .before .before .before .before .before .before .before
 
 first-next-requires : tie.Need-first-next-requires
 first-next-requires c κs = search needs
+
+cast-t15 : tie.Need-cast-t15
+cast-t15 c = search needs
 
 write-state-requires : tie.Need-write-state-requires
 write-state-requires c κs = search needs
@@ -26,8 +29,8 @@ returns c o sets =
     let w = c .before .before in
     let f = numbered w in
     let next = f .first-next in
-    w .write-state .ensures o (opened o) sets (opened-shown o (next .result) (λ n. next .ensures n ∙ ap (λ (size : ℕ). firstNext size n) (sym (sets .size))))
+    w .write-state .ensures o (opened o) sets (opened-shown o _ (next .result) (sets .workers) (λ n. next .ensures n ∙ ap (λ (size : ℕ). firstNext size n) (sym (sets .size))))
 
 pub write-opened-spec : {M : Type 1} → statement M
 write-opened-spec =
-    tie.close (tie.spec first-next-requires write-state-requires same-length returns)
+    tie.close (tie.spec first-next-requires cast-t15 write-state-requires same-length returns)

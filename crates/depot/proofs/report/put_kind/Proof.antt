@@ -51,6 +51,15 @@ slice-aggregate-put-text-4 c = search needs
 put-text-requires-4 : tie.Need-put-text-requires-4
 put-text-requires-4 c κs = search needs
 
+enum-told-6 : tie.Need-enum-told-6
+enum-told-6 c = search needs
+
+slice-aggregate-put-text-5 : tie.Need-slice-aggregate-put-text-5
+slice-aggregate-put-text-5 c = search needs
+
+put-text-requires-5 : tie.Need-put-text-requires-5
+put-text-requires-5 c κs = search needs
+
 same-length : tie.Need-same-length
 same-length c = search needs
 
@@ -87,6 +96,15 @@ returns-5 c =
     let told = wrote .before .before .before in
     (rw (told .before .before .before .kind .given .1, told .enum-told5 .given .1) (wrote .put-text4 .ensures), omega arith)
 
+same-length-5 : tie.Need-same-length-5
+same-length-5 c = search needs
+
+returns-6 : tie.Need-returns-6
+returns-6 c =
+    let wrote = c .before .before in
+    let told = wrote .before .before .before in
+    (rw (told .before .before .before .kind .given .1, told .enum-told6 .given .1) (wrote .put-text5 .ensures), omega arith)
+
 pub put-kind-spec : {M : Type 1} → statement M
 put-kind-spec =
     tie.close
@@ -106,6 +124,9 @@ put-kind-spec =
     enum-told-5
     slice-aggregate-put-text-4
     put-text-requires-4
+    enum-told-6
+    slice-aggregate-put-text-5
+    put-text-requires-5
     same-length
     returns-2
     same-length-2
@@ -113,4 +134,6 @@ put-kind-spec =
     same-length-3
     returns-4
     same-length-4
-    returns-5)
+    returns-5
+    same-length-5
+    returns-6)

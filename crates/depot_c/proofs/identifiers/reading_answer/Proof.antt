@@ -28,7 +28,7 @@ character-requires : tie.Need-character-requires
 character-requires c κs = search needs
 
 packed-requires : tie.Need-packed-requires
-packed-requires c κs = (c .before .number .ensures .1, omega arith)
+packed-requires c κs = (omega (arith, c .before .number .ensures .1), omega arith)
 
 returns : tie.Need-returns
 returns c = rw (c .enum-told .given .1)

@@ -45,6 +45,9 @@ returns-2 c = rw (c .before .enum-told4 .given .1, eq-eqb _ 0 (c .if2 .taken))
 replace-requires : tie.Need-replace-requires
 replace-requires c κs = search needs
 
+enum-told-5 : tie.Need-enum-told-5
+enum-told-5 c = search needs
+
 same-length : tie.Need-same-length
 same-length c = search needs
 
@@ -85,6 +88,10 @@ returns-6 c =
     let held = replaced .before .before .before in
     rw (held .before .enum-told4 .given .1, ne-eqb _ 0 (held .if2 .left), replaced .replace .ensures)
 
+returns-7 : tie.Need-returns-7
+unfolding writeKind
+returns-7 c = rw (c .enum-told5 .given .1)
+
 pub serve-spec : {M : Type 1} → statement M
 serve-spec =
     tie.close
@@ -99,6 +106,7 @@ serve-spec =
     enum-told-4
     returns-2
     replace-requires
+    enum-told-5
     same-length
     same-length-2
     returns-3
@@ -108,4 +116,5 @@ serve-spec =
     returns-5
     same-length-5
     same-length-6
-    returns-6)
+    returns-6
+    returns-7)

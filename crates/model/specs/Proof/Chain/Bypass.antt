@@ -22,7 +22,7 @@ use Rattle.model.specs.Proof.Chain.Kept.{kept}
 use Rattle.model.specs.Proof.Chain.Moves.{worker-role, walks-moved}
 use Rattle.model.specs.Proof.Chain.Facts.{on-other, on-not-free, same-next, chain-kept}
 
-module _ (o : Setup) (s : State) (g : Ghost) (i : Inv o s g) (t : ℕ) (low : 1 ≤ t) (high : t ≤ o .workers) (a x : Node)
+module _ (o : Setup) (s : State) (g : Ghost) (i : Inv o s g) (t : ℕ) (low : 1 ≤ t) (high : t ≤ o .largest) (a x : Node)
     (here : s .threads t ≡ Walking a x) (own : s .graph .next (a .0) ≡ x .0) (unlocked : s .graph .locked (x .0) ≡ false) where
   abbrev n : ℕ
   n = x .0

@@ -21,7 +21,7 @@ use Rattle.model.specs.Proof.Chain.StepOn.{stepped, next-alone}
 use Rattle.model.specs.Proof.Chain.Moves.{worker-role, walks-moved}
 use Rattle.model.specs.Proof.Chain.Facts.{on-linked}
 
-module _ (o : Setup) (s : State) (g : Ghost) (i : Inv o s g) (t : ℕ) (low : 1 ≤ t) (high : t ≤ o .workers) (a x : Node)
+module _ (o : Setup) (s : State) (g : Ghost) (i : Inv o s g) (t : ℕ) (low : 1 ≤ t) (high : t ≤ o .largest) (a x : Node)
     (here : s .threads t ≡ Clearing a x) (more : s .graph .next (a .0) ≡ 0 → ⊥) (unlocked : s .graph .locked (s .graph .next (a .0)) ≡ false) where
   abbrev n : ℕ
   n = x .0

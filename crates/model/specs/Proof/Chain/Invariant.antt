@@ -271,4 +271,4 @@ pub record Inv (o : Setup) (s : State) (g : Ghost) : Type 0 where
   pub sets : Sets o (s .graph .seq) (g .linked) (s .graph .executing) (s .graph .waits) (λ t. at (s .threads t)) (λ t. loads (s .threads t)) (λ t. clears (s .threads t))
   pub progress : Progress (s .graph .loaded) (s .graph .seq) (g .written) (g .removed) (λ t. done (s .threads t))
   pub service : Consistent o (s .graph .seq) (g .written) (s .service) (λ t. looked (s .threads t)) (λ t. found (s .threads t))
-  pub roles : Roles (o .workers) (s .threads)
+  pub roles : Roles (o .largest) (s .threads)

@@ -2,7 +2,7 @@
 use Prim.Native.Nat.{ℕ, _≤_}
 use native.Mathlib.Omega.{arith}
 use mathlib.Core.Path.{_≡_, refl, sym, ap, _∙_}
-use mathlib.Core.Bool.{Bool, true, false, cond, _||_, and-eq-true-iff}
+use mathlib.Core.Bool.{Bool, true, false, cond, _||_, and-eq-true-iff, _&&_}
 use mathlib.Core.List.{List, [], _∷_}
 use lib.ListN.{length}
 use lib.Dec.{eqb, leb}
@@ -11,7 +11,7 @@ use Rattle.model.specs.declared.Thread.{Thread}
 use Rattle.model.specs.declared.Thread.the-variants.{Idle, Loading, Searching, Holding, LookedUp, Written, Walking, Clearing}
 use Rattle.model.specs.Setup.{Setup}
 use Rattle.model.specs.Service.{inOneStep}
-use Rattle.model.specs.Step.{State, step, steps, loaderStep, workerStep, loaderIdle, loaderWalk, commandOf, enter, searching, examine, ready, holding, walking, clearing}
+use Rattle.model.specs.Step.{State, step, steps, loaderStep, workerStep, loaderIdle, loaderWalk, commandOf, enter, searching, examine, ready, holding, walking, clearing, isAllowed, idle}
 use Rattle.model.specs.Statement.{Accepted, allWithin}
 use Rattle.model.specs.Proof.Tests.{neither}
 use Rattle.model.specs.Proof.Chain.Invariant.{Ghost, Inv}
@@ -55,15 +55,15 @@ module _ (o : Setup) (acc : Accepted o) (s : State) (g : Ghost) (i : Inv o s g) 
   loader-keeps (Walking a x) e = i
   loader-keeps (Clearing a x) e = i
 
-  module _ (t : ℕ) (low : 1 ≤ t) (high : t ≤ o .workers) where
+  module _ (t : ℕ) (low : 1 ≤ t) (high : t ≤ o .largest) where
     worker-keeps : (th : Thread) → s .threads t ≡ th → Inv o (workerStep o t th s) (workerGhost o th s g)
-    unfolding workerStep workerGhost enter searching examine holding commandOf walking clearing
-    worker-keeps Idle e = by (s .graph .locked 0) (λ _. i) (search-entered o s g i t low high e)
+    unfolding workerStep workerGhost idle enter searching examine holding commandOf walking clearing
+    worker-keeps Idle e = by (isAllowed t s) (λ _. by (s .graph .locked 0) (λ _. i) (search-entered o s g i t low high e)) (λ _. i)
     worker-keeps (Loading a x) e = i
     worker-keeps (Searching a) e =
         by (eqb (s .graph .next (a .0)) 0) (λ b. search-left o s g i t low high a e)
         (λ b. by (s .graph .locked (s .graph .next (a .0))) (λ _. i)
-        (λ u. by (ready (s .graph) (s .graph .next (a .0))) (node-taken o acc s g i t low high a e (eqb-false (s .graph .next (a .0)) 0 b) u)
+        (λ u. by (isAllowed t s && ready (s .graph) (s .graph .next (a .0))) (λ r. node-taken o acc s g i t low high a e (eqb-false (s .graph .next (a .0)) 0 b) u (and-eq-true-iff (isAllowed t s) _ .0 r .1))
         (λ r. search-stepped o s g i t low high a e (eqb-false (s .graph .next (a .0)) 0 b) u)))
     worker-keeps (Holding x) e =
         by-both (inOneStep (commandOf o (s .graph) (x .0))) (λ _. worker-read o s g i t low high x e acc) (λ _. worker-looked-up o s g i t low high x e)
@@ -80,16 +80,16 @@ module _ (o : Setup) (acc : Accepted o) (s : State) (g : Ghost) (i : Inv o s g) 
         (λ b. by (s .graph .locked (s .graph .next (a .0))) (λ _. i) (λ u. worker-cleared o s g i t low high a x e (eqb-false (s .graph .next (a .0)) 0 b) u))
 
 -- a step of any thread up to the worker count
-pub keeps : (o : Setup) → Accepted o → (t : ℕ) → t ≤ o .workers → (s : State) (g : Ghost) → Inv o s g → Inv o (step o t s) (ghostStep o t s g)
+pub keeps : (o : Setup) → Accepted o → (t : ℕ) → t ≤ o .largest → (s : State) (g : Ghost) → Inv o s g → Inv o (step o t s) (ghostStep o t s g)
 unfolding step ghostStep
 keeps o acc t high s g i =
     by-both (eqb t 0) (λ _. loader-keeps o acc s g i (s .threads 0) refl)
     (λ b. let n = eqb-false t 0 b in worker-keeps o acc s g i t (omega (arith, n)) high (s .threads t) refl)
 
 -- a schedule
-pub steps-keep : (o : Setup) → Accepted o → (ts : List ℕ) → allWithin (o .workers) ts ≡ true → (s : State) (g : Ghost) → Inv o s g → Inv o (steps o ts s) (ghostSteps o ts s g)
+pub steps-keep : (o : Setup) → Accepted o → (ts : List ℕ) → allWithin (o .largest) ts ≡ true → (s : State) (g : Ghost) → Inv o s g → Inv o (steps o ts s) (ghostSteps o ts s g)
 unfolding steps ghostSteps allWithin
 steps-keep o acc [] w s g i = i
 steps-keep o acc (t ∷ ts) w s g i =
-    let k = and-eq-true-iff (leb t (o .workers)) (allWithin (o .workers) ts) .0 w in
-    steps-keep o acc ts (k .1) (step o t s) (ghostStep o t s g) (keeps o acc t (leb-true t (o .workers) (k .0)) s g i)
+    let k = and-eq-true-iff (leb t (o .largest)) (allWithin (o .largest) ts) .0 w in
+    steps-keep o acc ts (k .1) (step o t s) (ghostStep o t s g) (keeps o acc t (leb-true t (o .largest) (k .0)) s g i)

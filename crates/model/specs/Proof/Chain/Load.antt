@@ -73,7 +73,7 @@ module _ (o : Setup) (s : State) (g : Ghost) (i : Inv o s g) (here : s .threads 
   used-other : (x : ℕ) → 1 ≤ s .graph .seq x → x ≡ f → ⊥
   used-other x u e = let h = free-node .2 in let k = ap (s .graph .seq) e in omega arith
 
-  same : (x : ℕ) → 1 ≤ s .graph .seq x → seq′ x ≡ s .graph .seq x
+  pub same : (x : ℕ) → 1 ≤ s .graph .seq x → seq′ x ≡ s .graph .seq x
   same x u = upd-other (s .graph .seq) f q x (used-other x u)
 
   same-linked : (x : ℕ) → g .linked x ≡ true → seq′ x ≡ s .graph .seq x

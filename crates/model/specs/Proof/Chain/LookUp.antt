@@ -21,7 +21,7 @@ use Rattle.model.specs.Proof.Chain.Kept.{kept}
 use Rattle.model.specs.Proof.Chain.Moves.{worker-role, walks-moved}
 use Rattle.model.specs.Proof.Chain.Write.{worker-written}
 
-module _ (o : Setup) (s : State) (g : Ghost) (i : Inv o s g) (t : ℕ) (low : 1 ≤ t) (high : t ≤ o .workers) (x : Node) (here : s .threads t ≡ Holding x) where
+module _ (o : Setup) (s : State) (g : Ghost) (i : Inv o s g) (t : ℕ) (low : 1 ≤ t) (high : t ≤ o .largest) (x : Node) (here : s .threads t ≡ Holding x) where
   abbrev f : ℕ
   f = foundFor (commandAt (o .commands) (s .graph .seq (x .0))) (s .service .store)
 

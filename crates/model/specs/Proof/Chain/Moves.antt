@@ -51,7 +51,7 @@ module _ (o : Setup) (s : State) (g : Ghost) (i : Inv o s g) (t : ℕ) (v : Thre
     (same-looked : looked v ≡ looked (s .threads t)) (same-found : found v ≡ found (s .threads t))
     (standing : Standing (g .linked) locks (upd (λ u. at (s .threads u)) t (at v)))
     (walking : (x a : ℕ) → walks v ≡ some x → at v ≡ some a → s .graph .seq a < s .graph .seq x)
-    (roles : Roles (o .workers) (upd (s .threads) t v)) where
+    (roles : Roles (o .largest) (upd (s .threads) t v)) where
   pub quiet-move : Inv o (moved s locks t v) g
   quiet-move = record {
     order = i .order;

@@ -24,7 +24,7 @@ use Rattle.model.specs.Proof.Chain.Stand.{left}
 use Rattle.model.specs.Proof.Chain.Moves.{worker-role, walks-moved}
 use Rattle.model.specs.Proof.Chain.Facts.{done-own, looked-own, walks-own, on-other, on-linked, last-kept, next-linked-kept, next-later-kept, next-first-kept, chain-kept}
 
-module _ (o : Setup) (s : State) (g : Ghost) (i : Inv o s g) (t : ℕ) (low : 1 ≤ t) (high : t ≤ o .workers) (a x : Node)
+module _ (o : Setup) (s : State) (g : Ghost) (i : Inv o s g) (t : ℕ) (low : 1 ≤ t) (high : t ≤ o .largest) (a x : Node)
     (here : s .threads t ≡ Clearing a x) (end : s .graph .next (a .0) ≡ 0) where
   abbrev n : ℕ
   n = x .0

@@ -15,7 +15,7 @@ use Rattle.model.specs.Proof.Chain.StepOn.{stepped}
 use Rattle.model.specs.Proof.Chain.Stand.{entered, left}
 use Rattle.model.specs.Proof.Chain.Moves.{worker-role, quiet-move}
 
-module _ (o : Setup) (s : State) (g : Ghost) (i : Inv o s g) (t : ℕ) (low : 1 ≤ t) (high : t ≤ o .workers) where
+module _ (o : Setup) (s : State) (g : Ghost) (i : Inv o s g) (t : ℕ) (low : 1 ≤ t) (high : t ≤ o .largest) where
   pub search-entered : s .threads t ≡ Idle → s .graph .locked 0 ≡ false → Inv o (moveTo t (Searching (node 0)) (setLocked 0 true (s .graph)) s) g
   unfolding moveTo setLocked
   search-entered here open-head =

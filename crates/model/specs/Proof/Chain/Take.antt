@@ -24,7 +24,7 @@ use Rattle.model.specs.Proof.Chain.Stand.{left}
 use Rattle.model.specs.Proof.Chain.Moves.{worker-role, walks-moved}
 use Rattle.node_set.proofs.Below.{none-below-all-fail}
 
-module _ (o : Setup) (acc : Accepted o) (s : State) (g : Ghost) (i : Inv o s g) (t : ℕ) (low : 1 ≤ t) (high : t ≤ o .workers)
+module _ (o : Setup) (acc : Accepted o) (s : State) (g : Ghost) (i : Inv o s g) (t : ℕ) (low : 1 ≤ t) (high : t ≤ o .largest)
     (a : Node) (here : s .threads t ≡ Searching a) (more : s .graph .next (a .0) ≡ 0 → ⊥) (unlocked : s .graph .locked (s .graph .next (a .0)) ≡ false)
     (is-ready : ready (s .graph) (s .graph .next (a .0)) ≡ true) where
   abbrev y : ℕ

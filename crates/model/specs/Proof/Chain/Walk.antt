@@ -15,7 +15,7 @@ use Rattle.model.specs.Proof.Chain.StepOn.{stepped}
 use Rattle.model.specs.Proof.Chain.Stand.{entered}
 use Rattle.model.specs.Proof.Chain.Moves.{worker-role, quiet-move}
 
-module _ (o : Setup) (s : State) (g : Ghost) (i : Inv o s g) (t : ℕ) (low : 1 ≤ t) (high : t ≤ o .workers) where
+module _ (o : Setup) (s : State) (g : Ghost) (i : Inv o s g) (t : ℕ) (low : 1 ≤ t) (high : t ≤ o .largest) where
   -- the worker's own node is in the chain, so it comes after the head
   pub walk-entered : (x : Node) → s .threads t ≡ Written x → s .graph .locked 0 ≡ false → Inv o (moveTo t (Walking (node 0) x) (setLocked 0 true (s .graph)) s) g
   unfolding moveTo setLocked

@@ -58,7 +58,27 @@ module _ (o : Setup) (s : State) (g : Ghost) (i : Inv o s g) where
           (λ k. sym (ap (g .written) e) ∙ i .progress .done-written (k .0) z (clears-done (s .threads (k .0)) z (k .1))))
           (i .partition .one-of z (omega arith))
 
-module _ (o : Setup) (acc : Accepted o) (s : State) (g : Ghost) (i : Inv o s g) (t : ℕ) (low : 1 ≤ t) (high : t ≤ o .workers) (x : Node) (f : ℕ)
+  -- the command of a worker that has not written has no answer yet: whoever had written it would be another worker with the same node
+  pub unanswered : (t n : ℕ) → executes (s .threads t) ≡ some n → done (s .threads t) ≡ none → g .written (s .graph .seq n) ≡ false
+  unanswered t n own not-yet =
+      fails (g .written c) (λ w. ⊎-elim (λ r. true-false (g .removed c) r (i .progress .removed-gone n used)) (λ (k : (u : ℕ) × (z : ℕ) × (done (s .threads u) ≡ some z) × (s .graph .seq z ≡ c)). other (k .0) (k .1) (k .2) (k .3)) (i .progress .written-done c w))
+    where
+      c : ℕ
+      c = s .graph .seq n
+
+      linked : g .linked n ≡ true
+      linked = i .executing .own-linked t n own
+
+      used : 1 ≤ c
+      used = i .order .linked-used n linked
+
+      other : (u z : ℕ) → done (s .threads u) ≡ some z → s .graph .seq z ≡ c → ⊥
+      other u z d e =
+          let q : n ≡ z = i .order .distinct n z used (sym e) in
+          ⊎-elim (λ k. none-some (done (s .threads t)) not-yet (ap (λ (w : ℕ). done (s .threads w)) (sym (i .executing .alone u t z k (own ∙ ap some q))) ∙ d))
+          (λ k. true-false (g .linked n) linked (ap (g .linked) q ∙ i .clearing .out u z k)) (done-own (s .threads u) z d)
+
+module _ (o : Setup) (acc : Accepted o) (s : State) (g : Ghost) (i : Inv o s g) (t : ℕ) (low : 1 ≤ t) (high : t ≤ o .largest) (x : Node) (f : ℕ)
     (here : s .threads t ≡ LookedUp x f) where
   abbrev n : ℕ
   n = x .0
@@ -81,15 +101,8 @@ module _ (o : Setup) (acc : Accepted o) (s : State) (g : Ghost) (i : Inv o s g) 
   n-used : 1 ≤ c
   n-used = i .order .linked-used n n-linked
 
-  -- the command has no answer yet: whoever had written it would be another worker with the same node
   not-written : g .written c ≡ false
-  not-written = fails (g .written c) (λ w. ⊎-elim (λ r. true-false (g .removed c) r (i .progress .removed-gone n n-used)) (λ (k : (u : ℕ) × (z : ℕ) × (done (s .threads u) ≡ some z) × (s .graph .seq z ≡ c)). other (k .0) (k .1) (k .2) (k .3)) (i .progress .written-done c w))
-    where
-      other : (u z : ℕ) → done (s .threads u) ≡ some z → s .graph .seq z ≡ c → ⊥
-      other u z d e =
-          let q : n ≡ z = i .order .distinct n z n-used (sym e) in
-          ⊎-elim (λ k. none-some (done (s .threads t)) (ap done here) (ap (λ (w : ℕ). done (s .threads w)) (sym (i .executing .alone u t z k (ap executes here ∙ ap some q))) ∙ d))
-          (λ k. true-false (g .linked n) n-linked (ap (g .linked) q ∙ i .clearing .out u z k)) (done-own (s .threads u) z d)
+  not-written = unanswered o s g i t n (ap executes here) (ap done here)
 
   module _ (cmd : Command) (command : commandAt (o .commands) c ≡ some cmd) where
     earlier : EarlierIn o (g .written) c cmd

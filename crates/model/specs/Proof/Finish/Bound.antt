@@ -116,18 +116,18 @@ module _ (o : Setup) (s : State) (g : Ghost) (i : Inv o s g) where
   loader-cost (Clearing a x) e = absurd (true-false false (sym (ap isLoader e) ∙ i .roles .loader) refl)
 
   -- the others cost at most s + 4 each
-  threads-cost : sumBelow (suc (o .workers)) (λ t. cost (o .size) far (s .threads t)) ≤ o .workers * (o .size + 4) + cost (o .size) far (s .threads 0)
+  threads-cost : sumBelow (suc (o .largest)) (λ t. cost (o .size) far (s .threads t)) ≤ o .largest * (o .size + 4) + cost (o .size) far (s .threads 0)
   threads-cost =
       let k = cost-most (o .size) far (s .threads 0) far-size in
-      let a = sum-change (suc (o .workers)) (λ t. cost (o .size) far (s .threads t)) (λ t. o .size + 4) 0 (o .size + 4 - cost (o .size) far (s .threads 0)) 0 (omega arith) (omega arith)
+      let a = sum-change (suc (o .largest)) (λ t. cost (o .size) far (s .threads t)) (λ t. o .size + 4) 0 (o .size + 4 - cost (o .size) far (s .threads 0)) 0 (omega arith) (omega arith)
       (λ u l d. cost-most (o .size) far (s .threads u) far-size) in
-      let b = sum-const (suc (o .workers)) (o .size + 4) in
-      let c = suc-mul (o .workers) (o .size + 4) in
+      let b = sum-const (suc (o .largest)) (o .size + 4) in
+      let c = suc-mul (o .largest) (o .size + 4) in
       omega arith
 
   -- ---- together
-  pub bound : 1 ≤ o .size → Φ o s g ≤ (unremoved o g + o .workers) * (3 * o .size + 6)
+  pub bound : 1 ≤ o .size → Φ o s g ≤ (unremoved o g + o .largest) * (3 * o .size + 6)
   unfolding Φ measure far here
   bound room =
-      total (o .size) (sumBelow (suc (o .workers)) (λ t. cost (o .size) far (s .threads t))) (cost (o .size) far (s .threads 0)) (o .workers) (waiting (o .size) here (s .graph .executing))
+      total (o .size) (sumBelow (suc (o .largest)) (λ t. cost (o .size) far (s .threads t))) (cost (o .size) far (s .threads 0)) (o .largest) (waiting (o .size) here (s .graph .executing))
       (length (o .commands) - s .graph .loaded) (unremoved o g) room threads-cost (loader-cost (s .threads 0) refl) counted

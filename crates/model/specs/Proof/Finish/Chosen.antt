@@ -2,7 +2,7 @@
 use Prim.Native.Nat.{ℕ, suc, _+_, _-_, _≤_, _<_}
 use native.Mathlib.Omega.{arith}
 use mathlib.Core.Path.{_≡_, refl, sym, ap, _∙_}
-use mathlib.Core.Bool.{Bool, true, false, cond, not, and-false, and-eq-true-iff}
+use mathlib.Core.Bool.{Bool, true, false, cond, not, and-false, and-eq-true-iff, _&&_}
 use mathlib.Core.Option.{Option, none, some}
 use mathlib.Core.Logic.{⊎-elim}
 use lib.ListN.{length}
@@ -17,7 +17,7 @@ use Rattle.model.specs.Upd.{upd}
 use Rattle.model.specs.Setup.{Setup, bothDependent}
 use Rattle.model.specs.Graph.{setLocked, setExecuting, setWaits, setNext, setFree, setSeq}
 use Rattle.model.specs.Service.{foundFor, inOneStep, writeFor}
-use Rattle.model.specs.Step.{State, node, step, workerStep, loaderStep, searching, leave, stepOn, examine, ready, moveTo, serveTo, walking, bypass, clearing, return, enter, holding, lookedUp, loaderWalk, link, addDependence, commandOf}
+use Rattle.model.specs.Step.{State, node, step, workerStep, loaderStep, searching, leave, stepOn, examine, ready, moveTo, serveTo, walking, bypass, clearing, return, enter, holding, lookedUp, loaderWalk, link, addDependence, commandOf, isAllowed}
 use Rattle.model.specs.Proof.Tests.{fails, true-false, none-some, eqb-cases}
 use Rattle.model.specs.Proof.Upd.{upd-same, upd-other, upd-id}
 use Rattle.model.specs.Proof.Chain.Invariant.{Ghost, Inv, at, loads, executes, walks, clears, isLoader, isWorker}
@@ -28,33 +28,33 @@ use Rattle.model.specs.Proof.Finish.Measure.{Φ, measure, ahead, cost, a
 
 -- what the measure reads after a move of thread t to v that leaves sequence numbers and taken nodes as they were
 Moved : Setup → State → ℕ → Thread → (ℕ → Bool) → ℕ
-Moved o s t v linked = measure (o .size) (o .workers) (s .graph .seq) (present (upd (s .threads) t v 0) linked) (s .graph .executing) (upd (s .threads) t v) (length (o .commands) - s .graph .loaded)
+Moved o s t v linked = measure (o .size) (o .largest) (s .graph .seq) (present (upd (s .threads) t v 0) linked) (s .graph .executing) (upd (s .threads) t v) (length (o .commands) - s .graph .loaded)
 
 -- how many nodes are ahead of a node
 far : Setup → State → Ghost → ℕ → ℕ
 far o s g = ahead (o .size) (s .graph .seq) (present (s .threads 0) (g .linked))
 
 module _ (o : Setup) (s : State) (g : Ghost) (i : Inv o s g) where
-  -- a thread that stands somewhere is one up to the worker count
-  stands-within : (u b : ℕ) → at (s .threads u) ≡ some b → u ≤ o .workers
-  stands-within u b e = go (leb u (o .workers)) refl
+  -- a thread that stands somewhere is one up to the largest worker count
+  stands-within : (u b : ℕ) → at (s .threads u) ≡ some b → u ≤ o .largest
+  stands-within u b e = go (leb u (o .largest)) refl
     where
-      go : (c : Bool) → leb u (o .workers) ≡ c → u ≤ o .workers
-      go true h = leb-true u (o .workers) h
-      go false h = absurd (none-some (at (s .threads u)) (ap at (i .roles .rest u (leb-false u (o .workers) h))) e)
+      go : (c : Bool) → leb u (o .largest) ≡ c → u ≤ o .largest
+      go true h = leb-true u (o .largest) h
+      go false h = absurd (none-some (at (s .threads u)) (ap at (i .roles .rest u (leb-false u (o .largest) h))) e)
 
   -- worker t takes a waiting node of the chain
-  pub takes-lowered : (t y : ℕ) (threads : ℕ → Thread) → 1 ≤ t → t ≤ o .workers → g .linked y ≡ true → s .graph .executing y ≡ false → threads t ≡ Holding (node y) →
+  pub takes-lowered : (t y : ℕ) (threads : ℕ → Thread) → 1 ≤ t → t ≤ o .largest → g .linked y ≡ true → s .graph .executing y ≡ false → threads t ≡ Holding (node y) →
       ((u : ℕ) → (u ≡ t → ⊥) → threads u ≡ s .threads u) →
-      measure (o .size) (o .workers) (s .graph .seq) (present (threads 0) (g .linked)) (upd (s .graph .executing) y true) threads (length (o .commands) - s .graph .loaded) + 2 ≤ Φ o s g
+      measure (o .size) (o .largest) (s .graph .seq) (present (threads 0) (g .linked)) (upd (s .graph .executing) y true) threads (length (o .commands) - s .graph .loaded) + 2 ≤ Φ o s g
   unfolding Φ cost
   takes-lowered t y threads low within on wait mine others =
       let here = present (s .threads 0) (g .linked) in
-      rw (others 0 (λ e. absurd (omega arith))) (taken-lowered (o .size) (o .workers) (s .graph .seq) (s .graph .seq) here here (s .graph .executing) (upd (s .graph .executing) y true) (s .threads) threads t within
+      rw (others 0 (λ e. absurd (omega arith))) (taken-lowered (o .size) (o .largest) (s .graph .seq) (s .graph .seq) here here (s .graph .executing) (upd (s .graph .executing) y true) (s .threads) threads t within
       others (λ u b d q z h m. (h, m)) (length (o .commands) - s .graph .loaded) y (λ z d h m. (h, sym (upd-other (s .graph .executing) y true z d) ∙ m))
       (i .order .used-size y (i .order .linked-used y on)) (linked-present (s .threads 0) (g .linked) y on) wait (upd-same (s .graph .executing) y true) (rw mine (omega arith)))
 
-  module _ (t : ℕ) (within : t ≤ o .workers) (foremost : Foremost o s t) where
+  module _ (t : ℕ) (within : t ≤ o .largest) (foremost : Foremost o s t) where
     -- no locked node is further along: whoever stands there would be
     locked-behind : (x : ℕ) → s .graph .locked x ≡ true → suc (suc (s .graph .seq x)) ≤ rank (s .graph .seq) (s .threads t)
     locked-behind x h =
@@ -82,7 +82,7 @@ module _ (o : Setup) (s : State) (g : Ghost) (i : Inv o s g) where
         cost (o .size) (far o s g) v + 1 ≤ cost (o .size) (far o s g) (s .threads t) → Moved o s t v linked + 1 ≤ Φ o s g
     unfolding Φ Moved far
     thread-lowered v linked same mine =
-        rw same (lowered (o .size) (o .workers) (s .graph .seq) (s .graph .seq) (present (s .threads 0) (g .linked)) (present (s .threads 0) (g .linked)) (s .graph .executing) (s .graph .executing) (s .threads) (upd (s .threads) t v) t within
+        rw same (lowered (o .size) (o .largest) (s .graph .seq) (s .graph .seq) (present (s .threads 0) (g .linked)) (present (s .threads 0) (g .linked)) (s .graph .executing) (s .graph .executing) (s .threads) (upd (s .threads) t v) t within
         (λ u d. upd-other (s .threads) t v u d) (λ u b d q z h m. (h, m)) (length (o .commands) - s .graph .loaded) (λ z h m. (h, m)) (rw (upd-same (s .threads) t v) mine))
 
     -- fewer nodes are ahead of the next node
@@ -121,10 +121,10 @@ module _ (o : Setup) (s : State) (g : Ghost) (i : Inv o s g) where
 
       searching-lowered : Φ o (workerStep o t (Searching a) s) (workerGhost o (Searching a) s g) + 1 ≤ Φ o s g
       unfolding workerStep workerGhost searching examine
-      searching-lowered = ⊎-elim (λ e. rw (e .1) search-leaves) (λ e. rw (e .1, next-open (a .0) (ap at here) (e .0)) (go (e .0) (ready (s .graph) (s .graph .next (a .0))) refl)) (eqb-cases (s .graph .next (a .0)) 0)
+      searching-lowered = ⊎-elim (λ e. rw (e .1) search-leaves) (λ e. rw (e .1, next-open (a .0) (ap at here) (e .0)) (go (e .0) (isAllowed t s && ready (s .graph) (s .graph .next (a .0))) refl)) (eqb-cases (s .graph .next (a .0)) 0)
         where
-          go : (s .graph .next (a .0) ≡ 0 → ⊥) → (b : Bool) → ready (s .graph) (s .graph .next (a .0)) ≡ b → Φ o (examine t (a .0) (s .graph .next (a .0)) s) g + 1 ≤ Φ o s g
-          go more true e = rw e (search-takes more (not-true (s .graph .executing (s .graph .next (a .0))) (and-eq-true-iff (not (s .graph .executing (s .graph .next (a .0)))) (noneBelow 192 (s .graph .waits (s .graph .next (a .0)))) .0 e .0)))
+          go : (s .graph .next (a .0) ≡ 0 → ⊥) → (b : Bool) → isAllowed t s && ready (s .graph) (s .graph .next (a .0)) ≡ b → Φ o (examine t (a .0) (s .graph .next (a .0)) s) g + 1 ≤ Φ o s g
+          go more true e = rw e (search-takes more (not-true (s .graph .executing (s .graph .next (a .0))) (and-eq-true-iff (not (s .graph .executing (s .graph .next (a .0)))) (noneBelow 192 (s .graph .waits (s .graph .next (a .0)))) .0 (and-eq-true-iff (isAllowed t s) _ .0 e .1) .0)))
           go more false e = rw e (search-on more)
 
     -- the foremost worker that holds a node looks up, writes, and enters at the head, where nobody stands
@@ -195,7 +195,7 @@ module _ (o : Setup) (s : State) (g : Ghost) (i : Inv o s g) where
           let v = Clearing (node (a .0)) (node (x .0)) in
           let l = bypassed in
           rw (upd-other (s .threads) t v 0 (λ e. absurd (omega arith)))
-          (lowered (o .size) (o .workers) (s .graph .seq) (s .graph .seq) (present (s .threads 0) (g .linked)) (present (s .threads 0) (upd (g .linked) (x .0) false)) (s .graph .executing) (s .graph .executing) (s .threads) (upd (s .threads) t v) t within
+          (lowered (o .size) (o .largest) (s .graph .seq) (s .graph .seq) (present (s .threads 0) (g .linked)) (present (s .threads 0) (upd (g .linked) (x .0) false)) (s .graph .executing) (s .graph .executing) (s .threads) (upd (s .threads) t v) t within
           (λ u d. upd-other (s .threads) t v u d) (λ u b d q z h m. (unlinked-present (s .threads 0) (g .linked) (x .0) z h, m)) (length (o .commands) - s .graph .loaded) (λ z h m. (unlinked-present (s .threads 0) (g .linked) (x .0) z h, m))
           (rw (upd-same (s .threads) t v, here) (omega arith)))
 
@@ -231,7 +231,7 @@ module _ (o : Setup) (s : State) (g : Ghost) (i : Inv o s g) where
       unfolding Φ return setFree setNext setSeq setExecuting setLocked setWaits moveTo cost
       clear-return =
           rw (upd-other (s .threads) t Idle 0 (λ e. absurd (omega arith)))
-          (lowered (o .size) (o .workers) (s .graph .seq) (upd (s .graph .seq) (x .0) 0) (present (s .threads 0) (g .linked)) (present (s .threads 0) (g .linked)) (s .graph .executing) (upd (s .graph .executing) (x .0) false) (s .threads) (upd (s .threads) t Idle) t within
+          (lowered (o .size) (o .largest) (s .graph .seq) (upd (s .graph .seq) (x .0) 0) (present (s .threads 0) (g .linked)) (present (s .threads 0) (g .linked)) (s .graph .executing) (upd (s .graph .executing) (x .0) false) (s .threads) (upd (s .threads) t Idle) t within
           (λ u d. upd-other (s .threads) t Idle u d)
           (λ u b d q z h m. (h, rw (upd-other (s .graph .seq) (x .0) 0 b (own-free u b q), upd-other (s .graph .seq) (x .0) 0 z (own-absent z h)) at m)) (length (o .commands) - s .graph .loaded)
           (λ z h m. (h, sym (upd-other (s .graph .executing) (x .0) false z (own-absent z h)) ∙ m)) (rw (upd-same (s .threads) t Idle, here) (omega arith)))
@@ -297,7 +297,7 @@ module _ (o : Setup) (s : State) (g : Ghost) (i : Inv o s g) where
     loading-lowered = ⊎-elim (λ e. rw (e .1) load-links) (λ e. rw (e .1, next-open 0 (omega arith) foremost (a .0) (ap at here) (e .0)) (load-on (e .0))) (eqb-cases (s .graph .next (a .0)) 0)
 
   -- each case of the worker's list, and of the loader's
-  module _ (t : ℕ) (within : t ≤ o .workers) (foremost : Foremost o s t) (low : 1 ≤ t) where
+  module _ (t : ℕ) (within : t ≤ o .largest) (foremost : Foremost o s t) (low : 1 ≤ t) where
     worker-lowered : (thread : Thread) → s .threads t ≡ thread → 1 ≤ rank (s .graph .seq) thread → Φ o (workerStep o t thread s) (workerGhost o thread s g) + 1 ≤ Φ o s g
     unfolding rank
     worker-lowered Idle here r = absurd (omega arith)
@@ -322,7 +322,7 @@ module _ (o : Setup) (s : State) (g : Ghost) (i : Inv o s g) where
   loader-lowered foremost (Clearing a x) here r = absurd (true-false false (sym (ap isLoader here) ∙ i .roles .loader) refl)
 
   -- a step of the foremost thread lowers the measure, unless that thread is idle
-  pub foremost-lowered : (t : ℕ) → t ≤ o .workers → Foremost o s t →
+  pub foremost-lowered : (t : ℕ) → t ≤ o .largest → Foremost o s t →
       1 ≤ rank (s .graph .seq) (s .threads t) → Φ o (step o t s) (ghostStep o t s g) + 1 ≤ Φ o s g
   unfolding step ghostStep
   foremost-lowered t within foremost r =

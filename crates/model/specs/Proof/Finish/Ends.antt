@@ -23,48 +23,49 @@ use Rattle.model.specs.Proof.Finish.Idle.{first-lowered, next-lowered, a
 use Rattle.model.specs.Proof.Finish.Bound.{unremoved, bound}
 use Rattle.model.specs.Proof.Chain.Keep.{steps-keep}
 use Rattle.model.specs.Proof.Finish.Schedule.{steps-tell, steps-append, ghostSteps-append, within-append}
+use Rattle.model.specs.Proof.Service.{largest-fits, count-within}
 
 -- every command is removed, and every thread idle
 abbrev pub Finished : Setup → State → Ghost → Type 0
-Finished o s g = EachCommand o (λ c. g .removed c ≡ true) × ((t : ℕ) → t ≤ o .workers → s .threads t ≡ Idle)
+Finished o s g = EachCommand o (λ c. g .removed c ≡ true) × ((t : ℕ) → t ≤ o .largest → s .threads t ≡ Idle)
 
--- the steps m are threads' up to the worker count, at least one, and lower the measure by at least their number
+-- the steps m are threads' up to the largest worker count, at least one, and lower the measure by at least their number
 abbrev Lowers : Setup → State → Ghost → List ℕ → Type 0
-Lowers o s g m = (allWithin (o .workers) m ≡ true) × (1 ≤ length m) × (Φ o (steps o m s) (ghostSteps o m s g) + length m ≤ Φ o s g)
+Lowers o s g m = (allWithin (o .largest) m ≡ true) × (1 ≤ length m) × (Φ o (steps o m s) (ghostSteps o m s g) + length m ≤ Φ o s g)
 
 -- the steps m are none and all is finished, or they lower the measure
 abbrev Serves : Setup → State → Ghost → List ℕ → Type 0
 Serves o s g m = ((m ≡ []) × Finished o s g) ⊎ Lowers o s g m
 
--- the steps m are threads' up to the worker count and finish, and they are no more than the measure says
+-- the steps m are threads' up to the largest worker count and finish, and they are no more than the measure says
 abbrev pub Finishes : Setup → State → Ghost → List ℕ → Type 0
-Finishes o s g m = (allWithin (o .workers) m ≡ true) × Finished o (steps o m s) (ghostSteps o m s g) × (length m ≤ Φ o s g)
+Finishes o s g m = (allWithin (o .largest) m ≡ true) × Finished o (steps o m s) (ghostSteps o m s g) × (length m ≤ Φ o s g)
 
 module _ (o : Setup) (accepted : Accepted o) (s : State) (g : Ghost) (i : Inv o s g) where
   -- the chosen thread is foremost
   chosen-foremost : Foremost o s (chosen o s)
   unfolding chosen
-  chosen-foremost u h = foremost-largest (λ t. rank (s .graph .seq) (s .threads t)) (o .workers) u h
+  chosen-foremost u h = foremost-largest (λ t. rank (s .graph .seq) (s .threads t)) (o .largest) u h
 
-  chosen-within : chosen o s ≤ o .workers
+  chosen-within : chosen o s ≤ o .largest
   unfolding chosen
-  chosen-within = foremost-within (λ t. rank (s .graph .seq) (s .threads t)) (o .workers)
+  chosen-within = foremost-within (λ t. rank (s .graph .seq) (s .threads t)) (o .largest)
 
   -- where it is idle, all threads are
   all-idle : rank (s .graph .seq) (s .threads (chosen o s)) ≡ 0 → (t : ℕ) → s .threads t ≡ Idle
-  all-idle e t = ⊎-elim (λ l. let f = chosen-foremost t l in rank-idle (s .graph .seq) (s .threads t) (omega arith)) (λ l. i .roles .rest t l) (le-cases t (o .workers))
+  all-idle e t = ⊎-elim (λ l. let f = chosen-foremost t l in rank-idle (s .graph .seq) (s .threads t) (omega arith)) (λ l. i .roles .rest t l) (le-cases t (o .largest))
 
   -- a step of the chosen thread lowers the measure
   chosen-moves : (rank (s .graph .seq) (s .threads (chosen o s)) ≡ 0 → ⊥) → Lowers o s g (chosen o s ∷ [])
   unfolding steps ghostSteps allWithin
   chosen-moves d =
       let l = foremost-lowered o s g i (chosen o s) chosen-within chosen-foremost (omega arith) in
-      (rw (le-leb (chosen o s) (o .workers) chosen-within), omega arith, omega arith)
+      (rw (le-leb (chosen o s) (o .largest) chosen-within), omega arith, omega arith)
 
   -- two steps of a thread that lower the measure by two
-  pairs : (t : ℕ) → t ≤ o .workers → Φ o (step o t (step o t s)) (ghostStep o t (step o t s) (ghostStep o t s g)) + 2 ≤ Φ o s g → Lowers o s g (t ∷ t ∷ [])
+  pairs : (t : ℕ) → t ≤ o .largest → Φ o (step o t (step o t s)) (ghostStep o t (step o t s) (ghostStep o t s g)) + 2 ≤ Φ o s g → Lowers o s g (t ∷ t ∷ [])
   unfolding steps ghostSteps allWithin
-  pairs t within l = (rw (le-leb t (o .workers) within), omega arith, omega arith)
+  pairs t within l = (rw (le-leb t (o .largest) within), omega arith, omega arith)
 
   -- where the chain is empty: load and link the next command, or all is finished
   loader-moves : ((t : ℕ) → s .threads t ≡ Idle) → s .graph .next 0 ≡ 0 → Serves o s g (cond (leb (length (o .commands)) (s .graph .loaded)) [] (0 ∷ 0 ∷ []))
@@ -72,13 +73,17 @@ module _ (o : Setup) (accepted : Accepted o) (s : State) (g : Ghost) (i : Inv o 
       ⊎-elim (λ l. rw (le-leb (length (o .commands)) (s .graph .loaded) l) (inl (refl, (λ c low high. all-removed o s g i idle end c low (omega arith), λ t h. idle t))))
       (λ l. rw (lt-leb (length (o .commands)) (s .graph .loaded) l) (inr (pairs 0 (omega arith) (next-lowered o s g i idle end (accepted .size .0) l)))) (le-cases (length (o .commands)) (s .graph .loaded))
 
+  -- worker 1 is within the count in force
+  limit-positive : 1 ≤ s .service .limit
+  limit-positive = rw (i .service .limited) (count-within o accepted (g .written) .0)
+
   -- each move lowers the measure, unless all is finished
   next-moves : Serves o s g (moves o s)
   unfolding moves
   next-moves =
       ⊎-elim
       (λ e. rw (e .1) (⊎-elim (λ n. rw (n .1) (loader-moves (all-idle (e .0)) (n .0)))
-      (λ n. rw (n .1) (inr (pairs 1 (accepted .workers .0) (first-lowered o s g i (all-idle (e .0)) (accepted .workers .0) (n .0))))) (eqb-cases (s .graph .next 0) 0)))
+      (λ n. rw (n .1) (inr (pairs 1 (largest-fits o accepted .0) (first-lowered o s g i (all-idle (e .0)) (largest-fits o accepted .0) limit-positive (n .0))))) (eqb-cases (s .graph .next 0) 0)))
       (λ e. rw (e .1) (inr (chosen-moves (e .0)))) (eqb-cases (rank (s .graph .seq) (s .threads (chosen o s))) 0)
 
 -- where no move is left, the strategy has no step
@@ -96,7 +101,7 @@ none-finishes o s g f = (refl, f, omega arith)
 then-finishes : (o : Setup) (s : State) (g : Ghost) (l m : List ℕ) → Lowers o s g l → Finishes o (steps o l s) (ghostSteps o l s g) m → Finishes o s g (l ++ m)
 then-finishes o s g l m p q =
     let a = length-append l m in let b = p .2 in let c = q .2 in
-    (within-append (o .workers) l m (p .0) (q .0), rw (steps-append o l m s, ghostSteps-append o l m s g) (q .1), omega arith)
+    (within-append (o .largest) l m (p .0) (q .0), rw (steps-append o l m s, ghostSteps-append o l m s g) (q .1), omega arith)
 
 module _ (o : Setup) (accepted : Accepted o) where
   -- by the measure: each move lowers it, and where no move is left all is finished
@@ -114,13 +119,13 @@ module _ (o : Setup) (accepted : Accepted o) where
   finishes s g i = finishes-within (Φ o s g) s g i (omega arith)
 
   -- within the bound on its steps
-  pub finishes-soon : (s : State) (g : Ghost) → Inv o s g → length (strategy o (Φ o s g) s) ≤ (unremoved o g + o .workers) * (3 * o .size + 6)
+  pub finishes-soon : (s : State) (g : Ghost) → Inv o s g → length (strategy o (Φ o s g) s) ≤ (unremoved o g + o .largest) * (3 * o .size + 6)
   finishes-soon s g i = let a = finishes s g i .2 in let b = bound o s g i (accepted .size .0) in omega arith
 
   -- After a schedule from a state in which no command is removed, the strategy's steps leave every command returned by the schedule or by
   -- themselves, and every thread idle.
-  pub schedule-finishes : (s : State) (g : Ghost) → Inv o s g → ((c : ℕ) → g .removed c ≡ false) → (ts : List ℕ) → allWithin (o .workers) ts ≡ true →
-      (more : List ℕ) × (allWithin (o .workers) more ≡ true) × EachCommand o (λ c. removed o c (ts ++ more) s ≡ true) × ((t : ℕ) → t ≤ o .workers → steps o (ts ++ more) s .threads t ≡ Idle)
+  pub schedule-finishes : (s : State) (g : Ghost) → Inv o s g → ((c : ℕ) → g .removed c ≡ false) → (ts : List ℕ) → allWithin (o .largest) ts ≡ true →
+      (more : List ℕ) × (allWithin (o .largest) more ≡ true) × EachCommand o (λ c. removed o c (ts ++ more) s ≡ true) × ((t : ℕ) → t ≤ o .largest → steps o (ts ++ more) s .threads t ≡ Idle)
   schedule-finishes s g i none-removed ts within =
       let s′ = steps o ts s in
       let g′ = ghostSteps o ts s g in
@@ -128,8 +133,8 @@ module _ (o : Setup) (accepted : Accepted o) where
       let f = finishes s′ g′ (steps-keep o accepted ts within s g i) in
       (more, f .0, returned more (f .0) (f .1 .0), rw (steps-append o ts more s) (f .1 .1))
     where
-      returned : (more : List ℕ) → allWithin (o .workers) more ≡ true → EachCommand o (λ c. ghostSteps o more (steps o ts s) (ghostSteps o ts s g) .removed c ≡ true) →
+      returned : (more : List ℕ) → allWithin (o .largest) more ≡ true → EachCommand o (λ c. ghostSteps o more (steps o ts s) (ghostSteps o ts s g) .removed c ≡ true) →
           EachCommand o (λ c. removed o c (ts ++ more) s ≡ true)
       returned more w h c low high =
-          let k = steps-tell o accepted c low (ts ++ more) (within-append (o .workers) ts more within w) s g i .1 in
+          let k = steps-tell o accepted c low (ts ++ more) (within-append (o .largest) ts more within w) s g i .1 in
           sym (k ∙ rw (none-removed c) (or-false (removed o c (ts ++ more) s))) ∙ (ap (λ (z : Ghost). z .removed c) (ghostSteps-append o ts more s g) ∙ h c low high)

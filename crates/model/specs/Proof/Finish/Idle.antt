@@ -9,13 +9,13 @@ use mathlib.Core.Option.{none}
 use mathlib.Core.Logic.{_⊎_, inl, inr, ⊎-elim}
 use lib.ListN.{length}
 use lib.Dec.{eqb}
-use borrow.Author.Tests.{eq-eqb, ne-eqb, lt-leb}
+use borrow.Author.Tests.{eq-eqb, ne-eqb, le-leb, lt-leb}
 use Rattle.node_set.proofs.Below.{all-fail-none-below}
 use Rattle.model.specs.declared.Thread.the-variants.{Idle, Loading, Searching, Holding}
 use Rattle.model.specs.Upd.{upd}
 use Rattle.model.specs.Setup.{Setup}
 use Rattle.model.specs.Graph.{setLocked, setExecuting, setNext, setFree, setSeq, setLoaded}
-use Rattle.model.specs.Step.{State, node, step, workerStep, loaderStep, loaderIdle, loaderWalk, load, link, enter, searching, examine, ready, stepOn, moveTo}
+use Rattle.model.specs.Step.{State, node, isAllowed, idle as stepIdle, step, workerStep, loaderStep, loaderIdle, loaderWalk, load, link, enter, searching, examine, ready, stepOn, moveTo}
 use Rattle.model.specs.Proof.Tests.{fails, none-some, eqb-cases}
 use Rattle.model.specs.Proof.Upd.{upd-same, upd-other}
 use Rattle.model.specs.Proof.Chain.Invariant.{Ghost, Inv, In, ChainFrom, at, loads, executes, clears}
@@ -40,7 +40,7 @@ module _ (o : Setup) (s : State) (g : Ghost) (i : Inv o s g) (idle : (t : ℕ) �
       ⊎-elim (λ e. e) (λ d. absurd (⊎-elim (λ e. none-some none refl (sym (ap loads (idle (e .0))) ∙ e .1)) (λ e. none-some none refl (sym (ap clears (idle (e .0))) ∙ e .1)) d)) (i .partition .one-of x h)
 
   -- ---- the chain is not empty
-  module _ (within : 1 ≤ o .workers) (more : s .graph .next 0 ≡ 0 → ⊥) where
+  module _ (within : 1 ≤ o .largest) (allowed : 1 ≤ s .service .limit) (more : s .graph .next 0 ≡ 0 → ⊥) where
     -- the first node
     first : ℕ
     first = s .graph .next 0
@@ -72,12 +72,12 @@ module _ (o : Setup) (s : State) (g : Ghost) (i : Inv o s g) (idle : (t : ℕ) �
     held = moveTo 1 (Holding (node first)) (setLocked first false (setExecuting first true (stepOn 0 first (entered .graph)))) entered
 
     enters : step o 1 s ≡ entered
-    unfolding entered step workerStep enter
-    enters = rw (idle 1, open-all 0)
+    unfolding entered step workerStep stepIdle isAllowed enter
+    enters = rw (idle 1, le-leb 1 (s .service .limit) allowed, open-all 0)
 
     takes : step o 1 entered ≡ held
-    unfolding held entered step workerStep first searching examine ready moveTo setLocked
-    takes = rw (upd-same (s .threads) 1 (Searching (node 0)), ne-eqb (s .graph .next 0) 0 more, upd-other (s .graph .locked) 0 true (s .graph .next 0) more, open-all (s .graph .next 0), first-ready)
+    unfolding held entered step workerStep first searching examine isAllowed ready moveTo setLocked
+    takes = rw (upd-same (s .threads) 1 (Searching (node 0)), ne-eqb (s .graph .next 0) 0 more, upd-other (s .graph .locked) 0 true (s .graph .next 0) more, open-all (s .graph .next 0), le-leb 1 (s .service .limit) allowed, first-ready)
 
     enters-ghost : ghostStep o 1 s g ≡ g
     unfolding ghostStep workerGhost
@@ -156,7 +156,7 @@ module _ (o : Setup) (s : State) (g : Ghost) (i : Inv o s g) (idle : (t : ℕ) �
           let threads = upd (upd (s .threads) 0 (Loading (node 0) (node n))) 0 Idle in
           let mine : threads 0 ≡ Idle = upd-same (upd (s .threads) 0 (Loading (node 0) (node n))) 0 Idle in
           let one-less : length (o .commands) - s .graph .loaded ≡ suc (length (o .commands) - (s .graph .loaded + 1)) = omega arith in
-          rw one-less (loaded-lowered (o .size) (o .workers) (s .graph .seq) (upd (s .graph .seq) n (s .graph .loaded + 1)) (present (s .threads 0) (g .linked)) (present (threads 0) (upd (g .linked) n true))
+          rw one-less (loaded-lowered (o .size) (o .largest) (s .graph .seq) (upd (s .graph .seq) n (s .graph .loaded + 1)) (present (s .threads 0) (g .linked)) (present (threads 0) (upd (g .linked) n true))
           (s .graph .executing) (upd (s .graph .executing) n false) (s .threads) threads 0 (omega arith)
           (λ u d. upd-other (upd (s .threads) 0 (Loading (node 0) (node n))) 0 Idle u d ∙ upd-other (s .threads) 0 (Loading (node 0) (node n)) u d)
           (λ u b d q. absurd (none-some none refl (sym (ap at (idle u)) ∙ q))) (length (o .commands) - (s .graph .loaded + 1)) n

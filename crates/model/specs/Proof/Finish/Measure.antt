@@ -43,7 +43,7 @@ measure size workers seq here executing threads left =
 
 -- the measure of a state
 unfoldable pub Φ : Setup → State → Ghost → ℕ
-Φ o s g = measure (o .size) (o .workers) (s .graph .seq) (present (s .threads 0) (g .linked)) (s .graph .executing) (s .threads) (length (o .commands) - s .graph .loaded)
+Φ o s g = measure (o .size) (o .largest) (s .graph .seq) (present (s .threads 0) (g .linked)) (s .graph .executing) (s .threads) (length (o .commands) - s .graph .loaded)
 
 -- ---- how it changes
 

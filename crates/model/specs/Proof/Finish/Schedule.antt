@@ -110,13 +110,13 @@ or-swap false false c = refl
 -- ---- a schedule
 module _ (o : Setup) (accepted : Accepted o) where
   -- the answered and the removed commands after a schedule are those before it, and those that it wrote and returned
-  pub steps-tell : (c : ℕ) → 1 ≤ c → (ts : List ℕ) → allWithin (o .workers) ts ≡ true → (s : State) (g : Ghost) → Inv o s g →
+  pub steps-tell : (c : ℕ) → 1 ≤ c → (ts : List ℕ) → allWithin (o .largest) ts ≡ true → (s : State) (g : Ghost) → Inv o s g →
       (ghostSteps o ts s g .written c ≡ (wrote o c ts s || g .written c)) × (ghostSteps o ts s g .removed c ≡ (removed o c ts s || g .removed c))
   unfolding ghostSteps allWithin wrote removed
   steps-tell c low [] h s g i = (refl, refl)
   steps-tell c low (t ∷ ts) h s g i =
-      let e = and-eq-true-iff (leb t (o .workers)) (allWithin (o .workers) ts) .0 h in
-      let k = keeps o accepted t (leb-true t (o .workers) (e .0)) s g i in
+      let e = and-eq-true-iff (leb t (o .largest)) (allWithin (o .largest) ts) .0 h in
+      let k = keeps o accepted t (leb-true t (o .largest) (e .0)) s g i in
       let r = steps-tell c low ts (e .1) (step o t s) (ghostStep o t s g) k in
       let one = step-tells o s g c low t (i .roles .loader) in (
         r .0 ∙ rw (one .0) (or-swap (wrote o c ts (step o t s)) (eqb (writes o (s .threads t) s) c) (g .written c)),

@@ -33,13 +33,13 @@ unfoldable pub foremost : (ℕ → ℕ) → ℕ → ℕ
 foremost rank zero = 0
 foremost rank (suc n) = cond (ltb (rank (foremost rank n)) (rank (suc n))) (suc n) (foremost rank n)
 
--- no thread up to the worker count has a larger rank than thread t
+-- no thread up to the largest worker count has a larger rank than thread t
 abbrev pub Foremost : Setup → State → ℕ → Type 0
-Foremost o s t = (u : ℕ) → u ≤ o .workers → rank (s .graph .seq) (s .threads u) ≤ rank (s .graph .seq) (s .threads t)
+Foremost o s t = (u : ℕ) → u ≤ o .largest → rank (s .graph .seq) (s .threads u) ≤ rank (s .graph .seq) (s .threads t)
 
--- the thread to step, of all threads up to the worker count
+-- the thread to step, of all threads up to the largest worker count
 unfoldable pub chosen : Setup → State → ℕ
-chosen o s = foremost (λ t. rank (s .graph .seq) (s .threads t)) (o .workers)
+chosen o s = foremost (λ t. rank (s .graph .seq) (s .threads t)) (o .largest)
 
 -- The next steps: the chosen thread's, unless all are idle. Then worker 1 enters and takes the first node of the chain; where the chain is
 -- empty, the loader loads and links the next command; where none is left, no step.

@@ -2,7 +2,7 @@
 use Prim.Native.Nat.{ℕ, _+_, _≤_, _<_}
 use native.Mathlib.Omega.{arith}
 use mathlib.Core.Path.{_≡_, refl, subst}
-use mathlib.Core.Bool.{Bool, true, false, _||_, and-eq-true-iff}
+use mathlib.Core.Bool.{Bool, true, false, _||_, and-eq-true-iff, _&&_}
 use mathlib.Core.List.{List, [], _∷_}
 use mathlib.Core.Option.{Option, none, some}
 use lib.ListN.{length}
@@ -15,7 +15,7 @@ use Rattle.model.specs.Upd.{upd}
 use Rattle.model.specs.Setup.{Setup, commandAt, bothDependent}
 use Rattle.model.specs.Graph.{Graph, noNode}
 use Rattle.model.specs.Service.{Service, foundFor, inOneStep, writeFor}
-use Rattle.model.specs.Step.{State, node, moveTo, serveTo, commandOf, stepOn, load, loaderIdle, link, addDependence, loaderWalk, loaderStep}
+use Rattle.model.specs.Step.{State, node, moveTo, serveTo, commandOf, stepOn, load, loaderIdle, link, addDependence, loaderWalk, loaderStep, isAllowed, idle}
 use Rattle.model.specs.Step.{enter, ready, examine, leave, searching, holding, lookedUp, bypass, walking, return, clearing, workerStep, step, steps}
 use Rattle.model.specs.Statement.{allWithin}
 use Rattle.model.specs.Proof.Tests.{true-false, neither, cond-cases}
@@ -24,6 +24,9 @@ use Rattle.model.specs.Proof.Chain.Facts.{command-place}
 use Rattle.model.specs.Proof.Formed.{ThreadFormed, ThreadAt, AnswerAt, SetupFormed, GraphFormed, ServiceFormed, Formed}
 use Rattle.model.specs.Proof.Formed.Store.{lookUp-fits, writeKind-formed}
 use Rattle.model.specs.Proof.Formed.Set.{upd-keeps, moved-formed, served-formed, next-set, seq-set, executing-set, locked-set, waits-set, free-set, loaded-set}
+use Rattle.command.specs.Dependent.{hasItem}
+use Rattle.command.proofs.Count.{count-fits}
+use Rattle.command.proofs.Laws.{chute-that-fits}
 
 module _ (o : Setup) (fit : SetupFormed o) where
   -- what the thread's state at t says of its nodes
@@ -110,7 +113,7 @@ module _ (o : Setup) (fit : SetupFormed o) where
     pub found-fits : (c : Option Command) → foundFor c (v .store) < 65536
     unfolding foundFor
     found-fits none = omega arith
-    found-fits (some cmd) = lookUp-fits (v .store) (k .store) (cmd .key)
+    found-fits (some cmd) = cond-cases (λ (n : ℕ). n < 65536) (hasItem (cmd .kind)) (λ _. lookUp-fits (v .store) (k .store) (cmd .key)) (λ _. omega arith)
 
     -- a command writes its chute, of two bytes, and an answer at its own place
     pub write-formed : (c found : ℕ) → c ≤ length (o .commands) → (cmd : Option Command) → commandAt (o .commands) c ≡ cmd → ServiceFormed o (writeFor o cmd c found v)
@@ -119,16 +122,17 @@ module _ (o : Setup) (fit : SetupFormed o) where
     write-formed c found h (some cmd) e =
         let l = command-place (o .commands) c cmd e in
         record {
-          store = writeKind-formed (v .store) (k .store) (cmd .kind) (o .capacity) (cmd .key) (cmd .chute) found (fit .chutes c cmd e);
+          store = writeKind-formed (v .store) (k .store) (cmd .kind) (o .capacity) (cmd .key) (cmd .chute) found (omega (arith, chute-that-fits (cmd .kind) (cmd .chute) (fit .chutes c cmd e)));
           answers = upd-keeps (AnswerAt (length (o .commands))) c (λ e. absurd (omega arith), λ e. absurd (omega arith)) (k .answers);
+          limit = count-fits cmd (v .limit) (fit .chutes c cmd e) (k .limit);
         }
 
   -- ---- the workers
 
-  module _ (t : ℕ) (low : 1 ≤ t) (high : t ≤ o .workers) where
+  module _ (t : ℕ) (low : 1 ≤ t) (high : t ≤ o .largest) where
     -- a worker's new state needs its nodes and its role
     worker-at : (v : Thread) → ThreadFormed (o .size) v → isWorker v ≡ true → ThreadAt (o .size) t v
-    worker-at v h r = (h, λ p. absurd (omega (arith, fit .workers)), λ p. absurd (omega arith), λ _. r)
+    worker-at v h r = (h, λ p. absurd (omega (arith, fit .largest)), λ p. absurd (omega arith), λ _. r)
 
     module _ {s : State} (k : Formed o s) where
       worker-moved : (v : Thread) → ThreadFormed (o .size) v → isWorker v ≡ true → {g : Graph} → GraphFormed o g → Formed o (moveTo t v g s)
@@ -147,7 +151,7 @@ module _ (o : Setup) (fit : SetupFormed o) where
       unfolding examine
       examine-formed a y h j =
           let on = step-on-formed (k .graph) a y h j in
-          cond-cases (Formed o) (ready (s .graph) y) (λ _. worker-moved (Holding (node y)) j refl (locked-set o fit (executing-set o fit on y true j) y false j))
+          cond-cases (Formed o) (isAllowed t s && ready (s .graph) y) (λ _. worker-moved (Holding (node y)) j refl (locked-set o fit (executing-set o fit on y true j) y false j))
           (λ _. worker-moved (Searching (node y)) j refl on)
 
       -- an idle thread has no node
@@ -167,8 +171,8 @@ module _ (o : Setup) (fit : SetupFormed o) where
 
       -- a worker's nodes are its own, or next indexes
       pub worker-formed : (th : Thread) → s .threads t ≡ th → Formed o (workerStep o t th s)
-      unfolding workerStep searching holding walking clearing
-      worker-formed Idle e = enter-formed (Searching (node 0)) (omega arith) refl
+      unfolding workerStep idle searching holding walking clearing
+      worker-formed Idle e = cond-cases (Formed o) (isAllowed t s) (λ _. enter-formed (Searching (node 0)) (omega arith) refl) (λ _. k)
       worker-formed (Loading a x) e = k
       worker-formed (Searching a) e =
           let h = says k t e in
@@ -200,17 +204,17 @@ module _ (o : Setup) (fit : SetupFormed o) where
 
 -- ---- a step, and a schedule
 
--- a step of any thread up to the worker count
-pub step-formed : (o : Setup) → SetupFormed o → (t : ℕ) → t ≤ o .workers → (s : State) → Formed o s → Formed o (step o t s)
+-- a step of any thread up to the largest worker count
+pub step-formed : (o : Setup) → SetupFormed o → (t : ℕ) → t ≤ o .largest → (s : State) → Formed o s → Formed o (step o t s)
 unfolding step
 step-formed o fit t high s k =
     cond-cases (Formed o) (eqb t 0) (λ _. loader-formed o fit k (s .threads 0) refl)
     (λ b. let n = eqb-false t 0 b in worker-formed o fit t (omega (arith, n)) high k (s .threads t) refl)
 
 -- by induction on the schedule
-pub steps-formed : (o : Setup) → SetupFormed o → (ts : List ℕ) → allWithin (o .workers) ts ≡ true → (s : State) → Formed o s → Formed o (steps o ts s)
+pub steps-formed : (o : Setup) → SetupFormed o → (ts : List ℕ) → allWithin (o .largest) ts ≡ true → (s : State) → Formed o s → Formed o (steps o ts s)
 unfolding steps allWithin
 steps-formed o fit [] w s k = k
 steps-formed o fit (t ∷ ts) w s k =
-    let h = and-eq-true-iff (leb t (o .workers)) (allWithin (o .workers) ts) .0 w in
-    steps-formed o fit ts (h .1) (step o t s) (step-formed o fit t (leb-true t (o .workers) (h .0)) s k)
+    let h = and-eq-true-iff (leb t (o .largest)) (allWithin (o .largest) ts) .0 w in
+    steps-formed o fit ts (h .1) (step o t s) (step-formed o fit t (leb-true t (o .largest) (h .0)) s k)

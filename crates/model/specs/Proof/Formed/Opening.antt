@@ -5,7 +5,6 @@ use mathlib.Core.Path.{refl}
 use mathlib.Core.Bool.{false, _&&_, and-eq-true-iff}
 use lib.Dec.{leb, ltb}
 use borrow.Author.Tests.{ltb-true}
-use Rattle.command.proofs.Laws.{chute-that-fits}
 use Rattle.model.specs.Setup.{Setup}
 use Rattle.model.specs.Graph.{firstNext, noNode, openedGraph}
 use Rattle.model.specs.Service.{openedService}
@@ -14,15 +13,17 @@ use Rattle.model.specs.Statement.{Accepted}
 use Rattle.model.specs.Proof.Tests.{true-false, cond-cases}
 use Rattle.model.specs.Proof.Formed.{NumberAt, SetupFormed, Formed}
 use Rattle.model.specs.Proof.Formed.Store.{layOut-formed}
+use Rattle.model.specs.Proof.Service.{largest-fits}
 
 -- the tests of an accepted opening are those of the layout, or narrower
 pub accepted-formed : (o : Setup) → Accepted o → SetupFormed o
 accepted-formed o acc = record {
   size = acc .size .1;
   workers = acc .workers .1;
+  largest = largest-fits o acc .1;
   capacity = acc .capacity .1;
   count = acc .count;
-  chutes = λ c cmd e. omega (arith, chute-that-fits (cmd .kind) (cmd .chute) (acc .chutes c cmd e));
+  chutes = acc .chutes;
 }
 
 -- a node's first next index is a node's number, and 0 past the graph size
@@ -33,9 +34,9 @@ first-next-formed size n h =
     (λ e. let l = ltb-true n size (and-eq-true-iff (leb 1 n) (ltb n size) .0 e .1) in (omega arith, λ p. absurd (omega arith))) (λ _. (omega arith, λ _. refl))
 
 -- everything is 0, idle or empty, but the free list, which starts at node 1
-pub opened-formed : (o : Setup) → 1 ≤ o .size → SetupFormed o → Formed o (opened o)
+pub opened-formed : (o : Setup) → 1 ≤ o .size → 1 ≤ o .workers → SetupFormed o → Formed o (opened o)
 unfolding opened openedGraph openedService noNode
-opened-formed o one fit = record {
+opened-formed o one some fit = record {
   graph = record {
     next = λ n. first-next-formed (o .size) n (fit .size);
     seq = λ n. (omega arith, λ _. refl);
@@ -46,5 +47,5 @@ opened-formed o one fit = record {
     loaded = omega arith;
   };
   threads = λ t. (tt, λ _. refl, λ _. refl, λ _. refl);
-  service = record { store = layOut-formed (o .capacity); answers = λ c. (λ _. refl, λ _. refl) };
+  service = record { store = layOut-formed (o .capacity); answers = λ c. (λ _. refl, λ _. refl); limit = (some, fit .workers) };
 }

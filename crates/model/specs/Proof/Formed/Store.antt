@@ -10,7 +10,7 @@ use lib.Seq.{getD-drop}
 use lib.Dec.{eqb, leb, ltb}
 use borrow.Author.Tests.{ltb-true, leb-false}
 use Rattle.command.specs.declared.Kind.{Kind}
-use Rattle.command.specs.declared.Kind.the-variants.{Insert, Delete, Read, Update}
+use Rattle.command.specs.declared.Kind.the-variants.{Insert, Delete, Read, Update, Workers}
 use Rattle.model.specs.Store.{Store, layOut, room, inUse, halve, keyPlace, holds, lookUp, shiftUp, shiftDown, insert, remove, replace}
 use Rattle.model.specs.Service.{Write, writeKind}
 use Rattle.model.specs.Proof.Tests.{cond-cases}
@@ -194,3 +194,4 @@ module _ {capacity : ℕ} (st : Store) (k : StoreFormed capacity st) where
   writeKind-formed Delete room key chute found f = cond-cases After (eqb found 0) (λ _. k) (λ _. remove-formed key)
   writeKind-formed Read room key chute found f = cond-cases After (eqb found 0) (λ _. k) (λ _. k)
   writeKind-formed Update room key chute found f = cond-cases After (eqb found 0) (λ _. k) (λ _. replace-formed key chute f)
+  writeKind-formed Workers room key chute found f = k

@@ -48,7 +48,7 @@ use denote.Exit.{yes}
 use Rattle.model.specs.Step.{State}
 use Rattle.state_bytes.specs.Layout.{Lists, lists, stateIn}
 use Rattle.s10.specs.Refusal.{plain as plain-refusal}
-use Rattle.panel.specs.Reports.{reportOf, reportRefusal, reportNumber, reportLeft, workerStatus, workerStatusBytes, workersIn}
+use Rattle.panel.specs.Reports.{reportOf, reportRefusal, reportNumber, reportLeft, workerStatus, workerStatusBytes, largestIn}
 use Rattle.panel.specs.declared.Report.{Report}
 use Rattle.panel.specs.declared.WorkerStatus.{WorkerStatus}
 use Rattle.panel.proofs.Reporting.{number-told, made-report}
@@ -172,7 +172,7 @@ module _ {M : Type 1} (𝓤 : URA M) (H : Heap 𝓤) (A : Atoms 𝓤) (W : Given
   l = lists (s₁ .now) (s₂ .now) (s₃ .now) (s₄ .now)
 
   abbrev Asked : Report → List ℕ → Type 0
-  Asked r cs = (reportOf r ≡ reportNumber l (s₅ .now) 64 64) × (cs ≡ reportLeft (reportOf r) (workerStatusBytes (workersIn (s₁ .now)) (stateIn l)) bs)
+  Asked r cs = (reportOf r ≡ reportNumber l (s₅ .now) 64 64) × (cs ≡ reportLeft (reportOf r) (workerStatusBytes (largestIn (s₁ .now)) (stateIn l)) bs)
 
   -- from what is had at exit, with the answer r at the machine value w and the bytes at cs, to the walk's `post`
   exits : (r : Report) (w : Val) (cs : List ℕ) → Asked r cs → length cs ≡ length bs
@@ -224,7 +224,7 @@ module _ {M : Type 1} (𝓤 : URA M) (H : Heap 𝓤) (A : Atoms 𝓤) (W : Given
     Told r = reportRefusal r ≡ plain-refusal (reportNumber l (s₅ .now) (length ys) 64)
 
     abbrev Left : Report → List WorkerStatus → Type 0
-    Left r zs = zs ≡ reportLeft (reportOf r) (workerStatus (workersIn (s₁ .now)) (stateIn l)) ys
+    Left r zs = zs ≡ reportLeft (reportOf r) (workerStatus (largestIn (s₁ .now)) (stateIn l)) ys
 
   -- ---- the call of `write_reported`, with the answer r at the machine value u and the entries at zs
   module _ (r : Report) (u : Val) (zs : List WorkerStatus) where
@@ -312,7 +312,7 @@ module _ {M : Type 1} (𝓤 : URA M) (H : Heap 𝓤) (A : Atoms 𝓤) (W : Given
         move ! (43 ∷ 44 ∷ []) $ free1 ! $ move ! (41 ∷ 42 ∷ []) $ free1 ! $ move ! (39 ∷ 40 ∷ []) $ free1 ! $ move ! (37 ∷ 38 ∷ []) $ free1 ! $ move ! (35 ∷ 36 ∷ []) $ free1 ! $ move ! (33 ∷ 34 ∷ []) $ free1 ! $ move ! (31 ∷ 32 ∷ []) $ free1 ! $ move ! (4 ∷ 30 ∷ []) $ free1 ! $
         move ! (27 ∷ 28 ∷ []) $ free1 ! $ move ! (25 ∷ 26 ∷ []) $ free1 ! $ move ! (23 ∷ 24 ∷ []) $ free1 ! $ move ! (21 ∷ 22 ∷ []) $ free1 ! $ move ! (19 ∷ 20 ∷ []) $ free1 ! $ move ! (17 ∷ 18 ∷ []) $ free1 ! $ move ! (15 ∷ 16 ∷ []) $ free1 ! $ free0 ! $
         keep ! (1 ∷ 9 ∷ 8 ∷ 7 ∷ 6 ∷ 5 ∷ 10 ∷ 11 ∷ 12 ∷ 13 ∷ 14 ∷ 2 ∷ 3 ∷ []) $
-        by ! (exits r u (cs .1 .1 .0) (number-told r told ∙ ap (λ (n : ℕ). reportNumber l (s₅ .now) n 64) count, wrote (workersIn (s₁ .now)) (stateIn l) (made-report (reportOf r) (workerStatus (workersIn (s₁ .now)) (stateIn l)) ys (lastOf ws) left)) long))))))))))))))))))))))))))))))))))))
+        by ! (exits r u (cs .1 .1 .0) (number-told r told ∙ ap (λ (n : ℕ). reportNumber l (s₅ .now) n 64) count, wrote (largestIn (s₁ .now)) (stateIn l) (made-report (reportOf r) (workerStatus (largestIn (s₁ .now)) (stateIn l)) ys (lastOf ws) left)) long))))))))))))))))))))))))))))))))))))
 
 module _ {M : Type 1} (𝓤 : URA M) (H : Heap 𝓤) (A : Atoms 𝓤) (W : Given 𝓤 H A) (at-mem : Memory → SProp 𝓤) (run : Routine → Fun 𝓤) (𝓣 : Tables 𝓤 H)
     (known-new : Triple 𝓤 (𝓣 .C #panel·status·new-status) (New 𝓤 H A at-mem run)) (known-worker : Triple 𝓤 (𝓣 .C #panel·status·worker-status) (Worker 𝓤 H A at-mem run)) (known-write : Triple 𝓤 (𝓣 .C #panel·status·write-reported) (Write 𝓤 H A at-mem run)) where

@@ -6,12 +6,12 @@ use Rattle.panel.proofs.Showing.{past-shown, worker-shown}
 use Rattle.panel.proofs.status.status_at.Statement.{statement}
 use Rattle.panel.proofs.status.status_at.Tie as tie
 
-shared-slice-read-workers : tie.Need-shared-slice-read-workers
+shared-slice-read-largest : tie.Need-shared-slice-read-largest
 unfolding stateLength
-shared-slice-read-workers c = omega arith
+shared-slice-read-largest c = omega arith
 
-cast-workers : tie.Need-cast-workers
-cast-workers c = omega (arith, c .shared-slice-known2 .given 1)
+cast-largest : tie.Need-cast-largest
+cast-largest c = omega (arith, c .shared-slice-known2 .given 3)
 
 returns : tie.Need-returns
 returns c l same =
@@ -34,8 +34,8 @@ pub status-at-spec : {M : Type 1} → statement M
 status-at-spec =
     tie.close
     (tie.spec
-    shared-slice-read-workers
-    cast-workers
+    shared-slice-read-largest
+    cast-largest
     returns
     thread-at-requires
     status-of-requires

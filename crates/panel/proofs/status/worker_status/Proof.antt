@@ -41,7 +41,7 @@ use denote.Triple.Walked.{says, Stays, stay-none-slice, gave-slice, onExit, walk
 use denote.Exit.{yes}
 use Rattle.state_bytes.specs.Layout.{Lists, lists, stateIn}
 use Rattle.s10.specs.Refusal.{plain as plain-refusal}
-use Rattle.panel.specs.Reports.{reportOf, reportRefusal, reportNumber, reportLeft, workerStatus, workersIn}
+use Rattle.panel.specs.Reports.{reportOf, reportRefusal, reportNumber, reportLeft, workerStatus, largestIn}
 use Rattle.panel.specs.declared.Report.{Report}
 use Rattle.panel.specs.declared.WorkerStatus.{WorkerStatus}
 use Rattle.panel.proofs.Reporting.{refusal-told}
@@ -167,7 +167,7 @@ module _ {M : Type 1} (𝓤 : URA M) (H : Heap 𝓤) (A : Atoms 𝓤) (W : Given
   Told r = reportRefusal r ≡ plain-refusal (reportNumber l (s₅ .now) n₆ 64)
 
   abbrev Left : Report → List WorkerStatus → Type 0
-  Left r zs = zs ≡ reportLeft (reportOf r) (workerStatus (workersIn (s₁ .now)) (stateIn l)) xs
+  Left r zs = zs ≡ reportLeft (reportOf r) (workerStatus (largestIn (s₁ .now)) (stateIn l)) xs
 
   -- what is had at exit, with the answer r at the machine value w and the list at zs
   abbrev Had : Report → Val → List WorkerStatus → SProp 𝓤

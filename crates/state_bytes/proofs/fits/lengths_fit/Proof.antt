@@ -20,12 +20,12 @@ read c = c .before .before
 -- the tests of the lists' lengths before that of the commands
 abbrev tests : Lists → List Bool
 tests l =
-    eqb (length (l .state)) 4715 ∷ eqb (length (l .answers)) (numberAt 2 4 (l .state)) ∷ eqb (length (l .keys)) (numberAt 2 2 (l .state))
-    ∷ eqb (length (l .chutes)) (numberAt 2 2 (l .state)) ∷ []
+    eqb (length (l .state)) 4718 ∷ eqb (length (l .answers)) (numberAt 2 6 (l .state)) ∷ eqb (length (l .keys)) (numberAt 2 4 (l .state))
+    ∷ eqb (length (l .chutes)) (numberAt 2 4 (l .state)) ∷ []
 
 -- all tests of the lengths, the last of the commands
 abbrev whole : Lists → List ℕ → List Bool
-whole l commands = tests l ++ (eqb (length commands) (16 * numberAt 2 4 (l .state)) ∷ [])
+whole l commands = tests l ++ (eqb (length commands) (16 * numberAt 2 6 (l .state)) ∷ [])
 
 -- `handedBackFit` makes them one after the other
 as-tests : (l : Lists) (commands : List ℕ) → handedBackFit l commands ≡ all (whole l commands)
@@ -52,13 +52,13 @@ cast-count : tie.Need-cast-count
 cast-count c = search needs
 
 returns-2 : tie.Need-returns-2
-returns-2 c l list state answers keys chutes commands = as-tests l list ∙ fails-at 1 (whole l list) (unequal-fails answers (same-number 4 state (c .before .number-at2 .ensures)) (c .if2 .taken))
+returns-2 c l list state answers keys chutes commands = as-tests l list ∙ fails-at 1 (whole l list) (unequal-fails answers (same-number 6 state (c .before .number-at2 .ensures)) (c .if2 .taken))
 
 returns-3 : tie.Need-returns-3
-returns-3 c l list state answers keys chutes commands = as-tests l list ∙ fails-at 2 (whole l list) (unequal-fails keys (same-number 2 state (read (c .before) .number-at .ensures)) (c .if3 .taken))
+returns-3 c l list state answers keys chutes commands = as-tests l list ∙ fails-at 2 (whole l list) (unequal-fails keys (same-number 4 state (read (c .before) .number-at .ensures)) (c .if3 .taken))
 
 returns-4 : tie.Need-returns-4
-returns-4 c l list state answers keys chutes commands = as-tests l list ∙ fails-at 3 (whole l list) (unequal-fails chutes (same-number 2 state (read (c .before .before) .number-at .ensures)) (c .if4 .taken))
+returns-4 c l list state answers keys chutes commands = as-tests l list ∙ fails-at 3 (whole l list) (unequal-fails chutes (same-number 4 state (read (c .before .before) .number-at .ensures)) (c .if4 .taken))
 
 mul-result : tie.Need-mul-result
 mul-result c = search needs
@@ -66,12 +66,12 @@ mul-result c = search needs
 returns-5 : tie.Need-returns-5
 returns-5 c l list state answers keys chutes commands =
     let else2 = c .before .before in
-    let capacity = same-number 2 state (read else2 .number-at .ensures) in
-    let count = same-number 4 state (else2 .before .number-at2 .ensures) in
+    let capacity = same-number 4 state (read else2 .number-at .ensures) in
+    let count = same-number 6 state (else2 .before .number-at2 .ensures) in
     let each =
     equal-passes (ap length state) refl (else2 .before .before .before .if1 .left)
     ▸ equal-passes answers count (else2 .if2 .left) ▸ equal-passes keys capacity (c .before .if3 .left) ▸ equal-passes chutes capacity (c .if4 .left) ▸ tt in
-    as-tests l list ∙ last-decides (tests l) (eqb (length list) (16 * numberAt 2 4 (l .state))) each
+    as-tests l list ∙ last-decides (tests l) (eqb (length list) (16 * numberAt 2 6 (l .state))) each
     ∙ ap₂ (λ (m n : ℕ). eqb m (16 * n)) commands count
 
 pub lengths-fit-spec : {M : Type 1} → statement M

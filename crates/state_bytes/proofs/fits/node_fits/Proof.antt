@@ -28,7 +28,7 @@ numbered c = c .before .before
 -- the tests of a node before that of its set
 abbrev tests : List ℕ → ℕ → ℕ → ℕ → List Bool
 tests b size count n =
-    leb (getD b (11 + n) 0) size ∷ leb (numberAt 2 (162 + 2 * n) b) count ∷ leb (getD b (464 + n) 0) 1 ∷ leb (getD b (615 + n) 0) 1 ∷ []
+    leb (getD b (14 + n) 0) size ∷ leb (numberAt 2 (165 + 2 * n) b) count ∷ leb (getD b (467 + n) 0) 1 ∷ leb (getD b (618 + n) 0) 1 ∷ []
 
 -- all tests of a node, the last of its set
 abbrev whole : List ℕ → ℕ → ℕ → ℕ → List Bool

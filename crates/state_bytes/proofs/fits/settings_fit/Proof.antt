@@ -5,9 +5,9 @@ use Rattle.state_bytes.specs.Layout.{settingsFit}
 use Rattle.state_bytes.proofs.fits.settings_fit.Statement.{statement}
 use Rattle.state_bytes.proofs.fits.settings_fit.Tie as tie
 
--- where three tests passed, from where all passed
-abbrev third-passed : tie.Else6 → tie.Else3
-third-passed c = c .before .before .before
+-- where four tests passed, from where all passed
+abbrev fourth-passed : tie.Else8 → tie.Else4
+fourth-passed c = c .before .before .before .before
 
 returns : tie.Need-returns
 unfolding settingsFit
@@ -35,15 +35,36 @@ returns-6 c = simp (lt-leb _ _ (c .if6 .taken), and-false)
 
 returns-7 : tie.Need-returns-7
 unfolding settingsFit
-returns-7 c =
+returns-7 c = simp (lt-leb _ _ (c .if7 .taken), and-false)
+
+returns-8 : tie.Need-returns-8
+unfolding settingsFit
+returns-8 c = simp (lt-leb _ _ (c .if8 .taken), and-false)
+
+returns-9 : tie.Need-returns-9
+unfolding settingsFit
+returns-9 c =
     simp (
-      le-leb _ _ (third-passed c .before .before .if1 .left),
-      le-leb _ _ (third-passed c .before .if2 .left),
-      le-leb _ _ (third-passed c .if3 .left),
-      le-leb _ _ (c .before .before .if4 .left),
-      le-leb _ _ (c .before .if5 .left),
-      le-leb _ _ (c .if6 .left),
+      le-leb _ _ (fourth-passed c .before .before .before .if1 .left),
+      le-leb _ _ (fourth-passed c .before .before .if2 .left),
+      le-leb _ _ (fourth-passed c .before .if3 .left),
+      le-leb _ _ (fourth-passed c .if4 .left),
+      le-leb _ _ (c .before .before .before .if5 .left),
+      le-leb _ _ (c .before .before .if6 .left),
+      le-leb _ _ (c .before .if7 .left),
+      le-leb _ _ (c .if8 .left),
     )
 
 pub settings-fit-spec : {M : Type 1} → statement M
-settings-fit-spec = tie.close (tie.spec returns returns-2 returns-3 returns-4 returns-5 returns-6 returns-7)
+settings-fit-spec =
+    tie.close
+    (tie.spec
+    returns
+    returns-2
+    returns-3
+    returns-4
+    returns-5
+    returns-6
+    returns-7
+    returns-8
+    returns-9)

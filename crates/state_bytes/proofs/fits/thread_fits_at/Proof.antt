@@ -53,9 +53,9 @@ returns : tie.Need-returns
 unfolding threadFitsAt
 returns c =
     let t = entry c .args .t in
-    let at : 4391 + 5 * t ≡ 4390 + 5 * t + 1 = omega arith in
-    let own : 4392 + 5 * t ≡ 4390 + 5 * t + 2 = omega arith in
-    let found : 4393 + 5 * t ≡ 4390 + 5 * t + 3 = omega arith in
+    let at : 4394 + 5 * t ≡ 4393 + 5 * t + 1 = omega arith in
+    let own : 4395 + 5 * t ≡ 4393 + 5 * t + 2 = omega arith in
+    let found : 4396 + 5 * t ≡ 4393 + 5 * t + 3 = omega arith in
     rw (at, own, found, ← found-read c .number-at .ensures) (c .thread-fits .ensures)
 
 pub thread-fits-at-spec : {M : Type 1} → statement M

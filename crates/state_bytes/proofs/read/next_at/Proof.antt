@@ -16,7 +16,7 @@ next-past l n h =
     let past : 151 ≤ n = omega arith in
     rw (le-ltb n 151 past)
 
-next-read : (l : Lists) (n : ℕ) (b : List ℕ) → l .state ≡ b → n ≤ 150 → getD b (11 + n) 0 ≡ stateIn l .graph .next n
+next-read : (l : Lists) (n : ℕ) (b : List ℕ) → l .state ≡ b → n ≤ 150 → getD b (14 + n) 0 ≡ stateIn l .graph .next n
 unfolding stateIn
 next-read l n b same h =
     let among : n < 151 = omega arith in

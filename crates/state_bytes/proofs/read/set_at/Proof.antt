@@ -37,12 +37,12 @@ unfolding stateLength
 word-at-requires-3 c κs = omega arith
 
 -- the words eight bytes apart are the set's
-set-of : (b : List ℕ) (n : ℕ) {x y z : ℕ} → let at = 766 + 24 * n in
+set-of : (b : List ℕ) (n : ℕ) {x y z : ℕ} → let at = 769 + 24 * n in
     x ≡ numberAt 8 at b → y ≡ numberAt 8 (at + 8) b → z ≡ numberAt 8 (at + 16) b → x ∷ y ∷ z ∷ [] ≡ setAt b n
 unfolding setAt
 set-of b n first second third =
-    let e : 774 + 24 * n ≡ 766 + 24 * n + 8 = omega arith in
-    let f : 782 + 24 * n ≡ 766 + 24 * n + 16 = omega arith in
+    let e : 777 + 24 * n ≡ 769 + 24 * n + 8 = omega arith in
+    let f : 785 + 24 * n ≡ 769 + 24 * n + 16 = omega arith in
     rw (first, second, third, e, f)
 
 returns : tie.Need-returns

@@ -49,13 +49,13 @@ thread-of-requires : tie.Need-thread-of-requires
 thread-of-requires c κs = search needs
 
 -- the fields one after the other are the thread's
-thread-of-fields : (b : List ℕ) (t found : ℕ) → let from = 4390 + 5 * t in
+thread-of-fields : (b : List ℕ) (t found : ℕ) → let from = 4393 + 5 * t in
     found ≡ numberAt 2 (from + 3) b → threadOf (getD b from 0) (getD b (from + 1) 0) (getD b (from + 2) 0) found ≡ threadAt b t
 unfolding threadAt
 thread-of-fields b t found last =
-    let e : 4391 + 5 * t ≡ 4390 + 5 * t + 1 = omega arith in
-    let f : 4392 + 5 * t ≡ 4390 + 5 * t + 2 = omega arith in
-    let g : 4393 + 5 * t ≡ 4390 + 5 * t + 3 = omega arith in
+    let e : 4394 + 5 * t ≡ 4393 + 5 * t + 1 = omega arith in
+    let f : 4395 + 5 * t ≡ 4393 + 5 * t + 2 = omega arith in
+    let g : 4396 + 5 * t ≡ 4393 + 5 * t + 3 = omega arith in
     rw (e, f, g, last)
 
 returns : tie.Need-returns

@@ -40,8 +40,8 @@ returns c =
     (c .if1 .came))
     (ready-beside _ _ _ _ _ _ (start .pre) executing waits keys chutes)
 
-add-t21 : tie.Need-add-t21
-add-t21 c = search needs
+add-t22 : tie.Need-add-t22
+add-t22 c = search needs
 
 command-at-requires : tie.Need-command-at-requires
 command-at-requires c κs = search needs
@@ -73,7 +73,7 @@ load-next-spec =
     (tie.spec
     element-copy-out-if3
     returns
-    add-t21
+    add-t22
     command-at-requires
     keep-requires
     load-requires
