@@ -168,6 +168,16 @@ static void put_command(struct lists *l, size_t i, enum depot_kind kind, uint64_
     free(text.bytes);
 }
 
+/* A command that sets the worker count, right or not. */
+static void put_workers(struct lists *l, size_t i, unsigned count)
+{
+    uint8_t *c = l->at[COMMANDS].bytes + DEPOT_COMMAND_LENGTH * i;
+    c[0] = DEPOT_WORKERS;
+    memset(c + 1, '0', DEPOT_IDENTIFIER_LENGTH);
+    c[14] = (uint8_t)(count / 256);
+    c[15] = (uint8_t)(count % 256);
+}
+
 /* The chute that command i carries, 1 to 512. */
 static unsigned chute_of(size_t i)
 {
@@ -259,6 +269,95 @@ static void test_passing(void)
     free_all(&l);
 }
 
+/* What a call answers that refuses at a character, of a command of a place. */
+static uint64_t refused(unsigned number, size_t place, unsigned character)
+{
+    return (uint64_t)character << 32 | (uint64_t)place << 8 | number;
+}
+
+/* Document 02, A.2: refusals 8 and 14 of a worker change, at every place, and 8 at every character before 14. */
+static void test_wrong_changes(void)
+{
+    static const unsigned counts[] = {0, 65, 128, 256, 257, 65535};
+    const struct settings s = {1, 1, 1};
+    struct lists l = opened(3, s, 0);
+    for (size_t place = 1; place <= 3; place++) {
+        uint8_t *text = l.at[COMMANDS].bytes + DEPOT_COMMAND_LENGTH * (place - 1);
+        for (size_t i = 0; i < sizeof counts / sizeof *counts; i++) {
+            put_workers(&l, place - 1, counts[i]);
+            expect(OPEN, &l, s, refused(DEPOT_WRONG_COUNT, place, 0), "a wrong count");
+        }
+        for (unsigned character = 1; character <= DEPOT_IDENTIFIER_LENGTH; character++) {
+            put_workers(&l, place - 1, character % 2 ? 65 : 64);
+            text[character] = character % 3 ? 'A' : '1';
+            text[DEPOT_IDENTIFIER_LENGTH] = 'A';
+            expect(OPEN, &l, s, refused(DEPOT_MALFORMED, place, character), "a character that is not 0");
+        }
+        put_workers(&l, place - 1, place == 2 ? DEPOT_MOST_WORKERS : 1);
+        expect(OPEN, &l, s, 0, "a worker change");
+    }
+    free_all(&l);
+}
+
+/* Deals turns of one party, and checks what becomes of its status. */
+static void deal_to(struct lists *l, uint8_t party, size_t turns, enum depot_thread_state state, unsigned record, const char *what)
+{
+    uint8_t schedule[16];
+    memset(schedule, party, sizeof schedule);
+    advance(l, schedule, turns, 0, what);
+    if (party > 0) {
+        report(l, STATUS, DEPOT_STATUS_LENGTH, 0, what);
+        check(l->at[OWN].bytes[2 * (party - 1)] == state, "workers", what, l->at[OWN].bytes[2 * (party - 1)]);
+        check(l->at[OWN].bytes[2 * (party - 1) + 1] == record, "workers", what, l->at[OWN].bytes[2 * (party - 1) + 1]);
+    }
+}
+
+/* A turn that changes nothing: its worker is above the count in force. */
+static void rests(struct lists *l, uint8_t party, const char *what)
+{
+    struct list old = copy(l->at[STATE], DEPOT_STATE_LENGTH);
+    deal_to(l, party, 1, DEPOT_IDLE, 0, what);
+    check(same(old, l->at[STATE]), "workers", what, party);
+    free(old.bytes);
+}
+
+/* Document 02, A.2: one worker at first; the list allows three, and then one again. Worker 3 holds the second change, finishes its
+ * removal and rests. Offset 3 of the state is the largest count, offset 13 the count in force. */
+static void test_workers(void)
+{
+    const struct settings s = {3, 1, 1};
+    const uint8_t fourth[] = {0, 4};
+    struct lists l = make_all(3, 1);
+    put_workers(&l, 0, 3);
+    put_command(&l, 1, DEPOT_READ, 0, 0);
+    put_workers(&l, 2, 1);
+    expect(OPEN, &l, s, 0, "refused worker changes");
+    check(l.at[STATE].bytes[0] == 1 && l.at[STATE].bytes[3] == 3 && l.at[STATE].bytes[13] == 1, "workers", "opening", 0);
+    advance(&l, fourth, sizeof fourth, DEPOT_UNKNOWN_THREAD, "a party above the largest count");
+    rests(&l, 3, "above the opening's count");
+    deal_to(&l, 0, 9, DEPOT_IDLE, 0, "loading");
+    rests(&l, 2, "before a record that may be taken");
+    report(&l, COUNTS, DEPOT_COUNTS_LENGTH, 0, "workers");
+    check(l.at[OWN].bytes[0] == 0 && l.at[OWN].bytes[1] == 1 && l.at[OWN].bytes[2] == 2, "workers", "counts", 0);
+    deal_to(&l, 1, 4, DEPOT_WRITTEN, 1, "the first change");
+    check(l.at[STATE].bytes[13] == 3 && depot_short_at(l.at[ANSWERS].bytes, 0) == DEPOT_DONE, "workers", "three", 0);
+    deal_to(&l, 1, 5, DEPOT_IDLE, 0, "its removal");
+    deal_to(&l, 3, 7, DEPOT_IDLE, 0, "the read, by worker 3");
+    check(depot_short_at(l.at[ANSWERS].bytes, 1) == DEPOT_NO_SUCH_ITEM, "workers", "answer of the read", 0);
+    deal_to(&l, 3, 4, DEPOT_WRITTEN, 3, "the second change");
+    check(l.at[STATE].bytes[13] == 1 && depot_short_at(l.at[ANSWERS].bytes, 2) == DEPOT_DONE, "workers", "one", 0);
+    rests(&l, 2, "above the new count");
+    deal_to(&l, 3, 3, DEPOT_IDLE, 0, "its removal, by worker 3");
+    rests(&l, 3, "behind its removal");
+    deal_to(&l, 1, 1, DEPOT_SEARCHING, 0, "worker 1 goes on");
+    l.at[STATE].bytes[13] = 4; /* count in force above the largest */
+    advance(&l, fourth, sizeof fourth, DEPOT_WRONG_STATE, "12 is tested before 11");
+    l.at[STATE].bytes[13] = 1;
+    l.at[STATE].bytes[0] = 2; /* another chain */
+    report(&l, STATUS, DEPOT_STATUS_LENGTH, DEPOT_WRONG_STATE, "another chain");
+    free_all(&l);
+}
+
 /* A dealing that loads as many commands as the graph holds, then has worker 1 remove them one by one from the chain's front. */
 static struct list filling_and_emptying(size_t nodes)
 {
@@ -336,9 +435,9 @@ static void test_places(void)
         size_t offset;
         uint8_t value;
         unsigned wanted, character;
-    } cases[] = {{0, 0, 7, 0},     {0, 5, 7, 0},      {0, 255, 7, 0},  {1, '0', 8, 1},   {2, 'a', 8, 2},
+    } cases[] = {{0, 0, 7, 0},     {0, 6, 7, 0},      {0, 255, 7, 0},  {1, '0', 8, 1},   {2, 'a', 8, 2},
                  {3, ':', 13, 3},  {10, 'A', 13, 10}, {11, 0, 13, 11}, {12, '9', 8, 12}, {13, 0, 8, 13},
-                 {11, '4', 9, 11}, {14, 2, 10, 0},    {15, 0, 10, 0}};
+                 {11, '4', 9, 11}, {14, 2, 10, 0},    {15, 0, 10, 0},   {0, 5, 8, 1}};
     const struct settings s = {1, 1, 1};
     struct lists l = opened(DEPOT_MOST_COMMANDS, s, 0);
     for (size_t i = 0; i < sizeof cases / sizeof *cases; i++)
@@ -365,7 +464,7 @@ static void test_too_long(void)
     resize(&l, CHUTES, DEPOT_CHUTE_LENGTH * 4097);
     expect(OPEN, &l, s, DEPOT_WRONG_LENGTH, "a key and chute too many");
     expect(ADVANCE, &l, none, DEPOT_WRONG_LENGTH, "a key and chute too many");
-    state[3] = 1; /* capacity 4,097 */
+    state[5] = 1; /* capacity 4,097 */
     expect(ADVANCE, &l, none, DEPOT_WRONG_STATE, "capacity 4,097");
     report(&l, COUNTS, DEPOT_COUNTS_LENGTH, DEPOT_WRONG_STATE, "capacity 4,097");
     report(&l, STATUS, DEPOT_STATUS_LENGTH, DEPOT_WRONG_STATE, "capacity 4,097");
@@ -373,7 +472,7 @@ static void test_too_long(void)
     resize(&l, COMMANDS, DEPOT_COMMAND_LENGTH * 4097);
     expect(OPEN, &l, s, DEPOT_TOO_MANY_COMMANDS, "4,097 commands");
     expect(ADVANCE, &l, none, DEPOT_WRONG_LENGTH, "an answer and a command too many");
-    state[5] = 1; /* 4,097 commands */
+    state[7] = 1; /* 4,097 commands */
     expect(ADVANCE, &l, none, DEPOT_WRONG_STATE, "4,097 commands");
     free_all(&l);
 }
@@ -410,7 +509,7 @@ static void test_parties(void)
     advance(&l, good, sizeof good, 0, "parties 0 to 2");
     for (size_t i = 0; i < 3; i++)
         advance(&l, bad[i], 3, DEPOT_UNKNOWN_THREAD, "a party above the worker count");
-    l.at[STATE].bytes[10] = 4; /* first free node above the graph size */
+    l.at[STATE].bytes[12] = 4; /* first free node above the graph size */
     advance(&l, bad[0], 3, DEPOT_WRONG_STATE, "12 is tested before 11");
     resize(&l, KEYS, 0);
     advance(&l, bad[0], 3, DEPOT_WRONG_LENGTH, "6 is tested before 12");
@@ -432,8 +531,8 @@ static void try_changed(const struct lists *base, int which, size_t offset, uint
     check(answer == 0 || answer == 6 || answer == 12, "a changed byte", "answer, at offset", (unsigned long)offset);
     got[depot_number(answer) % 13]++;
     report(&l, STATUS, DEPOT_STATUS_LENGTH, answer, "a changed byte");
-    if (answer == 0 && l.at[STATE].bytes[1] == 1)
-        answer = DEPOT_UNKNOWN_THREAD; /* one worker, and a turn of party 2 */
+    if (answer == 0 && l.at[STATE].bytes[3] == 1)
+        answer = DEPOT_UNKNOWN_THREAD; /* the largest count is 1, and there is a turn of party 2 */
     advance(&l, schedule, sizeof schedule, answer, "a changed byte");
     free_all(&l);
 }
@@ -525,6 +624,8 @@ int main(void)
     test_empty_lists();
     test_example();
     test_passing();
+    test_wrong_changes();
+    test_workers();
     test_largest();
     test_all_parties();
     test_settings();

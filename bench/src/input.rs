@@ -79,8 +79,8 @@ impl Input {
 
     /// Plays the run, and keeps the turns.
     fn deal(&mut self, random: &mut Random, order: Order, most: usize) {
-        let parties = u64::from(self.settings.workers) + 1;
         let mut run = self.opened();
+        let parties = u64::from(run.largest) + 1;
         let mut loader_waits = false;
         while !self.done && self.schedule.len() < most {
             let party = match order {

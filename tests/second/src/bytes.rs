@@ -1,4 +1,4 @@
-//! The state as the caller keeps it: 4,715 bytes, laid out as docs/STATE-LAYOUT.md says, and the
+//! The state as the caller keeps it: 4,718 bytes, laid out as docs/STATE-LAYOUT.md says, and the
 //! lists that go with it.
 
 use crate::command::{self, Command, Kind};
@@ -7,20 +7,31 @@ use crate::run::{PARTIES, Party, RECORDS, Records, Run, Set, Settings};
 use crate::store::Store;
 
 /// Bytes of a state.
-pub const STATE: usize = 4715;
+pub const STATE: usize = 4718;
 /// Bytes of a key in a list, of a chute and of an answer.
 pub const KEY: usize = 8;
 pub const NUMBER: usize = 2;
 
 /// Where the fields stand.
-pub const USED: usize = 8;
-pub const FREE: usize = 10;
-pub const NEXT: usize = 11;
-pub const PLACE: usize = 162;
-pub const EXECUTING: usize = 464;
-pub const LOCKED: usize = 615;
-pub const SETS: usize = 766;
-pub const PARTY: usize = 4390;
+pub const CHAIN: usize = 0;
+pub const SIZE: usize = 1;
+pub const WORKERS: usize = 2;
+pub const LARGEST: usize = 3;
+pub const ROOM: usize = 4;
+pub const COUNT: usize = 6;
+pub const LOADED: usize = 8;
+pub const USED: usize = 10;
+pub const FREE: usize = 12;
+pub const IN_FORCE: usize = 13;
+pub const NEXT: usize = 14;
+pub const PLACE: usize = 165;
+pub const EXECUTING: usize = 467;
+pub const LOCKED: usize = 618;
+pub const SETS: usize = 769;
+pub const PARTY: usize = 4393;
+
+/// What the first byte says: the run is one of the lock-coupled chain.
+pub const LOCK_COUPLED: u8 = 1;
 
 const SET_BYTES: usize = 24;
 pub const PARTY_BYTES: usize = 5;
@@ -68,16 +79,19 @@ pub fn read(lists: Lists) -> Result<Run, Refusal> {
 /// Lays a run's state out; the list has its length.
 pub fn write_state(run: &Run, state: &mut [u8]) {
     let records = &run.records;
-    state[0] = run.settings.size;
-    state[1] = run.settings.workers;
+    state[CHAIN] = LOCK_COUPLED;
+    state[SIZE] = run.settings.size;
+    state[WORKERS] = run.settings.workers;
+    state[LARGEST] = run.largest;
     let numbers = [
         run.settings.room,
         run.commands.len() as u16,
         run.loaded,
         run.store.used,
     ];
-    write_numbers(&numbers, &mut state[2..FREE]);
+    write_numbers(&numbers, &mut state[ROOM..FREE]);
     state[FREE] = records.free;
+    state[IN_FORCE] = run.in_force;
     state[NEXT..PLACE].copy_from_slice(&records.next);
     write_numbers(&records.place, &mut state[PLACE..EXECUTING]);
     write_bools(&records.executing, &mut state[EXECUTING..LOCKED]);
@@ -118,8 +132,8 @@ fn lengths_fit(lists: Lists) -> bool {
     if state.len() != STATE {
         return false;
     }
-    let room = usize::from(number(state, 2));
-    let count = usize::from(number(state, 4));
+    let room = usize::from(number(state, ROOM));
+    let count = usize::from(number(state, COUNT));
     keys.len() == room * KEY
         && lists.chutes.len() == room * NUMBER
         && lists.answers.len() == count * NUMBER
@@ -129,15 +143,23 @@ fn lengths_fit(lists: Lists) -> bool {
 /// Refusal 12: the run, if nothing in it is out of range. The lists have their lengths.
 fn read_whole(lists: Lists) -> Option<Run> {
     let state = lists.state;
-    let room = number(state, 2);
-    let settings = settings(state[0].into(), state[1].into(), room.into()).ok()?;
-    let count = number(state, 4);
-    let loaded = number(state, 6);
-    if usize::from(count) > MOST_COMMANDS || loaded > count {
+    let room = number(state, ROOM);
+    let settings = settings(state[SIZE].into(), state[WORKERS].into(), room.into()).ok()?;
+    let [largest, in_force] = [state[LARGEST], state[IN_FORCE]];
+    let count = number(state, COUNT);
+    let loaded = number(state, LOADED);
+    let fits = state[CHAIN] == LOCK_COUPLED
+        && (1..=MOST_WORKERS).contains(&largest.into())
+        && (1..=largest).contains(&in_force)
+        && usize::from(count) <= MOST_COMMANDS
+        && loaded <= count;
+    if !fits {
         return None;
     }
     Some(Run {
         settings,
+        largest,
+        in_force,
         loaded,
         records: read_records(state, settings.size, count)?,
         parties: read_parties(&state[PARTY..], settings.size)?,

@@ -51,7 +51,7 @@ pub fn open(lent: &mut LentLists, commands: &[u8], settings: Asked) -> u64 {
 
 pub fn advance(lent: &mut LentLists, commands: &[u8], schedule: &[u8]) -> u64 {
     answer(bytes::read(lent.handed(commands)).and_then(|mut run| {
-        check_schedule(schedule, run.settings.workers)?;
+        check_schedule(schedule, run.largest)?;
         run.advance(schedule);
         lent.write(&run);
         Ok(())
@@ -69,12 +69,12 @@ pub fn pending_counts(lists: Lists, counts: &mut [u8]) -> u64 {
     }))
 }
 
-/// The state's number and the own record of each worker; those past the worker count are idle.
+/// The state's number and the own record of each worker; those past the largest count are idle.
 pub fn worker_status(lists: Lists, status: &mut [u8]) -> u64 {
     let fits = status.len() == STATUSES * STATUS_BYTES;
     answer(report(lists, fits).map(|run| {
         status.fill(0);
-        let workers = &run.parties[1..=usize::from(run.settings.workers)];
+        let workers = &run.parties[1..=usize::from(run.largest)];
         for (worker, entry) in workers.iter().zip(status.chunks_mut(STATUS_BYTES)) {
             entry.copy_from_slice(&bytes::standing(*worker));
         }
@@ -111,9 +111,9 @@ pub fn open_settings(commands: &[u8], [size, workers, room]: Asked) -> Result<Se
     Ok(settings)
 }
 
-/// Refusal 11.
-pub fn check_schedule(schedule: &[u8], workers: u8) -> Result<(), Refusal> {
-    if schedule.iter().any(|party| *party > workers) {
+/// Refusal 11, by the largest worker count.
+pub fn check_schedule(schedule: &[u8], largest: u8) -> Result<(), Refusal> {
+    if schedule.iter().any(|party| *party > largest) {
         return Err(Refusal::Party);
     }
     Ok(())
@@ -205,10 +205,10 @@ mod tests {
     fn opening_lays_the_first_state_out() {
         let caller = Caller::opened();
         assert_eq!(
-            caller.state[..14],
-            [2, 1, 0, 4, 0, 2, 0, 0, 0, 0, 1, 0, 2, 0]
+            caller.state[..17],
+            [1, 2, 1, 1, 0, 4, 0, 2, 0, 0, 0, 0, 1, 1, 0, 2, 0]
         );
-        assert!(caller.state[14..].iter().all(|byte| *byte == 0));
+        assert!(caller.state[17..].iter().all(|byte| *byte == 0));
         assert_eq!((caller.keys, caller.chutes), (vec![0; 32], vec![0; 8]));
         assert_eq!(caller.answers, [0; 4]);
     }
@@ -221,13 +221,13 @@ mod tests {
         assert_eq!(caller.answers, [3, 232, 0, 0]);
         assert_eq!(caller.chutes, [0, 7, 0, 0, 0, 0, 0, 0]);
         assert_eq!(
-            caller.state[..14],
-            [2, 1, 0, 4, 0, 2, 0, 2, 0, 1, 0, 1, 2, 0]
+            caller.state[..17],
+            [1, 2, 1, 1, 0, 4, 0, 2, 0, 2, 0, 1, 0, 1, 1, 2, 0]
         );
-        assert_eq!(caller.state[162..168], [0, 0, 0, 1, 0, 2]);
-        assert_eq!(caller.state[464..467], [0, 1, 0]);
-        assert_eq!(caller.state[766 + 48..][..8], [0, 0, 0, 0, 0, 0, 0, 2]);
-        assert_eq!(caller.state[4395..4400], [5, 0, 1, 0, 0]);
+        assert_eq!(caller.state[165..171], [0, 0, 0, 1, 0, 2]);
+        assert_eq!(caller.state[467..470], [0, 1, 0]);
+        assert_eq!(caller.state[769 + 48..][..8], [0, 0, 0, 0, 0, 0, 0, 2]);
+        assert_eq!(caller.state[4398..4403], [5, 0, 1, 0, 0]);
         let mut counts = [9; COUNTS];
         assert_eq!(caller.report(pending_counts, &mut counts), 0);
         assert_eq!(counts[..3], [0, 1, 0]);
@@ -248,18 +248,18 @@ mod tests {
         let turns = [(3, 2, 0), (5, 2, 7), (6, 2, 7), (7, 2, 7), (0, 0, 7)];
         for (state, own, answer) in turns {
             assert_eq!(caller.advance(&[1]), 0);
-            assert_eq!(caller.state[4390..4395], [0; 5], "the loader");
-            assert_eq!(caller.state[4395..4400], [state, 0, own, 0, 0]);
+            assert_eq!(caller.state[4393..4398], [0; 5], "the loader");
+            assert_eq!(caller.state[4398..4403], [state, 0, own, 0, 0]);
             assert_eq!(caller.answers, [3, 232, 0, answer]);
             let mut status = [9; 128];
             assert_eq!(caller.report(worker_status, &mut status), 0);
             assert_eq!(status[..4], [state, own, 0, 0]);
         }
         assert_eq!(
-            caller.state[..14],
-            [2, 1, 0, 4, 0, 2, 0, 2, 0, 1, 2, 0, 0, 1]
+            caller.state[..17],
+            [1, 2, 1, 1, 0, 4, 0, 2, 0, 2, 0, 1, 2, 1, 0, 0, 1]
         );
-        assert!(caller.state[14..].iter().all(|byte| *byte == 0));
+        assert!(caller.state[17..].iter().all(|byte| *byte == 0));
     }
 
     /// docs/STATE-LAYOUT.md: a worker that is looked-up for a read, as no dealing leaves it, is
@@ -270,12 +270,12 @@ mod tests {
             let mut caller = Caller::opened();
             let turns = [[0; 5].as_slice(), &[1; 10]].concat();
             assert_eq!(caller.advance(&turns), 0);
-            caller.state[4395..4400].copy_from_slice(&[4, 0, 2, found[0], found[1]]);
+            caller.state[4398..4403].copy_from_slice(&[4, 0, 2, found[0], found[1]]);
             let mut status = [9; 128];
             assert_eq!(caller.report(worker_status, &mut status), 0);
             assert_eq!(status[..4], [4, 2, 0, 0]);
             assert_eq!(caller.advance(&[1]), 0);
-            assert_eq!(caller.state[4395..4400], [5, 0, 2, 0, 0]);
+            assert_eq!(caller.state[4398..4403], [5, 0, 2, 0, 0]);
             assert_eq!(caller.answers, [[3, 232], answer].concat());
             assert_eq!(caller.chutes, [0, 7, 0, 0, 0, 0, 0, 0]);
         }
@@ -285,7 +285,7 @@ mod tests {
     #[test]
     fn opening_tests_in_order_and_writes_nothing() {
         let mut caller = Caller::new();
-        caller.commands[16] = 5;
+        caller.commands[16] = 6;
         assert_eq!(caller.open(2, 1, 4), 7 + 256 * 2);
         caller.answers.push(9);
         assert_eq!(caller.open(2, 1, 4), 6);
@@ -305,13 +305,13 @@ mod tests {
     fn advancing_tests_in_order() {
         let mut caller = Caller::opened();
         assert_eq!(caller.advance(&[0, 1, 2]), 11);
-        caller.state[12] = 3;
+        caller.state[15] = 3;
         assert_eq!(caller.advance(&[0, 1, 2]), 12);
         caller.answers.push(0);
         assert_eq!(caller.advance(&[0, 1, 2]), 6);
         assert_eq!(
-            caller.state[..14],
-            [2, 1, 0, 4, 0, 2, 0, 0, 0, 0, 1, 0, 3, 0]
+            caller.state[..17],
+            [1, 2, 1, 1, 0, 4, 0, 2, 0, 0, 0, 0, 1, 1, 0, 3, 0]
         );
     }
 
@@ -320,27 +320,35 @@ mod tests {
     fn a_state_out_of_range_is_refused() {
         let cases = [
             (0, 0),
-            (0, 151),
+            (0, 2),
+            (0, 255),
             (1, 0),
-            (1, 65),
-            (7, 3),
-            (9, 5),
-            (10, 3),
-            (11, 3),
-            (161, 3),
-            (163, 3),
-            (464, 2),
-            (765, 2),
-            (766 + 7, 8),
-            (766, 1),
-            (766 + 23, 1),
-            (4390, 2),
-            (4390, 8),
-            (4391, 1),
-            (4393, 1),
-            (4395, 1),
-            (4395, 8),
-            (4714, 1),
+            (1, 151),
+            (2, 0),
+            (2, 65),
+            (3, 0),
+            (3, 65),
+            (3, 255),
+            (9, 3),
+            (11, 5),
+            (12, 3),
+            (13, 0),
+            (13, 2),
+            (14, 3),
+            (164, 3),
+            (166, 3),
+            (467, 2),
+            (768, 2),
+            (769 + 7, 8),
+            (769, 1),
+            (769 + 23, 1),
+            (4393, 2),
+            (4393, 8),
+            (4394, 1),
+            (4396, 1),
+            (4398, 1),
+            (4398, 8),
+            (4717, 1),
         ];
         for (offset, value) in cases {
             let mut caller = Caller::opened();
@@ -353,7 +361,7 @@ mod tests {
     #[test]
     fn lists_are_measured_by_the_state_s_own_settings() {
         let mut caller = Caller::opened();
-        caller.state[2..4].copy_from_slice(&4097_u16.to_be_bytes());
+        caller.state[4..6].copy_from_slice(&4097_u16.to_be_bytes());
         assert_eq!(caller.advance(&[]), 6);
         caller.keys.resize(4097 * 8, 0);
         caller.chutes.resize(4097 * 2, 0);
@@ -363,7 +371,7 @@ mod tests {
     #[test]
     fn a_store_that_does_not_ascend_is_refused() {
         let mut caller = Caller::opened();
-        caller.state[9] = 2;
+        caller.state[11] = 2;
         assert_eq!(caller.advance(&[]), 12);
         caller.keys[15] = 1;
         assert_eq!(caller.advance(&[]), 0);
@@ -389,6 +397,126 @@ mod tests {
                 assert_eq!(caller.state, vec![9; STATE]);
             }
         }
+    }
+
+    /// The example with an insert, a change to three workers, a read and a change to one.
+    fn changing() -> Caller {
+        let mut caller = Caller::new();
+        let [insert, read] = [0, 16].map(|at| caller.commands[at..at + 16].to_vec());
+        let changes = [3, 1].map(|count| command::encode(5, &identifier::NONE, count));
+        caller.commands = [&insert, &changes[0], &read, &changes[1]]
+            .map(Vec::as_slice)
+            .concat();
+        caller.answers = vec![9; 8];
+        caller
+    }
+
+    /// Document 02, A.2: 8 at every character, and 14, with the place; 8 comes first.
+    #[test]
+    fn a_refused_worker_change_says_place_and_character() {
+        for place in [2, 4_u64] {
+            for character in 1..=13_u64 {
+                let mut caller = changing();
+                let part = place as usize * 16 - 16;
+                caller.commands[part + character as usize] = b'1';
+                caller.commands[part + 15] = 65;
+                let answer = 8 + 256 * place + (character << 32);
+                assert_eq!(caller.open(4, 1, 4), answer);
+                caller.commands[part + character as usize] = b'0';
+                assert_eq!(caller.open(4, 1, 4), 14 + 256 * place);
+                caller.commands[part + 15] = 0;
+                assert_eq!(caller.open(4, 1, 4), 14 + 256 * place);
+                caller.commands[part + 14] = 1;
+                assert_eq!(caller.open(4, 1, 4), 14 + 256 * place);
+                caller.commands[part] = 6;
+                assert_eq!(caller.open(4, 1, 4), 7 + 256 * place);
+                assert_eq!(caller.state, vec![9; STATE]);
+            }
+        }
+    }
+
+    /// A.2, in bytes: the largest count at offset 3 and the count in force at 13. A party up to the
+    /// largest may be named though its change is not loaded, and is shown by the panel.
+    #[test]
+    fn worker_counts_in_bytes() {
+        let mut caller = changing();
+        assert_eq!(caller.open(4, 1, 4), 0);
+        assert_eq!(caller.state[..4], [1, 4, 1, 3]);
+        assert_eq!(caller.state[13], 1);
+        assert_eq!(caller.advance(&[4]), 11);
+        let before = caller.state.clone();
+        assert_eq!(caller.advance(&[2, 3, 2]), 0);
+        assert_eq!(caller.state, before, "they wait");
+        assert_eq!(caller.advance(&[0; 14]), 0);
+        assert_eq!(caller.advance(&[1; 10 + 3]), 0);
+        assert_eq!(caller.state[4398..4403], [4, 0, 2, 0, 0], "found nothing");
+        assert_eq!((caller.state[13], caller.chutes[1]), (1, 7));
+        assert_eq!(caller.advance(&[1]), 0);
+        assert_eq!((caller.state[3], caller.state[13]), (3, 3));
+        assert_eq!(caller.answers, [3, 232, 3, 232, 0, 0, 0, 0]);
+        assert_eq!(caller.advance(&[1, 1, 1, 1, 1, 3, 3, 3]), 0);
+        let mut status = [9; 128];
+        assert_eq!(caller.report(worker_status, &mut status), 0);
+        assert_eq!(status[..8], [0, 0, 0, 0, 5, 3, 0, 0]);
+        assert_eq!(caller.advance(&[3, 3, 3, 3, 3, 3, 3, 3]), 0);
+        assert_eq!((caller.state[3], caller.state[13]), (3, 1));
+        assert_eq!(caller.report(worker_status, &mut status), 0);
+        assert_eq!(status[..8], [0, 0, 0, 0, 5, 4, 0, 0]);
+        assert_eq!(caller.advance(&[3, 3, 3, 2, 3, 3, 2]), 0);
+        assert!(caller.state[4393..].iter().all(|byte| *byte == 0));
+        assert_eq!(caller.answers, [3, 232, 3, 232, 0, 7, 3, 232]);
+    }
+
+    /// docs/STATE-LAYOUT.md: what the counts may hold, and that 6 is tested before and 11 behind.
+    #[test]
+    fn worker_counts_out_of_range_are_refused() {
+        let mut caller = changing();
+        assert_eq!(caller.open(4, 2, 4), 0);
+        let cases = [
+            ([1, 3, 3], 0),
+            ([1, 64, 64], 0),
+            ([1, 1, 1], 0),
+            ([0, 3, 2], 12),
+            ([2, 3, 2], 12),
+            ([1, 0, 0], 12),
+            ([1, 0, 1], 12),
+            ([1, 65, 2], 12),
+            ([1, 3, 0], 12),
+            ([1, 3, 4], 12),
+            ([1, 1, 2], 12),
+        ];
+        for ([chain, largest, in_force], answer) in cases {
+            caller.state[0] = chain;
+            caller.state[3] = largest;
+            caller.state[13] = in_force;
+            assert_eq!(caller.advance(&[]), answer, "{chain} {largest} {in_force}");
+            let refused = if answer == 0 { 11 } else { answer };
+            assert_eq!(caller.advance(&[0, 65]), refused);
+            let [mut counts, mut status] = [[9; COUNTS].to_vec(), [9; 128].to_vec()];
+            assert_eq!(caller.report(pending_counts, &mut counts), answer);
+            assert_eq!(caller.report(worker_status, &mut status), answer);
+            caller.keys.push(0);
+            assert_eq!(caller.advance(&[0, 65]), 6);
+            caller.keys.pop();
+        }
+    }
+
+    /// docs/STATE-LAYOUT.md: a largest count that is not the list's is not seen until a count above
+    /// it is written; and who is past it is idle in the report.
+    #[test]
+    fn a_largest_count_that_is_not_the_list_s() {
+        let mut caller = changing();
+        assert_eq!(caller.open(4, 1, 4), 0);
+        caller.state[3] = 2;
+        let turns = [[0; 14].as_slice(), &[1; 13]].concat();
+        assert_eq!(caller.advance(&turns), 0);
+        caller.state[4398 + 10] = 2;
+        let mut status = [9; 128];
+        assert_eq!(caller.report(worker_status, &mut status), 0);
+        assert_eq!(status[..8], [4, 2, 0, 0, 0, 0, 0, 0]);
+        assert_eq!(caller.advance(&[1, 2]), 0);
+        assert_eq!(caller.state[13], 3);
+        assert_eq!(caller.advance(&[]), 12);
     }
 
     #[test]

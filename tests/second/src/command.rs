@@ -7,18 +7,30 @@ use crate::refusal::{Fault, Refusal};
 pub const LENGTH: usize = 16;
 /// The largest chute; the smallest is 1, and 0 stands for none.
 pub const LARGEST_CHUTE: u16 = 512;
+/// The largest worker count; the smallest is 1.
+pub const LARGEST_COUNT: u16 = 64;
 
-/// What a command does; the value of each is its number in document 01.
+/// What a command does; the value of each is its number in documents 01 and 02.
 #[derive(Clone, Copy, Debug, PartialEq, Eq, Hash)]
 pub enum Kind {
     Insert = 1,
     Delete = 2,
     Read = 3,
     Update = 4,
+    /// Sets the worker count.
+    Workers = 5,
 }
 
 impl Kind {
-    pub const ALL: [Kind; 4] = [Kind::Insert, Kind::Delete, Kind::Read, Kind::Update];
+    pub const ALL: [Kind; 5] = [
+        Kind::Insert,
+        Kind::Delete,
+        Kind::Read,
+        Kind::Update,
+        Kind::Workers,
+    ];
+    /// Those that name an item.
+    pub const OF_ITEMS: [Kind; 4] = [Kind::Insert, Kind::Delete, Kind::Read, Kind::Update];
 
     pub fn from_number(number: u8) -> Option<Kind> {
         Kind::ALL.into_iter().find(|kind| kind.number() == number)
@@ -33,34 +45,57 @@ impl Kind {
         matches!(self, Kind::Insert | Kind::Update)
     }
 
-    /// Whether this is a chute, or 0 for none, that commands of this kind carry.
-    fn takes(self, chute: u16) -> bool {
-        if self.carries_chute() {
-            (1..=LARGEST_CHUTE).contains(&chute)
-        } else {
-            chute == 0
-        }
+    /// Refusal 10, and of a worker change 14: whether commands of this kind carry such a chute, 0
+    /// for none, or such a count.
+    fn check_last(self, number: u16) -> Result<(), Refusal> {
+        let (right, refusal) = match self {
+            Kind::Insert | Kind::Update => ((1..=LARGEST_CHUTE).contains(&number), Refusal::Chute),
+            Kind::Delete | Kind::Read => (number == 0, Refusal::Chute),
+            Kind::Workers => ((1..=LARGEST_COUNT).contains(&number), Refusal::Count),
+        };
+        right.then_some(()).ok_or(refusal)
     }
 }
 
 #[derive(Clone, Copy, Debug, PartialEq, Eq)]
 pub struct Command {
     pub kind: Kind,
+    /// 0 where the kind names no item; key 0 is a real item too.
     pub key: u64,
-    /// 0 where the kind carries none.
+    /// Of a worker change, the new count; 0 where the kind carries no chute.
     pub chute: u16,
 }
 
-/// Reads one command, or refuses it with 7, 8 or 13, 9, or 10, tested in that order. Its place,
-/// which its list gives, is 0 here.
+impl Command {
+    /// A command that sets the worker count.
+    pub fn workers(count: u8) -> Command {
+        Command {
+            kind: Kind::Workers,
+            key: 0,
+            chute: count.into(),
+        }
+    }
+
+    /// The count that a worker change sets.
+    pub fn count(&self) -> Option<u8> {
+        match self.kind {
+            Kind::Workers => Some(self.chute as u8),
+            Kind::Insert | Kind::Delete | Kind::Read | Kind::Update => None,
+        }
+    }
+}
+
+/// Reads one command, or refuses it with 7, 8 or 13, 9, and 10 or 14, tested in that order. Its
+/// place, which its list gives, is 0 here.
 pub fn read(part: &[u8; LENGTH]) -> Result<Command, Fault> {
     let [kind, text @ .., high, low] = part;
     let kind = Kind::from_number(*kind).ok_or(Refusal::Kind)?;
-    let key = identifier::read(text)?;
+    let key = match kind {
+        Kind::Workers => identifier::read_none(text).map(|()| 0)?,
+        Kind::Insert | Kind::Delete | Kind::Read | Kind::Update => identifier::read(text)?,
+    };
     let chute = u16::from_be_bytes([*high, *low]);
-    if !kind.takes(chute) {
-        return Err(Refusal::Chute.into());
-    }
+    kind.check_last(chute)?;
     Ok(Command { kind, key, chute })
 }
 
@@ -87,13 +122,15 @@ pub fn encode(kind: u8, text: &[u8], chute: u16) -> Vec<u8> {
 
 /// Whether two commands must keep their order.
 ///
-/// Of inserts and deletes, document 02's A.5: "From now on inserts and deletes depend on one
-/// another, on kinds 5 and 6, and on any command for their own key; reads and updates of other keys
-/// are independent of them." There is no kind 5 or 6 yet. Of the rest, document 01: "two updates of
-/// one key; an update and a read of one key. All other pairs are independent."
+/// Of kind 5, document 02's A.2: "it is dependent on every command". Of inserts and deletes, A.5:
+/// "From now on inserts and deletes depend on one another, on kinds 5 and 6, and on any command for
+/// their own key; reads and updates of other keys are independent of them." There is no kind 6 yet.
+/// Of the rest, document 01: "two updates of one key; an update and a read of one key. All other
+/// pairs are independent."
 pub fn dependent(first: &Command, second: &Command) -> bool {
     let same_key = first.key == second.key;
     match (first.kind, second.kind) {
+        (Kind::Workers, _) | (_, Kind::Workers) => true,
         (Kind::Insert | Kind::Delete, Kind::Insert | Kind::Delete) => true,
         (Kind::Insert | Kind::Delete, Kind::Read | Kind::Update)
         | (Kind::Read | Kind::Update, Kind::Insert | Kind::Delete)
@@ -119,8 +156,19 @@ mod tests {
     }
 
     fn command(kind: Kind, key: u64) -> Command {
-        let chute = if kind.carries_chute() { 7 } else { 0 };
-        Command { kind, key, chute }
+        match kind {
+            Kind::Workers => Command::workers(7),
+            Kind::Insert | Kind::Update => Command {
+                kind,
+                key,
+                chute: 7,
+            },
+            Kind::Delete | Kind::Read => Command {
+                kind,
+                key,
+                chute: 0,
+            },
+        }
     }
 
     /// Document 01, the two commands of the program's example.
@@ -170,13 +218,74 @@ mod tests {
     #[test]
     fn each_kind_takes_its_own_chutes() {
         for kind in Kind::ALL {
-            let accepted = [0, 1, 512, 513, 65_535]
-                .map(|chute| read_list(&encode(kind.number(), FIRST, chute)).is_ok());
+            let text = match kind {
+                Kind::Workers => &identifier::NONE,
+                Kind::Insert | Kind::Delete | Kind::Read | Kind::Update => FIRST,
+            };
+            let accepted = [0, 1, 64, 65, 512, 513, 65_535]
+                .map(|chute| read_list(&encode(kind.number(), text, chute)).is_ok());
             let expected = match kind {
-                Kind::Insert | Kind::Update => [false, true, true, false, false],
-                Kind::Delete | Kind::Read => [true, false, false, false, false],
+                Kind::Insert | Kind::Update => [false, true, true, true, true, false, false],
+                Kind::Delete | Kind::Read => [true, false, false, false, false, false, false],
+                Kind::Workers => [false, true, true, false, false, false, false],
             };
             assert_eq!(accepted, expected, "{kind:?}");
+        }
+    }
+
+    /// Document 02, A.2: kind 5 is admitted, kind 6 and up are not.
+    #[test]
+    fn a_worker_change_is_read_with_its_count() {
+        for count in 1..=64 {
+            let part = encode(5, &identifier::NONE, count);
+            let commands = read_list(&part).expect("a right command");
+            assert_eq!(commands, [Command::workers(count as u8)]);
+            assert_eq!(commands[0].count(), Some(count as u8));
+        }
+        for kind in (0..=u8::MAX).filter(|kind| !(1..=5).contains(kind)) {
+            let part = encode(kind, &identifier::NONE, 1);
+            assert_eq!(read_list(&part), refused(Refusal::Kind, 1, 0));
+        }
+        for kind in Kind::OF_ITEMS {
+            assert_eq!(command(kind, 5).count(), None);
+        }
+    }
+
+    /// A.2: 14 with the place and no character, for every other count.
+    #[test]
+    fn a_count_that_is_not_1_to_64_is_refused_14() {
+        let right = encode(5, &identifier::NONE, 64);
+        for count in [0].into_iter().chain(65..=u16::MAX) {
+            let wrong = encode(5, &identifier::NONE, count);
+            let list = [&right[..], &wrong].concat();
+            assert_eq!(read_list(&wrong), refused(Refusal::Count, 1, 0));
+            assert_eq!(read_list(&list), refused(Refusal::Count, 2, 0));
+        }
+    }
+
+    /// A.2: the identifier of kind 5 is tested under 8 alone, at every character, before 14. The
+    /// first that is not 0 is told, whatever stands behind it, and no other digit is 0.
+    #[test]
+    fn a_worker_change_with_an_identifier_is_refused_8() {
+        for position in 0..identifier::LENGTH {
+            for wrong in (0..=u8::MAX).filter(|byte| *byte != b'0') {
+                let mut text = identifier::NONE;
+                text[position] = wrong;
+                let later = [&text[..=position], &FIRST[position + 1..]].concat();
+                for text in [&text[..], &later] {
+                    for count in [1, 0, 65] {
+                        let list = [encode(3, FIRST, 0), encode(5, text, count)].concat();
+                        let expected = refused(Refusal::Identifier, 2, position + 1);
+                        assert_eq!(read_list(&list), expected, "{text:?} {count}");
+                    }
+                }
+            }
+        }
+        let item = read_list(&encode(5, FIRST, 1));
+        assert_eq!(item, refused(Refusal::Identifier, 1, 1));
+        for kind in Kind::OF_ITEMS {
+            let none = read_list(&encode(kind.number(), &identifier::NONE, 1));
+            assert_eq!(none, refused(Refusal::Identifier, 1, 1), "{kind:?}");
         }
     }
 
@@ -245,6 +354,18 @@ mod tests {
             assert_eq!(pair(first, second, 5), one, "{first:?} {second:?}");
             for key in [0, 4, 6, 5 + (1 << 32), identifier::LARGEST_KEY] {
                 assert_eq!(pair(first, second, key), two, "{first:?} {second:?}, {key}");
+            }
+        }
+    }
+
+    /// Document 02, A.2: kind 5 is dependent on every command, both ways, of whatever key.
+    #[test]
+    fn a_worker_change_is_dependent_on_every_command() {
+        for kind in Kind::ALL {
+            for key in [0, 5, identifier::LARGEST_KEY] {
+                let it = command(kind, key);
+                assert!(dependent(&Command::workers(1), &it), "{it:?}");
+                assert!(dependent(&it, &Command::workers(64)), "{it:?}");
             }
         }
     }

@@ -38,6 +38,7 @@ pub fn draw(input: &Input) -> String {
     page.draw_legend(&mut svg);
     page.draw_axis(&mut svg);
     page.draw_records(&mut svg);
+    page.draw_counts(&mut svg);
     page.draw_parties(&mut svg);
     page.draw_table(&mut svg);
     svg.finish(page.width, page.height, &page.title(), STYLE)
@@ -67,16 +68,17 @@ impl Page<'_> {
         records.truncate(MOST_RECORDS);
         let parties = parties_drawn(input, &trace);
         let turns = trace.turns.len() as f64;
-        let least = if input.settings.workers > 9 {
-            12.0
-        } else {
-            8.0
-        };
+        let least = if input.largest() > 9 { 12.0 } else { 8.0 };
         let column = (1400.0 / turns.max(1.0)).clamp(least, 22.0);
         let width = (LEFT + turns * column + RIGHT).max(LEAST_WIDTH);
         let notes = notes(input, &trace).len() as f64;
-        let axis = legend::TOP + notes * LINE + legend::height(width) + GAP;
-        let parties_top = axis + rows::above_parties(records.len()) + GAP;
+        let axis = legend::TOP + notes * LINE + legend::height(input, width) + GAP;
+        let counts = if input.changes_workers() {
+            rows::COUNT
+        } else {
+            0.0
+        };
+        let parties_top = axis + rows::above_parties(records.len()) + GAP + counts;
         let table_top = parties_top + rows::PARTY * parties.len() as f64 + 2.0 * GAP;
         let height = table_top + table::height(&trace, input);
         Page {
@@ -104,13 +106,23 @@ impl Page<'_> {
             "Graph size {}, {}, room {}, {}. One column is one turn, and shows how things stand \
              after it.",
             settings.size,
-            count(settings.workers.into(), "worker"),
+            self.workers(),
             settings.room,
             count(self.input.schedule.len(), "turn"),
         );
         svg.text("cell", RIGHT, 50.0, &words);
         for (index, note) in notes(self.input, &self.trace).iter().enumerate() {
             svg.text("note", RIGHT, 50.0 + LINE * (index + 1) as f64, note);
+        }
+    }
+
+    /// The workers of the opening, and where the list changes them, the most.
+    fn workers(&self) -> String {
+        let first = count(self.input.settings.workers.into(), "worker");
+        if self.input.changes_workers() {
+            format!("{first} at first, {} at the most", self.input.largest())
+        } else {
+            first
         }
     }
 
@@ -127,9 +139,9 @@ impl Page<'_> {
 
 /// The loader, all workers if there are few, and else those that have a turn.
 fn parties_drawn(input: &Input, trace: &Trace) -> Vec<u8> {
-    let few = usize::from(input.settings.workers) <= MOST_WORKERS;
+    let few = usize::from(input.largest()) <= MOST_WORKERS;
     let drawn = |worker: &u8| few || trace.turns.iter().any(|turn| turn.party == *worker);
-    let workers = (1..=input.settings.workers).filter(drawn);
+    let workers = (1..=input.largest()).filter(drawn);
     [0].into_iter().chain(workers.take(MOST_WORKERS)).collect()
 }
 
@@ -150,7 +162,7 @@ fn notes(input: &Input, trace: &Trace) -> Vec<String> {
     }
     let [drawn, workers] = [
         parties_drawn(input, trace).len() - 1,
-        input.settings.workers.into(),
+        input.largest().into(),
     ];
     if drawn < workers {
         notes.push(format!(
@@ -197,7 +209,7 @@ fn party_mark(party: u8) -> String {
 mod tests {
     use super::*;
     use crate::random::Random;
-    use crate::run::Run;
+    use crate::run::{Party, Run};
     use crate::text::options::Options;
 
     const EXAMPLE: &str = "insert AA000000005AA 7\nread AA000000005AA";
@@ -225,6 +237,26 @@ mod tests {
         let list: String = (0..random.below(30)).map(|_| random.pick(&kinds)).collect();
         let [size, workers] = [1 + random.below(20), 1 + random.below(12)];
         let turns = format!("--random {} {}", random.number(), random.below(400));
+        input(
+            &format!("--size {size} --workers {workers} --room 4 {turns}"),
+            &list,
+        )
+    }
+
+    /// One with worker changes.
+    fn random_shifts(random: &mut Random) -> Input {
+        let kinds = [
+            "insert AA000000005AA 7\n",
+            "read AA000000005AA\n",
+            "workers 1\n",
+            "workers 2\n",
+            "workers 5\n",
+        ];
+        let list: String = (0..1 + random.below(12))
+            .map(|_| random.pick(&kinds))
+            .collect();
+        let [size, workers] = [1 + random.below(8), 1 + random.below(4)];
+        let turns = format!("--random {} {}", random.number(), 1 + random.below(300));
         input(
             &format!("--size {size} --workers {workers} --room 4 {turns}"),
             &list,
@@ -336,6 +368,67 @@ mod tests {
         }
     }
 
+    /// Document 02, A.2: an idle worker above the count in force has a pale dot for its wait and no
+    /// cross; a search that it goes on with is told as one that may take nothing.
+    #[test]
+    fn each_wait_above_the_count_is_a_pale_dot() {
+        let random = &mut Random::new(6);
+        let mut pale = 0;
+        for _ in 0..60 {
+            let input = random_shifts(random);
+            let mut run = Run::open(input.settings, input.commands.clone());
+            let [mut rests, mut waits] = [0, 0];
+            for party in &input.schedule {
+                let idle = run.parties[usize::from(*party)] == Party::Idle;
+                let rest = *party > run.in_force && idle;
+                let moved = run.turn(*party);
+                rests += usize::from(rest);
+                waits += usize::from(!moved && !rest);
+            }
+            let picture = draw(&input);
+            assert_eq!(marks(&picture, "turn"), input.schedule.len());
+            assert_eq!(marks(&picture, "why"), waits);
+            if input.changes_workers() {
+                let dots = picture.matches("class=\"rest p").count();
+                assert_eq!(dots, rests + 1, "one is in the legend");
+                pale += rests;
+            }
+        }
+        assert!(pale > 500, "{pale}");
+    }
+
+    /// A.2: the counts in force are drawn and told, with who waits for a change and why.
+    #[test]
+    fn the_count_in_force_is_shown() {
+        let list = "read AA000000005AA\nworkers 1\nread RR473124829GB";
+        let turns = "0,0,0,0,0,1,1,1,1,1,1,1,1,1,1,0,0,0,2,1,1,2,2,2,2,1,1,1,1,2";
+        let options = format!("--size 3 --workers 2 --room 4 --turns-file {turns}");
+        let picture = draw(&input(&options, list));
+        for words in [
+            "workers 1 to 2",
+            "worker 1",
+            "allowed",
+            "2 workers 1",
+            "1 (any command) until turn 11",
+            "2 (workers change) until turn 28",
+            "turn 19, worker 2: searching",
+            "turn 22, worker 2: searching, may take nothing",
+            "turn 25, worker 2: waits, above the worker count 1",
+            "Worker count in force: 2 from the opening; 1 from turn 20.",
+            "Idle waits above it: worker 2 at turns 25 30.",
+            "a worker above the count in force",
+        ] {
+            let told = picture.contains(&format!(">{words}<"));
+            assert!(told, "{words}");
+        }
+        assert!(picture.contains("2 workers at first, 2 at the most"));
+        let plain = draw(&example());
+        for words in ["allowed", "a worker above the count in force"] {
+            assert!(!plain.contains(&format!(">{words}<")), "{words}");
+        }
+        assert!(!plain.contains("Worker count in force"));
+    }
+
     #[test]
     fn what_is_left_out_is_said() {
         let said = |options: &str| {
@@ -365,6 +458,7 @@ mod tests {
     fn every_picture_is_well_formed_and_inside_its_page() {
         let random = &mut Random::new(5);
         let mut inputs: Vec<Input> = (0..40).map(|_| random_input(random)).collect();
+        inputs.extend((0..40).map(|_| random_shifts(random)));
         inputs.push(example());
         inputs.push(input("--size 1 --workers 1 --room 1", ""));
         inputs.push(input(

@@ -2,6 +2,7 @@
 //! position, at every bound and in several ways at once.
 
 mod commands;
+mod counts;
 mod faults;
 mod identifiers;
 mod lists;
@@ -39,12 +40,14 @@ pub enum Sort {
     Reads,
     /// Runs in which reads and updates pass inserts and deletes of other items, or are passed.
     Passes,
+    /// Runs in which the worker count changes.
+    Shifts,
     /// An input of the program.
     Programs,
 }
 
 impl Sort {
-    pub const ALL: [Sort; 10] = [
+    pub const ALL: [Sort; 11] = [
         Sort::Identifiers,
         Sort::Keys,
         Sort::Commands,
@@ -54,6 +57,7 @@ impl Sort {
         Sort::Announcements,
         Sort::Reads,
         Sort::Passes,
+        Sort::Shifts,
         Sort::Programs,
     ];
 
@@ -68,6 +72,7 @@ impl Sort {
             Sort::Announcements => "announcements",
             Sort::Reads => "reads",
             Sort::Passes => "passes",
+            Sort::Shifts => "shifts",
             Sort::Programs => "programs",
         }
     }
@@ -90,6 +95,7 @@ pub fn cases(seed: u64) -> Vec<(Sort, Case)> {
     sorts
         .into_iter()
         .chain(sums::cases(random))
+        .chain(counts::cases(random))
         .flat_map(|(sort, cases)| cases.into_iter().map(move |case| (sort, case)))
         .collect()
 }
@@ -154,7 +160,7 @@ mod tests {
     use std::sync::LazyLock;
 
     use super::*;
-    use crate::command::dependent;
+    use crate::command::{Kind, dependent};
     use crate::depot::Second;
     use crate::host::Host;
     use crate::refusal::answer_words;
@@ -179,7 +185,7 @@ mod tests {
 
     #[test]
     fn there_are_enough_cases_and_every_outcome_is_met_often() {
-        let mut counts = [[0; 14]; Sort::ALL.len()];
+        let mut counts = [[0; 15]; Sort::ALL.len()];
         for ((sort, answer), count) in COUNTS.iter() {
             counts[*sort][*answer as usize % 256] += count;
         }
@@ -197,8 +203,8 @@ mod tests {
         };
         check(Sort::Identifiers, 45_000, &[0, 6, 8, 9, 13]);
         check(Sort::Keys, 20_000, &[0, 6, 12]);
-        check(Sort::Commands, 60_000, &[0, 4, 7, 8, 9, 10, 13]);
-        check(Sort::Lists, 5_000, &[0, 4, 7, 8, 9, 10, 13]);
+        check(Sort::Commands, 60_000, &[0, 4, 7, 8, 9, 10, 13, 14]);
+        check(Sort::Lists, 5_000, &[0, 4, 7, 8, 9, 10, 13, 14]);
         check(Sort::Pairs, 10_000, &[0]);
     }
 
@@ -241,8 +247,14 @@ mod tests {
             let met = (one, other, first.key == second.key, found);
             *counts.entry(met).or_default() += 1;
         }
-        assert_eq!(counts.len(), 2 * 16, "{counts:?}");
+        // A worker change, whose key counts as 0, is met before and behind items of key 0 and of
+        // others, and before another.
+        assert_eq!(counts.len(), 2 * 16 + 2 * 2 * 4 + 1, "{counts:?}");
         assert!(counts.values().all(|count| *count >= 20), "{counts:?}");
+        let change = Kind::Workers.number();
+        for (one, other, _, found) in counts.keys() {
+            assert!(*found || ![one, other].contains(&&change), "{one} {other}");
+        }
     }
 
     /// A right insert that is opened alone is served, so that its key and chute are seen.

@@ -12,6 +12,7 @@ pub const GUARD: [u8; 16] = *b"guard lent list.";
 /// The lists in the order of `List::ALL`, with their guards.
 pub type Memory = [Vec<u8>; List::ALL.len()];
 
+#[derive(Clone)]
 pub struct Host {
     memory: Memory,
     kept: Memory,

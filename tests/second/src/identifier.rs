@@ -14,6 +14,8 @@ pub const LETTERS: [usize; 4] = [0, 1, 11, 12];
 pub const LARGEST_KEY: u64 = 45_697_599_999_999;
 /// What the digits of the serial are multiplied by.
 pub const WEIGHTS: [u32; 8] = [8, 6, 4, 2, 3, 5, 9, 7];
+/// What stands for an identifier in a command that names no item.
+pub const NONE: [u8; LENGTH] = [b'0'; LENGTH];
 /// How many pairs of letters there are.
 pub const PAIRS: u64 = 676;
 /// How many serials there are.
@@ -31,6 +33,16 @@ pub fn read(text: &[u8]) -> Result<u64, Fault> {
     let first = pair(text[0], text[1]);
     let last = pair(text[11], text[12]);
     Ok((first * SERIALS + u64::from(serial)) * PAIRS + last)
+}
+
+/// Refusal 8, of a command that names no item, with the first character that is not 0; it is 0
+/// where the length is wrong.
+pub fn read_none(text: &[u8]) -> Result<(), Fault> {
+    let text: &[u8; LENGTH] = text.try_into().map_err(|_| Refusal::Identifier)?;
+    match text.iter().position(|character| *character != b'0') {
+        Some(position) => Err(fault_at(position, Refusal::Identifier)),
+        None => Ok(()),
+    }
 }
 
 /// Writes the identifier of a key into `out`, or refuses with 6 or 12 and leaves it as it was.
@@ -201,6 +213,23 @@ mod tests {
             let right = b"AA000000005AA".iter().copied().cycle();
             let text: Vec<u8> = right.take(length).collect();
             assert_eq!(outcome(&text), (8, 0));
+        }
+    }
+
+    /// Document 02, A.2: thirteen characters 0, else the first that is not; a wrong length has no
+    /// character.
+    #[test]
+    fn the_first_character_that_is_not_0_is_told() {
+        assert_eq!(read_none(&NONE), Ok(()));
+        for length in (0..40).filter(|length| *length != LENGTH) {
+            let fault = read_none(&vec![b'0'; length]).expect_err("a wrong length");
+            assert_eq!(fault, Refusal::Identifier.into());
+        }
+        for text in texts().iter().filter(|text| text.len() == LENGTH) {
+            let fault = read_none(text).expect_err("there are letters");
+            assert_eq!(fault, fault_at(fault.character - 1, Refusal::Identifier));
+            assert!(text[..fault.character - 1].iter().all(|it| *it == b'0'));
+            assert_ne!(text[fault.character - 1], b'0');
         }
     }
 

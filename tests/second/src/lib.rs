@@ -6,7 +6,8 @@
 //!   program, and `refusal` the numbers of refusal and how a call answers them.
 //! - The comparison: `depot` names the calls that are compared, `script` is the steps of one input,
 //!   `host` a caller that takes them, `play` two callers side by side, and `generate` makes the
-//!   inputs from a seed (`random`); `hex` shows them. The program `compare_depot` runs it.
+//!   inputs from a seed (`random`); `hex` shows them, and `met` counts what they meet of worker
+//!   changes. The program `compare_depot` runs it.
 //! - The tools: `text` turns the program's input into text and back for `depot_text`, and `draw`
 //!   makes a picture of a run for `depot_draw`.
 
@@ -21,6 +22,7 @@ pub mod generate;
 pub mod hex;
 pub mod host;
 pub mod identifier;
+pub mod met;
 pub mod play;
 pub mod program;
 pub mod random;

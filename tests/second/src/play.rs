@@ -1,9 +1,13 @@
 //! Takes each step of a run with the second program and with the code that it judges, and tells
 //! the first difference in words.
 
-use crate::bytes::{EXECUTING, FREE, KEY, LOCKED, NEXT, NUMBER, PARTY, PARTY_BYTES, PLACE, SETS};
+use crate::bytes::{
+    CHAIN, COUNT, EXECUTING, FREE, IN_FORCE, KEY, LARGEST, LOADED, LOCKED, NEXT, NUMBER, PARTY,
+    PARTY_BYTES, PLACE, ROOM, SETS, SIZE, USED, WORKERS,
+};
 use crate::depot::{Depot, Second};
 use crate::host::{GUARD, Host};
+use crate::met::Met;
 use crate::refusal::answer_words;
 use crate::script::{List, Step};
 use crate::serial;
@@ -18,6 +22,8 @@ pub struct Play<'a> {
     found: Host,
     /// The steps so far.
     pub steps: Vec<Step>,
+    /// What they met.
+    pub met: Met,
 }
 
 impl<'a> Play<'a> {
@@ -27,6 +33,7 @@ impl<'a> Play<'a> {
             expected: Host::default(),
             found: Host::default(),
             steps: Vec::new(),
+            met: Met::default(),
         }
     }
 
@@ -37,7 +44,7 @@ impl<'a> Play<'a> {
 
     /// Takes a step on both sides; the answer, if nothing differs.
     pub fn take(&mut self, step: Step) -> Result<u64, Difference> {
-        let expected = self.expected.take(&Second, &step);
+        let expected = self.take_expected(&step);
         let found = self.found.take(self.judged, &step);
         let serial = step == Step::Serial;
         self.steps.push(step);
@@ -54,6 +61,21 @@ impl<'a> Play<'a> {
             None => Ok(expected),
             Some(words) => Err(format!("step {}: {words}", self.steps.len())),
         }
+    }
+
+    /// Takes a step on the second program's side, and notes what it meets. Only a call on lists as
+    /// they stood before it can be noted.
+    fn take_expected(&mut self, step: &Step) -> u64 {
+        let noted = matches!(
+            step,
+            Step::Open { .. } | Step::Advance(_) | Step::WorkerStatus(_)
+        );
+        let before = noted.then(|| self.expected.clone());
+        let answer = self.expected.take(&Second, step);
+        if let Some(before) = before {
+            self.met.note_step(&before, step, answer);
+        }
+        answer
     }
 
     /// Takes all steps up to the first that differs; the last answer, if none does.
@@ -158,13 +180,16 @@ fn entry_width(list: List) -> usize {
 /// Which field a byte of the state belongs to.
 fn field(offset: usize) -> String {
     match offset {
-        0 => "graph size".to_string(),
-        1 => "workers".to_string(),
-        2..4 => "room".to_string(),
-        4..6 => "command count".to_string(),
-        6..8 => "commands loaded".to_string(),
-        8..10 => "store places used".to_string(),
+        CHAIN => "chain".to_string(),
+        SIZE => "graph size".to_string(),
+        WORKERS => "workers".to_string(),
+        LARGEST => "largest worker count".to_string(),
+        ROOM..COUNT => "room".to_string(),
+        COUNT..LOADED => "command count".to_string(),
+        LOADED..USED => "commands loaded".to_string(),
+        USED..FREE => "store places used".to_string(),
         FREE => "first unused record".to_string(),
+        IN_FORCE => "worker count in force".to_string(),
         NEXT..PLACE => format!("next of record {}", offset - NEXT),
         PLACE..EXECUTING => format!("place of record {}", (offset - PLACE) / 2),
         EXECUTING..LOCKED => format!("state of record {}", offset - EXECUTING),

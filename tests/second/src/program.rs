@@ -23,7 +23,7 @@ fn report(run: &Run) -> String {
     let mut lines = String::new();
     for (index, (command, answer)) in run.commands.iter().zip(&run.answers).enumerate() {
         let kind = kind_name(command.kind);
-        let text = identifier_text(command.key);
+        let text = identifier_text(command);
         writeln!(lines, "{} {kind} {text} {answer}", index + 1).expect("a string takes all");
     }
     writeln!(
@@ -40,6 +40,7 @@ fn report(run: &Run) -> String {
 mod tests {
     use super::*;
     use crate::command::encode;
+    use crate::identifier::NONE;
     use crate::run::Settings;
     use crate::text::input::{self, EXAMPLE};
 
@@ -85,6 +86,49 @@ mod tests {
         );
     }
 
+    /// Document 02, A.2: the kind is printed as `workers`, its thirteen characters as they stand;
+    /// party 2, which only the list's count allows, serves the command after it.
+    #[test]
+    fn a_worker_change_is_printed() {
+        const ITEM: &[u8; 13] = b"AA000000005AA";
+        let parts = [
+            encode(1, ITEM, 7),
+            encode(5, &NONE, 2),
+            encode(3, ITEM, 0),
+            encode(5, &NONE, 1),
+        ];
+        let settings = Settings {
+            size: 4,
+            workers: 1,
+            room: 1,
+        };
+        let schedule = [[2; 3].as_slice(), &[0; 14], &[1; 19], &[2; 7], &[1; 7]].concat();
+        let input = |schedule: &[u8]| input::encode(settings, &parts.concat(), schedule);
+        assert_eq!(
+            output(&input(&schedule)),
+            "1 insert AA000000005AA 1000\n2 workers 0000000000000 1000\n\
+             3 read AA000000005AA 7\n4 workers 0000000000000 1000\nstore 1 chain 0\n"
+        );
+        assert_eq!(
+            output(&input(&[])),
+            "1 insert AA000000005AA 0\n2 workers 0000000000000 0\n\
+             3 read AA000000005AA 0\n4 workers 0000000000000 0\nstore 0 chain 0\n"
+        );
+        assert_eq!(output(&input(&[2])).lines().count(), 5);
+        assert_eq!(output(&input(&[3])), "refused 11\n");
+    }
+
+    /// A.2: the number alone, of 8 at any character and of 14.
+    #[test]
+    fn a_refused_worker_change_prints_its_number() {
+        for (position, byte, number) in [(1, b'1', 8), (7, b'A', 8), (13, 0, 8), (15, 65, 14)] {
+            let mut input = EXAMPLE.to_vec();
+            input[6..22].copy_from_slice(&encode(5, &NONE, 1));
+            input[6 + position] = byte;
+            assert_eq!(output(&input), format!("refused {number}\n"));
+        }
+    }
+
     /// Document 02, A.1: the number alone is printed, as before.
     #[test]
     fn a_faulty_identifier_prints_its_number_alone() {
@@ -101,7 +145,7 @@ mod tests {
         let mut input = EXAMPLE.to_vec();
         input.push(2);
         assert_eq!(output(&input), "refused 11\n");
-        input[6] = 5;
+        input[6] = 6;
         assert_eq!(output(&input), "refused 7\n");
         input[0] = 151;
         assert_eq!(output(&input), "refused 1\n");

@@ -15,20 +15,23 @@ pub enum Refusal {
     TooManyCommands = 5,
     /// A lent or handed-back list, or the state, has the wrong length.
     Length = 6,
-    /// The kind is not 1 to 4.
+    /// The kind is not 1 to 5.
     Kind = 7,
-    /// The length of an identifier is wrong, or its first faulty character stands for a letter.
+    /// The length of an identifier is wrong, or its first faulty character stands for a letter; of
+    /// a worker change, its identifier is not thirteen characters 0.
     Identifier = 8,
     /// The check digit of an identifier is wrong.
     CheckDigit = 9,
     /// The chute is wrong for the kind.
     Chute = 10,
-    /// A turn is dealt to a party above the worker count.
+    /// A turn is dealt to a party above the largest worker count.
     Party = 11,
     /// The key is above the largest, or a handed-back state is out of range.
     OutOfRange = 12,
     /// The first faulty character of an identifier stands for a digit and is none.
     Digit = 13,
+    /// The count of a worker change is not 1 to 64.
+    Count = 14,
 }
 
 impl Refusal {

@@ -5,6 +5,10 @@
 //! against. Where a state that no dealing reaches leaves the outcome open, it does what
 //! docs/DECISIONS.md chose; what an insert, a looked-up read and a record without a command do
 //! there is chosen here, by `write` and `look_up`.
+//!
+//! Document 02, A.2, of kind 5: "From its writing turn, a worker above the count starts no search
+//! and waits when idle. One already searching walks to the end and takes nothing; the one that holds
+//! the kind 5 command finishes its removal." The count in force at a turn decides of that turn.
 
 use crate::command::{Command, Kind, dependent};
 use crate::serial::{ANNOUNCED_AGAIN, DONE, NO_SUCH_ITEM, STORE_FULL};
@@ -23,6 +27,7 @@ const END: u8 = 0;
 #[derive(Clone, Copy, Debug, PartialEq, Eq)]
 pub struct Settings {
     pub size: u8,
+    /// The count in force until a worker change is written.
     pub workers: u8,
     pub room: u16,
 }
@@ -45,7 +50,8 @@ pub struct Records {
 }
 
 /// What a party is doing. `at` is the record it stands on and has locked, `own` the record it
-/// loads or removes, `found` the chute that its look-up found, 0 for none.
+/// loads or removes, `found` the chute that its look-up found, 0 for none and for a command that
+/// names no item.
 ///
 /// Document 02, A.5: "A store entry may now move between a worker's look and its writing, so the
 /// look keeps what was found and not its place in the store."
@@ -99,6 +105,10 @@ impl Party {
 #[derive(Clone, Debug, PartialEq, Eq)]
 pub struct Run {
     pub settings: Settings,
+    /// The largest worker count of the opening and of the list: the last party that may be named.
+    pub largest: u8,
+    /// The count in force: the last worker that may begin a search or take a record.
+    pub in_force: u8,
     pub commands: Vec<Command>,
     /// How many commands are loaded.
     pub loaded: u16,
@@ -114,6 +124,8 @@ impl Run {
     pub fn open(settings: Settings, commands: Vec<Command>) -> Run {
         Run {
             settings,
+            largest: largest_count(settings.workers, &commands),
+            in_force: settings.workers,
             loaded: 0,
             records: Records::new(settings.size),
             parties: [Party::Idle; PARTIES],
@@ -123,22 +135,24 @@ impl Run {
         }
     }
 
-    /// Deals turns to these parties, each at most the worker count.
+    /// Deals turns to these parties, each at most the largest worker count.
     pub fn advance(&mut self, schedule: &[u8]) {
         for party in schedule {
             self.turn(*party);
         }
     }
 
-    /// One turn of a party that is at most the worker count; whether it was more than a wait.
+    /// One turn of a party that is at most the largest worker count; whether it was more than a
+    /// wait.
     #[inline]
     pub fn turn(&mut self, party: u8) -> bool {
         let now = self.parties[usize::from(party)];
         let after = match now {
             Party::Idle if party == 0 => self.load(),
+            Party::Idle if party > self.in_force => None,
             Party::Idle => self.lock_head().map(|at| Party::Searching { at }),
             Party::Loading { at, own } => self.walk_loading(at, own),
-            Party::Searching { at } => self.search(at),
+            Party::Searching { at } => self.search(at, party <= self.in_force),
             Party::Holding { own } => Some(self.look_up(own)),
             Party::LookedUp { own, found } => Some(self.write(own, found)),
             Party::Written { own } => self.lock_head().map(|at| Party::Walking { at, own }),
@@ -191,14 +205,15 @@ impl Run {
         Some(Party::Loading { at, own })
     }
 
-    fn search(&mut self, at: u8) -> Option<Party> {
+    /// A worker above the count in force may take nothing, and walks to the end.
+    fn search(&mut self, at: u8, may_take: bool) -> Option<Party> {
         if self.records.next[usize::from(at)] == END {
             self.records.locked[usize::from(at)] = false;
             return Some(Party::Idle);
         }
         let at = self.records.step_on(at)?;
         let index = usize::from(at);
-        if self.records.executing[index] || self.records.set[index] != [0; 3] {
+        if !may_take || self.records.executing[index] || self.records.set[index] != [0; 3] {
             return Some(Party::Searching { at });
         }
         self.records.executing[index] = true;
@@ -207,16 +222,17 @@ impl Run {
     }
 
     /// Document 02, A.8: "A worker's look and writing become one turn for kind 3; other kinds keep
-    /// two." A record without a command, which no dealing lets a worker hold, is of no kind and
-    /// keeps two.
+    /// two." A worker change names no item, and its look finds nothing. A record without a command,
+    /// which no dealing lets a worker hold, is of no kind and keeps two.
     fn look_up(&mut self, own: u8) -> Party {
-        let command = self.command(own);
-        let found = command.map_or(0, |it| self.store.chute(it.key));
-        match command.map(|it| it.kind) {
-            Some(Kind::Read) => self.write(own, found),
-            Some(Kind::Insert | Kind::Delete | Kind::Update) | None => {
-                Party::LookedUp { own, found }
-            }
+        let found = |key: u64| self.store.chute(key);
+        match self.command(own).map(|it| (it.kind, it.key)) {
+            Some((Kind::Read, key)) => self.write(own, found(key)),
+            Some((Kind::Insert | Kind::Delete | Kind::Update, key)) => Party::LookedUp {
+                own,
+                found: found(key),
+            },
+            Some((Kind::Workers, _)) | None => Party::LookedUp { own, found: 0 },
         }
     }
 
@@ -237,7 +253,8 @@ impl Run {
     ///   take out or to set.
     ///
     /// There a worker may also be looked-up for a read: its turn answers what the look-up found and
-    /// does not look again, as the turn of every looked-up worker.
+    /// does not look again, as the turn of every looked-up worker. A worker change is done whatever
+    /// was found, and its count comes into force even above the largest, which the next call tests.
     fn write(&mut self, own: u8, found: u16) -> Party {
         if let Some(Command { kind, key, chute }) = self.command(own) {
             let answer = match (kind, found) {
@@ -258,6 +275,10 @@ impl Run {
                 }
                 (Kind::Update, _) => {
                     self.store.replace(key, chute);
+                    DONE
+                }
+                (Kind::Workers, _) => {
+                    self.in_force = chute as u8;
                     DONE
                 }
             };
@@ -313,6 +334,12 @@ impl Run {
         let place = usize::from(self.records.place[usize::from(record)]);
         self.commands.get(place.checked_sub(1)?).copied()
     }
+}
+
+/// The largest of the opening's worker count and those that a list sets, loaded or not.
+pub fn largest_count(workers: u8, commands: &[Command]) -> u8 {
+    let counts = commands.iter().filter_map(Command::count);
+    counts.fold(workers, u8::max)
 }
 
 impl Records {
@@ -685,6 +712,183 @@ mod tests {
         run.advance(&[3; 7]);
         assert_eq!(run.parties[3], Party::Idle, "all others wait");
         assert_eq!(run.answers, [0, 0, 1000, 0, 0]);
+    }
+
+    /// Document 02, A.2: the largest of the opening's count and those of the whole list.
+    #[test]
+    fn the_largest_count_is_that_of_the_opening_and_the_list() {
+        for (workers, counts, largest) in [
+            (2, &[][..], 2),
+            (2, &[1], 2),
+            (2, &[3, 1], 3),
+            (1, &[1, 2, 64], 64),
+        ] {
+            let mut commands = vec![command(Kind::Insert, 5, 512)];
+            commands.extend(counts.iter().map(|count| Command::workers(*count)));
+            let run = Run::open(settings(1, workers, 1), commands);
+            assert_eq!((run.largest, run.in_force), (largest, workers));
+        }
+    }
+
+    /// A.2: a worker change takes two turns. The look finds nothing, with an item of key 0 in the
+    /// store too, and sets nothing; the writing sets the count, answers 1000 and changes no entry.
+    #[test]
+    fn a_worker_change_sets_the_count_at_its_writing_turn() {
+        for (count, items) in [(1, [0, 5]), (2, [4, 5]), (64, [0, 6])] {
+            let mut run = holding(Command::workers(count), 2, items);
+            run.store.chutes[0] = 7;
+            let mut expected = run.clone();
+            assert!(run.turn(1));
+            expected.parties[1] = Party::LookedUp { own: 1, found: 0 };
+            assert_eq!((run.in_force, &run), (1, &expected));
+            assert!(run.turn(1));
+            expected.parties[1] = Party::Written { own: 1 };
+            expected.answers = vec![1000];
+            expected.in_force = count;
+            assert_eq!(run, expected);
+        }
+    }
+
+    /// In a run that no dealing reaches: whatever was found, and above the largest count.
+    #[test]
+    fn a_worker_change_is_done_whatever_was_found() {
+        for found in [0, 1, 50, 513, u16::MAX] {
+            let mut run = holding(Command::workers(3), 2, [0, 5]);
+            run.parties[1] = Party::LookedUp { own: 1, found };
+            run.largest = 2;
+            let mut expected = run.clone();
+            assert!(run.turn(1));
+            expected.parties[1] = Party::Written { own: 1 };
+            expected.answers = vec![1000];
+            expected.in_force = 3;
+            assert_eq!(run, expected);
+        }
+    }
+
+    /// Two reads of items 4 and 5 and a worker change are loaded, with three workers.
+    fn with_three_workers() -> Run {
+        let commands = [
+            command(Kind::Read, 4, 0),
+            command(Kind::Read, 5, 0),
+            Command::workers(1),
+        ];
+        beside(3, 2, &commands)
+    }
+
+    /// A.2: a worker above the count waits when idle, whether the head is locked or not and though
+    /// there is something to take; the others do not.
+    #[test]
+    fn an_idle_worker_above_the_count_in_force_waits() {
+        for in_force in 1..=3 {
+            for worker in 1..=3 {
+                let mut run = with_three_workers();
+                run.in_force = in_force;
+                let before = run.clone();
+                assert_eq!(run.turn(worker), worker <= in_force);
+                if worker > in_force {
+                    assert_eq!(run, before);
+                    run.records.locked[0] = true;
+                    assert!(!run.turn(worker));
+                }
+            }
+        }
+    }
+
+    /// A.2: "One already searching walks to the end and takes nothing". Here no dealing leads, as
+    /// nothing is ready while a worker change is written: records 1 and 2 are, and it steps on both.
+    #[test]
+    fn a_searching_worker_above_the_count_takes_nothing() {
+        let mut run = with_three_workers();
+        run.advance(&[2]);
+        run.in_force = 1;
+        for at in [1, 2, 3] {
+            run.records.locked[at] = true;
+            let before = run.clone();
+            assert!(!run.turn(2), "record {at} is locked");
+            assert_eq!(run, before);
+            run.records.locked[at] = false;
+            assert!(run.turn(2));
+            assert_eq!(run.parties[2], Party::Searching { at: at as u8 });
+            assert!(run.records.executing.iter().all(|it| !it));
+            let locked: Vec<usize> = (0..4).filter(|it| run.records.locked[*it]).collect();
+            assert_eq!(locked, [at]);
+        }
+        assert!(run.turn(2));
+        assert_eq!(run.parties[2], Party::Idle);
+        assert_eq!(run.records, with_three_workers().records);
+        assert!(!run.turn(2), "it begins no other search");
+    }
+
+    /// The count in force at a turn decides of that turn: a search that goes on when its worker is
+    /// allowed again takes what it meets, and one that is not any more does not.
+    #[test]
+    fn the_count_in_force_at_the_turn_decides() {
+        let mut run = with_three_workers();
+        run.advance(&[3]);
+        run.in_force = 2;
+        run.advance(&[3]);
+        assert_eq!(run.parties[3], Party::Searching { at: 1 });
+        run.in_force = 3;
+        run.advance(&[3]);
+        assert_eq!(run.parties[3], Party::Holding { own: 2 });
+        run.advance(&[2]);
+        run.in_force = 1;
+        run.advance(&[2]);
+        assert_eq!(run.parties[2], Party::Searching { at: 1 });
+    }
+
+    /// A.2: a worker with a record goes on whatever the count, and rests when it is idle.
+    #[test]
+    fn a_worker_with_a_record_finishes_above_the_count() {
+        for kind in Kind::OF_ITEMS {
+            let needed = if kind == Kind::Read { 7 } else { 8 };
+            for turns in 2..needed {
+                let commands = [command(kind, 5, 9), command(Kind::Insert, 4, 9)];
+                let mut run = beside(2, 3, &commands);
+                let mut other = run.clone();
+                run.advance(&[2; 8][..turns]);
+                assert!(run.parties[2].own().is_some());
+                run.in_force = 1;
+                run.advance(&[2; 8][turns..needed]);
+                other.advance(&[2; 8][..needed]);
+                other.in_force = 1;
+                assert_eq!(run, other, "{kind:?} after {turns}");
+                assert_eq!(run.parties[2], Party::Idle);
+                assert!(!run.turn(2));
+            }
+        }
+    }
+
+    /// A.2, by turns: one worker, then three, then one. Worker 3 takes a command that was delivered
+    /// after the first change, holds the second, removes it above its count and rests.
+    #[test]
+    fn the_count_goes_up_and_down() {
+        let commands = [
+            Command::workers(3),
+            command(Kind::Read, 5, 0),
+            Command::workers(1),
+            command(Kind::Read, 4, 0),
+        ];
+        let mut run = beside(1, 2, &commands);
+        let sets = [1, 2, 3, 4].map(|record| run.records.set[record][0]);
+        assert_eq!(sets, [0, 0b10, 0b110, 0b1010]);
+        assert!(!run.turn(3), "worker 1 alone is allowed");
+        run.advance(&[1; 10]);
+        assert_eq!((run.parties[1], run.in_force), (Party::Idle, 3));
+        run.advance(&[3; 3]);
+        assert_eq!(run.parties[3], Party::Written { own: 2 });
+        run.advance(&[3; 5]);
+        run.advance(&[3; 4]);
+        let written = Party::Written { own: 3 };
+        assert_eq!((run.parties[3], run.in_force), (written, 1));
+        assert_eq!(run.answers, [1000, 50, 1000, 0]);
+        assert!(!run.turn(2), "worker 2 rests");
+        run.advance(&[3; 4]);
+        assert_eq!(run.parties[3], Party::Idle);
+        assert!(!run.turn(3) && !run.turn(2));
+        run.advance(&[1; 6]);
+        assert!(run.is_finished());
+        assert_eq!(run.answers, [1000, 50, 1000, 40]);
     }
 
     /// A store with two entries.

@@ -51,8 +51,10 @@ pub fn table(capacity: usize, entries: &BTreeMap<u64, u16>) -> Table {
     }
 }
 
+/// A worker change reads no entry and changes none.
 fn apply(capacity: usize, entries: &mut BTreeMap<u64, u16>, command: &Command) -> u16 {
     match (command.kind, entries.get(&command.key).copied()) {
+        (Kind::Workers, _) => return DONE,
         (Kind::Insert, Some(_)) => {
             entries.insert(command.key, command.chute);
             return ANNOUNCED_AGAIN;
@@ -161,6 +163,26 @@ mod tests {
         );
         assert_eq!(outcome.answers, [1002; 3]);
         assert!(outcome.entries.is_empty());
+    }
+
+    /// Document 02, A.2: kind 5 answers 1000 and changes no entry, not that of key 0 either, and in
+    /// a full store.
+    #[test]
+    fn a_worker_change_answers_1000_and_changes_no_entry() {
+        let changes = [1, 2, 64].map(Command::workers);
+        let items = [insert(0, 7), insert(3, 8), command(Kind::Read, 0, 0)];
+        assert_eq!(run(1, &changes).answers, [1000; 3]);
+        for room in 1..=3 {
+            let alone = run(room, &items);
+            let among = [
+                changes[0], items[0], changes[1], items[1], changes[2], items[2],
+            ];
+            let outcome = run(room, &among);
+            assert_eq!(outcome.entries, alone.entries);
+            for (index, answer) in alone.answers.iter().enumerate() {
+                assert_eq!(outcome.answers[2 * index..][..2], [1000, *answer]);
+            }
+        }
     }
 
     /// Document 01, section "Command list and store": keys ascend, and freed places serve again.

@@ -7,7 +7,7 @@ pub mod input;
 pub mod options;
 
 use crate::bytes::MOST_COMMANDS;
-use crate::command::{Command, Kind, LARGEST_CHUTE};
+use crate::command::{Command, Kind, LARGEST_CHUTE, LARGEST_COUNT};
 use crate::identifier::{self, CHECK_DIGIT, LENGTH};
 use crate::refusal::{Fault, Refusal};
 use input::Input;
@@ -17,8 +17,9 @@ const LONGEST_ARGUMENT: usize = 100_000;
 
 /// Reads a list of commands, one a line, or says which line is wrong and why.
 ///
-/// A line is an optional place, the kind, the identifier and the chute if the kind carries one.
-/// What stands behind `#` is a comment; a line may be empty.
+/// A line is an optional place, the kind, the identifier and the chute if the kind carries one; of a
+/// worker change, which has no identifier to type, the kind and the count: `workers 5`. What stands
+/// behind `#` is a comment; a line may be empty.
 pub fn read_list(text: &[u8]) -> Result<Vec<Command>, String> {
     let mut commands = Vec::new();
     for (number, words) in lines(text) {
@@ -48,18 +49,23 @@ pub fn show(input: &Input, turns_file: Option<&str>) -> String {
 
 /// A command as a line of a list, without its place.
 pub fn show_command(command: &Command) -> String {
-    let text = identifier_text(command.key);
+    let text = identifier_text(command);
     let name = kind_name(command.kind);
-    if command.kind.carries_chute() {
-        format!("{name} {text} {}", command.chute)
-    } else {
-        format!("{name} {text}")
+    match command.kind {
+        Kind::Insert | Kind::Update => format!("{name} {text} {}", command.chute),
+        Kind::Delete | Kind::Read => format!("{name} {text}"),
+        Kind::Workers => format!("{name} {}", command.chute),
     }
 }
 
-/// The text of a command's key.
-pub fn identifier_text(key: u64) -> String {
-    let text = identifier::text(key).expect("the key of a command is not too large");
+/// The identifier of a command as its bytes have it.
+pub fn identifier_text(command: &Command) -> String {
+    let text = match command.kind {
+        Kind::Workers => identifier::NONE,
+        Kind::Insert | Kind::Delete | Kind::Read | Kind::Update => {
+            identifier::text(command.key).expect("the key of a command is not too large")
+        }
+    };
     text.map(char::from).iter().collect()
 }
 
@@ -70,6 +76,7 @@ pub fn kind_name(kind: Kind) -> &'static str {
         Kind::Delete => "delete",
         Kind::Read => "read",
         Kind::Update => "update",
+        Kind::Workers => "workers",
     }
 }
 
@@ -113,8 +120,12 @@ fn read_command(words: &[&str], place: usize) -> Result<Command, String> {
         .into_iter()
         .find(|known| kind_name(*known) == *kind)
         .ok_or(format!(
-            "unknown kind `{kind}`; the kinds are insert, delete, read and update (refusal 7)"
+            "unknown kind `{kind}`; the kinds are insert, delete, read, update and workers \
+             (refusal 7)"
         ))?;
+    if kind == Kind::Workers {
+        return read_count(words).map(Command::workers);
+    }
     let [text, words @ ..] = words else {
         return Err(format!("{} without an identifier", kind_name(kind)));
     };
@@ -170,6 +181,27 @@ fn read_chute(kind: Kind, words: &[&str]) -> Result<u16, String> {
             )),
         },
     }
+}
+
+fn read_count(words: &[&str]) -> Result<u8, String> {
+    match words {
+        [] => Err(format!("workers without a count, 1 to {LARGEST_COUNT}")),
+        [_, word, ..] => Err(format!(
+            "`{word}` behind the count, where the line should end"
+        )),
+        [word] => match read_number(word) {
+            Some(count) if (1..=LARGEST_COUNT.into()).contains(&count) => Ok(count as u8),
+            _ => Err(format!(
+                "count `{word}` is not 1 to {LARGEST_COUNT} (refusal 14)"
+            )),
+        },
+    }
+}
+
+/// What is wrong with the characters that stand for an identifier in a worker change.
+fn not_0(characters: &[String], fault: Fault) -> String {
+    let number = fault.character;
+    format!("character {number} is `{}`, not 0", characters[number - 1])
 }
 
 /// What is wrong with an identifier that was refused; its characters are given as they are shown.
@@ -243,7 +275,9 @@ insert AA000000005AA 7
 
 2 read AA000000005AA   # the same item
 delete ZZ999999995ZZ\r
-4 update RR473124829GB 512";
+4 update RR473124829GB 512
+workers 64 # from here on
+6 workers 1";
 
     fn fault(list: &str) -> String {
         read_list(list.as_bytes()).expect_err(list)
@@ -261,6 +295,8 @@ delete ZZ999999995ZZ\r
             "read AA000000005AA",
             "delete ZZ999999995ZZ",
             "update RR473124829GB 512",
+            "workers 64",
+            "workers 1",
         ];
         assert_eq!(shown, expected);
         assert_eq!(read_list(b""), Ok(vec![]));
@@ -271,13 +307,14 @@ delete ZZ999999995ZZ\r
     const FAULTS: &[(&str, &str)] = &[
         (
             "Insert AA000000005AA 7",
-            "unknown kind `Insert`; the kinds are insert, delete, read and update (refusal 7)",
+            "unknown kind `Insert`; the kinds are insert, delete, read, update and workers \
+             (refusal 7)",
         ),
-        ("5", "a place and no command"),
-        ("4 read AA000000005AA", "place 4, but this is command 5"),
+        ("7", "a place and no command"),
+        ("4 read AA000000005AA", "place 4, but this is command 7"),
         (
             "99999999999999999999 read AA000000005AA",
-            "place 99999999999999999999, but this is command 5",
+            "place 99999999999999999999, but this is command 7",
         ),
         ("read", "read without an identifier"),
         (
@@ -333,15 +370,31 @@ delete ZZ999999995ZZ\r
             "delete AA000000005AA x",
             "`x` behind the identifier, but delete carries no chute (refusal 10)",
         ),
+        ("workers", "workers without a count, 1 to 64"),
+        ("7 workers", "workers without a count, 1 to 64"),
+        ("workers 0", "count `0` is not 1 to 64 (refusal 14)"),
+        ("workers 65", "count `65` is not 1 to 64 (refusal 14)"),
+        ("workers 257", "count `257` is not 1 to 64 (refusal 14)"),
+        ("workers 65537", "count `65537` is not 1 to 64 (refusal 14)"),
+        ("workers -1", "count `-1` is not 1 to 64 (refusal 14)"),
+        (
+            "workers 0000000000000 5",
+            "`5` behind the count, where the line should end",
+        ),
+        (
+            "Workers 5",
+            "unknown kind `Workers`; the kinds are insert, delete, read, update and workers \
+             (refusal 7)",
+        ),
     ];
 
-    /// Each fault, put behind the lines of a right list, is found at line 7 with these words.
+    /// Each fault, put behind the lines of a right list, is found at line 9 with these words.
     #[test]
     fn each_fault_is_told_with_its_line() {
         for (line, words) in FAULTS {
             assert_eq!(
                 fault(&format!("{LIST}\n{line}\n")),
-                format!("line 7: {words}")
+                format!("line 9: {words}")
             );
         }
     }
@@ -371,17 +424,21 @@ delete ZZ999999995ZZ\r
             .map(|_| random_command(random))
             .collect();
         let turns = random.below(3) * random.below(200);
-        let parties = u64::from(settings.workers) + 1;
-        let schedule = (0..turns).map(|_| random.below(parties) as u8).collect();
-        Input {
+        let mut input = Input {
             settings,
             commands,
-            schedule,
-        }
+            schedule: Vec::new(),
+        };
+        let parties = u64::from(input.largest()) + 1;
+        input.schedule = (0..turns).map(|_| random.below(parties) as u8).collect();
+        input
     }
 
     fn random_command(random: &mut Random) -> Command {
         let kind = random.pick(&Kind::ALL);
+        if kind == Kind::Workers {
+            return Command::workers(1 + random.below(64) as u8);
+        }
         let chute = if kind.carries_chute() {
             1 + random.below(512) as u16
         } else {

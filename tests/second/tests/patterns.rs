@@ -4,7 +4,7 @@
 
 use second::command::{Command, Kind};
 use second::random::Random;
-use second::run::{Run, Settings};
+use second::run::{Run, Settings, largest_count};
 
 fn settings(size: u8, workers: u8, room: u16) -> Settings {
     Settings {
@@ -18,9 +18,13 @@ fn command(kind: Kind, key: u64, chute: u16) -> Command {
     Command { kind, key, chute }
 }
 
-/// A command of this kind on key 0.
+/// A command of this kind on key 0, or a change to one worker.
 fn of_kind(kind: Kind) -> Command {
-    command(kind, 0, if kind.carries_chute() { 7 } else { 0 })
+    match kind {
+        Kind::Insert | Kind::Update => command(kind, 0, 7),
+        Kind::Delete | Kind::Read => command(kind, 0, 0),
+        Kind::Workers => Command::workers(1),
+    }
 }
 
 /// Whether a pattern, repeated so many times from the opening, has at some turn removed every
@@ -86,5 +90,59 @@ fn round_robin_finishes() {
             finishes(settings, &commands, &round, rounds) || count == 0,
             "case {case}: {settings:?}, {commands:?}, {round:?}"
         );
+    }
+}
+
+/// The same with worker changes, one turn each up to the largest count of the opening and the list:
+/// it finishes within as many rounds, with that count for w.
+#[test]
+fn round_robin_by_the_largest_count_finishes() {
+    let mut random = Random::new(20261116);
+    for case in 0..2000 {
+        let size = 1 + random.below(20) as u8;
+        let workers = 1 + random.below(8) as u8;
+        let count = 1 + random.below(40) as usize;
+        let keys = 1 + random.below(6);
+        let most = 1 + random.below(if case % 20 == 0 { 64 } else { 8 });
+        let commands: Vec<Command> = (0..count)
+            .map(|_| match random.below(6) {
+                0 => command(Kind::Insert, random.below(keys), 7),
+                1 => command(Kind::Delete, random.below(keys), 0),
+                2 => command(Kind::Read, random.below(keys), 0),
+                3 => command(Kind::Update, random.below(keys), 9),
+                _ => Command::workers(1 + random.below(most) as u8),
+            })
+            .collect();
+        let largest = largest_count(workers, &commands);
+        let first = random.below(u64::from(largest) + 1) as u8;
+        let round: Vec<u8> = (0..=largest).map(|i| (first + i) % (largest + 1)).collect();
+        let rounds = count * (2 * usize::from(largest) + usize::from(size) + 6) + 2;
+        let settings = settings(size, workers, 4);
+        assert!(
+            finishes(settings, &commands, &round, rounds),
+            "case {case}: {settings:?}, {commands:?}, {round:?}"
+        );
+    }
+}
+
+/// Worker 1, which no count forbids, finishes alone; without it a count of 1 is never left again.
+#[test]
+fn worker_1_finishes_whatever_the_counts() {
+    let commands = [
+        Command::workers(3),
+        command(Kind::Insert, 0, 7),
+        Command::workers(1),
+        command(Kind::Read, 0, 0),
+        Command::workers(64),
+    ];
+    for workers in 1..=3 {
+        assert!(finishes(settings(2, workers, 1), &commands, &[0, 1], 200));
+        let others = [0, 2, 3];
+        assert!(!finishes(
+            settings(2, workers, 1),
+            &commands,
+            &others,
+            10_000
+        ));
     }
 }

@@ -48,25 +48,88 @@ fn the_example_is_packed_unpacked_and_drawn() {
 /// the writing of command 2, an insert of another item.
 #[test]
 fn the_worked_example_is_drawn_as_it_is_kept() {
-    const FOLDER: &str = concat!(env!("CARGO_MANIFEST_DIR"), "/../../examples");
-    let kept = |name: &str| std::fs::read(format!("{FOLDER}/{name}")).expect("the example's file");
-    let turns = format!("{FOLDER}/wait.turns");
-    let settings = ["pack", "--size", "5", "--workers", "2", "--room", "4"];
-    let options = [&settings[..], &["--turns-file", &turns]].concat();
-    let (_, packed, _) = run(TEXT, &options, &kept("wait.txt"));
-    let (_, picture, _) = run(DRAW, &[], &packed);
-    assert!(
-        picture == kept("wait.svg"),
-        "depot_draw draws another picture"
-    );
-    assert!(program::output(&packed).ends_with("\nstore 2 chain 0\n"));
-    let picture = String::from_utf8(picture).unwrap();
+    let (output, picture) = drawn_as_kept("wait", "2");
+    assert!(output.ends_with("\nstore 2 chain 0\n"));
     for told in [
         "turn 44, worker 1: looked up",
         "turn 46, worker 2: looks up and writes answer 3 of command 3",
         "turn 54, worker 1: writes answer 1000 of command 2",
     ] {
         assert!(picture.contains(&format!(">{told}<")), "{told}");
+    }
+}
+
+/// The example of a day with two shifts: worker 3, which only the first change allows, holds the
+/// second and removes it above its count; worker 2 searches at its writing and takes nothing; both
+/// rest then, and worker 1 alone takes what is left.
+#[test]
+fn the_example_with_shifts_is_drawn_as_it_is_kept() {
+    let (output, picture) = drawn_as_kept("shifts", "1");
+    assert_eq!(
+        output,
+        "1 insert RR473124829GB 1000\n2 workers 0000000000000 1000\n3 read RR473124829GB 3\n\
+         4 insert AA000000005AA 1000\n5 read RR473124829GB 3\n6 workers 0000000000000 1000\n\
+         7 read AA000000005AA 7\n8 update AA000000005AA 1000\nstore 2 chain 0\n"
+    );
+    for told in [
+        "turn 3, worker 2: waits, above the worker count 1",
+        "turn 20, worker 1: writes answer 1000 of command 2",
+        "48 by worker 3",
+        "69 by worker 3",
+        "turn 75, worker 3: writes answer 1000 of command 6",
+        "turn 76, worker 2: searching, may take nothing",
+        "turn 79, worker 2: waits, above the worker count 1",
+        "turn 84, worker 3: becomes idle",
+        "turn 85, worker 3: waits, above the worker count 1",
+        "92 by worker 1",
+        "100 by worker 1",
+        "Worker count in force: 1 from the opening; 3 from turn 20; 1 from turn 75.",
+    ] {
+        assert!(picture.contains(&format!(">{told}<")), "{told}");
+    }
+}
+
+/// Packs and draws an example, which is kept with its picture, for so many workers: what the program
+/// prints, and the picture.
+fn drawn_as_kept(name: &str, workers: &str) -> (String, String) {
+    const FOLDER: &str = concat!(env!("CARGO_MANIFEST_DIR"), "/../../examples");
+    let file = |ending: &str| format!("{FOLDER}/{name}.{ending}");
+    let kept = |ending: &str| std::fs::read(file(ending)).expect("the example's file");
+    let settings = ["pack", "--size", "5", "--workers", workers, "--room", "4"];
+    let turns = file("turns");
+    let options = [&settings[..], &["--turns-file", &turns]].concat();
+    let (_, packed, _) = run(TEXT, &options, &kept("txt"));
+    let (_, picture, _) = run(DRAW, &[], &packed);
+    assert!(picture == kept("svg"), "depot_draw draws another picture");
+    let picture = String::from_utf8(picture).expect("words");
+    (program::output(&packed), picture)
+}
+
+/// Document 02, A.2, for a person: worker changes are packed and shown again, and one that is
+/// refused is told.
+#[test]
+fn worker_changes_are_packed_and_unpacked() {
+    let list = "workers 3\nread AA000000005AA\nworkers 1\n";
+    let options = [&SETTINGS[..], &["--turns", "0 3"]].concat();
+    let (status, packed, _) = run(TEXT, &options, list.as_bytes());
+    assert_eq!(status, Some(0));
+    assert_eq!(packed[6..22], *b"\x050000000000000\x00\x03");
+    let (_, shown, _) = run(TEXT, &["unpack"], &packed);
+    let commands = "\n1 workers 3\n2 read AA000000005AA\n3 workers 1\n";
+    assert!(String::from_utf8(shown).unwrap().ends_with(commands));
+    for (list, words) in [
+        (
+            "workers 65",
+            "line 1: count `65` is not 1 to 64 (refusal 14)",
+        ),
+        (
+            "workers 2",
+            "refused 11: turn 2 is party 3's, above the largest worker count 2",
+        ),
+    ] {
+        let (status, output, told) = run(TEXT, &options, list.as_bytes());
+        assert_eq!((status, output), (Some(1), Vec::new()));
+        assert_eq!(told, format!("depot_text: {words}\n"));
     }
 }
 
@@ -126,6 +189,7 @@ fn options_that_are_not_understood_end_with_2_and_the_usage() {
         let (status, output, words) = run(program, options, b"");
         assert_eq!((status, output), (Some(2), Vec::new()), "{options:?}");
         assert!(words.contains("usage: depot_"), "{words}");
+        assert_eq!(words.contains("workers COUNT"), program == TEXT);
     }
 }
 

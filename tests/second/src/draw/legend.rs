@@ -1,8 +1,9 @@
 //! The legend: each sign of the picture with its meaning, in lines as wide as the page.
 
-use super::rows::{draw_arrow, draw_block, draw_cross, draw_diamond, draw_freed};
+use super::rows::{draw_arrow, draw_block, draw_cross, draw_diamond, draw_freed, draw_rest};
 use super::svg::Svg;
 use super::{LINE, Page, RIGHT, notes, width};
+use crate::text::input::Input;
 
 /// Where the legend begins if there is no note.
 pub const TOP: f64 = 68.0;
@@ -19,6 +20,7 @@ enum Sign {
     Turn,
     Writing,
     Wait,
+    Rest,
     Arrow,
     Freed,
 }
@@ -52,15 +54,37 @@ const ENTRIES: [(Sign, &str); 13] = [
     (Sign::Freed, "that wait ends"),
 ];
 
+/// What is added where the list changes the worker count.
+const CHANGES: [(Sign, &str); 3] = [
+    (
+        Sign::Bar("force"),
+        "the workers that the count in force allows",
+    ),
+    (Sign::Bar("above"), "a worker above the count in force"),
+    (
+        Sign::Rest,
+        "its wait: idle, it begins no search while it is above",
+    ),
+];
+
+fn entries(input: &Input) -> impl Iterator<Item = &'static (Sign, &'static str)> {
+    let changes: &[(Sign, &str)] = if input.changes_workers() {
+        &CHANGES
+    } else {
+        &[]
+    };
+    ENTRIES.iter().chain(changes)
+}
+
 /// The height of the legend on a page of this width.
-pub fn height(page: f64) -> f64 {
-    places(page).last().map_or(0.0, |(_, y)| y + LINE)
+pub fn height(input: &Input, page: f64) -> f64 {
+    places(input, page).last().map_or(0.0, |(_, y)| y + LINE)
 }
 
 impl Page<'_> {
     pub fn draw_legend(&self, svg: &mut Svg) {
         let top = TOP + LINE * notes(self.input, &self.trace).len() as f64;
-        for ((sign, words), (x, y)) in ENTRIES.iter().zip(places(self.width)) {
+        for ((sign, words), (x, y)) in entries(self.input).zip(places(self.input, self.width)) {
             draw_sign(svg, *sign, x, top + y + LINE / 2.0);
             svg.text("cell", x + SIGN, top + y + LINE / 2.0 + 4.0, words);
         }
@@ -68,10 +92,10 @@ impl Page<'_> {
 }
 
 /// Where each entry stands, from the legend's top left.
-fn places(page: f64) -> Vec<(f64, f64)> {
+fn places(input: &Input, page: f64) -> Vec<(f64, f64)> {
     let [mut x, mut y] = [RIGHT, 0.0];
     let mut places = Vec::new();
-    for (_, words) in ENTRIES {
+    for (_, words) in entries(input) {
         let length = SIGN + width(words, 11.0) + SPACE;
         if x + length > page && x > RIGHT {
             [x, y] = [RIGHT, y + LINE];
@@ -95,6 +119,7 @@ fn draw_sign(svg: &mut Svg, sign: Sign, x: f64, y: f64) {
         Sign::Turn => svg.circle("p1", middle, y, 3.5),
         Sign::Writing => draw_diamond(svg, middle, y),
         Sign::Wait => draw_cross(svg, middle, y),
+        Sign::Rest => draw_rest(svg, 1, middle, y),
         Sign::Arrow => draw_arrow(svg, middle, y + 7.0, y - 7.0),
         Sign::Freed => draw_freed(svg, middle, y - 7.0, y + 4.0),
     }

@@ -11,6 +11,8 @@ use crate::text::{kind_name, show_command};
 const AXIS: f64 = 28.0;
 const HEAD_ROW: f64 = 22.0;
 const RECORD: f64 = 50.0;
+/// The row of the worker count in force.
+pub const COUNT: f64 = 24.0;
 pub const PARTY: f64 = 46.0;
 /// Within a record's row: where the lock's strip, the bar and the words below it stand.
 const STRIP: f64 = 6.0;
@@ -73,10 +75,38 @@ impl Page<'_> {
         }
     }
 
+    /// The row above the parties that says which workers the count in force allows.
+    pub fn draw_counts(&self, svg: &mut Svg) {
+        if !self.input.changes_workers() {
+            return;
+        }
+        let y = self.parties_top - COUNT;
+        svg.text("label", LEFT - 8.0, y + 14.0, "allowed");
+        for span in self.trace.spans(|frame| frame.in_force) {
+            self.draw_bar(svg, "force", &span, y + 2.0, 16.0);
+            let words = match span.value {
+                1 => "worker 1".to_string(),
+                count => format!("workers 1 to {count}"),
+            };
+            let brief = span.value.to_string();
+            self.draw_fitting(svg, "cell", &span, y + 14.0, &[&words, &brief]);
+        }
+    }
+
+    /// The turns after which a worker is above the count in force, behind all else in its row.
+    fn draw_above(&self, svg: &mut Svg, party: u8, y: f64) {
+        for span in self.trace.spans(|frame| party > frame.in_force) {
+            if span.value {
+                self.draw_bar(svg, "above", &span, y + 1.0, PARTY - 4.0);
+            }
+        }
+    }
+
     pub fn draw_parties(&self, svg: &mut Svg) {
         for (index, party) in self.parties.iter().enumerate() {
             let y = self.parties_top + PARTY * index as f64;
             svg.text("label", LEFT - 8.0, y + 14.0, &party_name(*party));
+            self.draw_above(svg, *party, y);
             for span in self.trace.spans(|frame| state(frame, *party)) {
                 let ([name, brief], class) = span.value;
                 self.draw_bar(svg, class, &span, y + 3.0, 15.0);
@@ -235,6 +265,7 @@ impl Page<'_> {
         match turn.outcome {
             Outcome::Step => svg.circle(&party_class(turn.party), x, y, 3.5),
             Outcome::Wrote { .. } => draw_diamond(svg, x, y),
+            Outcome::Wait(Reason::NotAllowed) => draw_rest(svg, turn.party, x, y),
             Outcome::Wait(reason) => {
                 draw_cross(svg, x, y);
                 svg.text("why", x, y + 13.0, &reason_mark(reason));
@@ -248,20 +279,24 @@ impl Page<'_> {
         let turn = self.trace.turns[number - 1];
         let frame = &self.trace.frames[number];
         match turn.outcome {
-            Outcome::Step => match state(frame, turn.party).0[0] {
-                "" => "becomes idle".to_string(),
-                name => name.to_string(),
+            Outcome::Step => match (state(frame, turn.party).0[0], turn.party > frame.in_force) {
+                ("", _) => "becomes idle".to_string(),
+                ("searching", true) => "searching, may take nothing".to_string(),
+                (name, _) => name.to_string(),
             },
             Outcome::Wrote { record, answer } => {
                 let place = frame.place(record);
                 let looks = match self.input.commands[usize::from(place) - 1].kind {
                     Kind::Read => "looks up and ",
-                    Kind::Insert | Kind::Delete | Kind::Update => "",
+                    Kind::Insert | Kind::Delete | Kind::Update | Kind::Workers => "",
                 };
                 format!("{looks}writes answer {answer} of command {place}")
             }
             Outcome::Wait(Reason::NoRecordFree) => "waits, no record is free".to_string(),
             Outcome::Wait(Reason::EveryCommandLoaded) => "waits, all is loaded".to_string(),
+            Outcome::Wait(Reason::NotAllowed) => {
+                format!("waits, above the worker count {}", frame.in_force)
+            }
             Outcome::Wait(Reason::Locked(record)) => {
                 let what = match record {
                     HEAD => "the head".to_string(),
@@ -311,9 +346,15 @@ pub fn draw_cross(svg: &mut Svg, x: f64, y: f64) {
     svg.path("wait", &format!("M{x} {y}l6 6m0 -6l-6 6"));
 }
 
-/// The sign below a wait that says why.
+/// The wait of an idle worker that is above the count in force: its dot, but pale.
+pub fn draw_rest(svg: &mut Svg, party: u8, x: f64, y: f64) {
+    svg.circle(&format!("rest {}", party_class(party)), x, y, 3.5);
+}
+
+/// The sign below a wait that says why; a pale dot says it alone.
 fn reason_mark(reason: Reason) -> String {
     match reason {
+        Reason::NotAllowed => String::new(),
         Reason::Locked(HEAD) => "H".to_string(),
         Reason::Locked(record) => record.to_string(),
         Reason::NoRecordFree => "F".to_string(),

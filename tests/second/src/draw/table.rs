@@ -1,8 +1,8 @@
 //! The table below the rows: what became of each command, at which turns, and why it waited.
 
 use super::svg::Svg;
-use super::trace::{Life, Trace, Wait};
-use super::{GAP, LINE, Page, RIGHT, width};
+use super::trace::{Life, Outcome, Reason, Trace, Wait};
+use super::{GAP, LINE, Page, RIGHT, party_name, width};
 use crate::command::{Command, Kind};
 use crate::text::input::Input;
 use crate::text::show_command;
@@ -11,6 +11,10 @@ const HEADING: &str = "What became of each command, and at which turn";
 const RULE: &str = "A command waits for every earlier one of the same item, but a read not for a \
 read. Inserts and deletes also wait for one another, whatever their items. All else goes side by \
 side.";
+/// What is added to the rule where the list changes the worker count.
+const RULE_OF_CHANGES: &str = "A change of the workers waits for every earlier command, and every \
+later one waits for it. From its writing turn a worker above the new count begins no search and \
+takes no command.";
 /// The most commands that the table names.
 const MOST: usize = 24;
 /// Where each column begins, and its heading.
@@ -29,7 +33,8 @@ const COLUMNS: [(f64, &str); 9] = [
 /// The height of the table and the space below it.
 pub fn height(trace: &Trace, input: &Input) -> f64 {
     let rows = trace.lives.len().min(MOST) + usize::from(left_out(trace, input).is_some());
-    (rows as f64 + 3.2) * LINE + GAP
+    let changes = if input.changes_workers() { 3.5 } else { 0.0 };
+    (rows as f64 + 3.2 + changes) * LINE + GAP
 }
 
 impl Page<'_> {
@@ -37,10 +42,15 @@ impl Page<'_> {
         let top = self.table_top;
         svg.text("section", RIGHT, top, HEADING);
         svg.text("cell", RIGHT, top + LINE, RULE);
-        for (x, heading) in COLUMNS {
-            svg.text("column", RIGHT + x, top + 2.2 * LINE, heading);
+        let mut y = top + 2.2 * LINE;
+        if self.input.changes_workers() {
+            svg.text("cell", RIGHT, top + 2.0 * LINE, RULE_OF_CHANGES);
+            y += LINE;
         }
-        let mut y = top + 3.2 * LINE;
+        for (x, heading) in COLUMNS {
+            svg.text("column", RIGHT + x, y, heading);
+        }
+        y += LINE;
         for (index, life) in self.trace.lives.iter().enumerate().take(MOST) {
             for ((x, _), words) in COLUMNS.iter().zip(self.cells(index, life)) {
                 svg.text("cell", RIGHT + x, y, &words);
@@ -49,7 +59,59 @@ impl Page<'_> {
         }
         if let Some(words) = left_out(&self.trace, self.input) {
             svg.text("cell", RIGHT, y, &words);
+            y += LINE;
         }
+        if self.input.changes_workers() {
+            svg.text("cell", RIGHT, y + 0.5 * LINE, &self.counts());
+            svg.text("cell", RIGHT, y + 1.5 * LINE, &self.rests());
+        }
+    }
+
+    /// Which count was in force from which turn on.
+    fn counts(&self) -> String {
+        let first = self.input.settings.workers;
+        let mut words = vec![format!("Worker count in force: {first} from the opening")];
+        for (command, life) in self.input.commands.iter().zip(&self.trace.lives) {
+            if let (Some(count), Some((turn, _))) = (command.count(), life.written) {
+                words.push(format!("{count} from turn {turn}"));
+            }
+        }
+        self.within(0.0, words) + "."
+    }
+
+    /// The turns at which idle workers waited above it.
+    fn rests(&self) -> String {
+        let mut words = Vec::new();
+        for worker in self.parties.iter().skip(1) {
+            let turns = self.trace.turns.iter().enumerate().filter(|(_, turn)| {
+                turn.party == *worker && turn.outcome == Outcome::Wait(Reason::NotAllowed)
+            });
+            let turns: Vec<String> = turns.map(|(index, _)| (index + 1).to_string()).collect();
+            if !turns.is_empty() {
+                let turns = turns.join(" ");
+                words.push(format!("{} at turns {turns}", party_name(*worker)));
+            }
+        }
+        match words.first_mut() {
+            None => return "No idle worker had a turn above it.".to_string(),
+            Some(first) => *first = format!("Idle waits above it: {first}"),
+        }
+        self.within(0.0, words) + "."
+    }
+
+    /// As many of these, one after another, as the page has room for from here on; at least the
+    /// first.
+    fn within(&self, from: f64, words: Vec<String>) -> String {
+        let room = self.width - 2.0 * RIGHT - from - width("; and 10 more", 11.0);
+        let mut line = String::new();
+        for (told, next) in words.iter().enumerate() {
+            if told > 0 && width(&line, 11.0) + width(next, 11.0) > room {
+                return format!("{line}; and {} more", words.len() - told);
+            }
+            let comma = if told > 0 { "; " } else { "" };
+            line = format!("{line}{comma}{next}");
+        }
+        line
     }
 
     fn cells(&self, index: usize, life: &Life) -> [String; 9] {
@@ -74,33 +136,28 @@ impl Page<'_> {
 
     /// The waits of a command, as many as there is room for.
     fn waits(&self, index: usize, waits: &[Wait]) -> String {
-        let room = self.width - 2.0 * RIGHT - COLUMNS[8].0 - width("; and 10 more", 11.0);
-        let mut words = String::new();
-        for (told, wait) in waits.iter().enumerate() {
+        let words = waits.iter().map(|wait| {
             let earlier = &self.input.commands[usize::from(wait.place) - 1];
             let why = why(earlier, &self.input.commands[index]);
             let until = match wait.until {
                 Some(turn) => format!("until turn {turn}"),
                 None => "to the end".to_string(),
             };
-            let next = format!("{} ({why}) {until}", wait.place);
-            if told > 0 && width(&words, 11.0) + width(&next, 11.0) > room {
-                return format!("{words}; and {} more", waits.len() - told);
-            }
-            let comma = if told > 0 { "; " } else { "" };
-            words = format!("{words}{comma}{next}");
-        }
-        words
+            format!("{} ({why}) {until}", wait.place)
+        });
+        self.within(COLUMNS[8].0, words.collect())
     }
 }
 
-/// Why a command waits for an earlier one that it depends on. None waits for a read or an update of
-/// another item.
+/// Why a command waits for an earlier one that it depends on. None but a worker change waits for a
+/// read or an update of another item.
 fn why(earlier: &Command, later: &Command) -> &'static str {
-    match (earlier.kind, earlier.key == later.key) {
-        (Kind::Insert, false) => "an insert",
-        (Kind::Delete, false) => "a delete",
-        (Kind::Read | Kind::Update, false) | (_, true) => "same item",
+    match (earlier.kind, later.kind, earlier.key == later.key) {
+        (Kind::Workers, ..) => "workers change",
+        (_, Kind::Workers, _) => "any command",
+        (Kind::Insert, _, false) => "an insert",
+        (Kind::Delete, _, false) => "a delete",
+        (Kind::Read | Kind::Update, _, false) | (_, _, true) => "same item",
     }
 }
 

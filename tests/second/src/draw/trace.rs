@@ -8,6 +8,8 @@ use crate::text::input::Input;
 #[derive(Clone, Debug)]
 pub struct Frame {
     pub loaded: u16,
+    /// The worker count in force.
+    pub in_force: u8,
     pub records: Records,
     pub parties: Vec<Party>,
 }
@@ -36,6 +38,8 @@ pub enum Reason {
     Locked(u8),
     NoRecordFree,
     EveryCommandLoaded,
+    /// An idle worker is above the count in force.
+    NotAllowed,
 }
 
 /// Where a record is in its life; executing and clearing are a worker's doing.
@@ -163,6 +167,7 @@ impl Frame {
     fn of(run: &Run) -> Frame {
         Frame {
             loaded: run.loaded,
+            in_force: run.in_force,
             records: run.records.clone(),
             parties: run.parties.to_vec(),
         }
@@ -229,6 +234,7 @@ fn reason(run: &Run, party: u8) -> Reason {
     let now = run.parties[usize::from(party)];
     match stands_on(now) {
         Some(at) => Reason::Locked(run.records.next[usize::from(at)]),
+        None if party > run.in_force && now == Party::Idle => Reason::NotAllowed,
         None if party > 0 => Reason::Locked(HEAD),
         None if usize::from(run.loaded) == run.commands.len() => Reason::EveryCommandLoaded,
         None if run.records.free == 0 => Reason::NoRecordFree,
@@ -369,14 +375,20 @@ mod tests {
     #[test]
     fn a_read_is_written_a_turn_sooner_than_other_kinds() {
         for kind in Kind::ALL {
-            let chute = if kind.carries_chute() { 7 } else { 0 };
+            let chute = match kind {
+                Kind::Insert | Kind::Update | Kind::Workers => 7,
+                Kind::Delete | Kind::Read => 0,
+            };
             let trace = trace(1, 1, vec![command(kind, chute)], &[0, 0, 1, 1, 1, 1, 1]);
             let wrote = |turn: &Turn| matches!(turn.outcome, Outcome::Wrote { .. });
             let writing: Vec<bool> = trace.turns.iter().map(wrote).collect();
             let sooner = kind == Kind::Read;
             assert_eq!(writing[..4], [false; 4]);
             assert_eq!(writing[4..], [sooner, !sooner, false], "{kind:?}");
-            let answer = if kind == Kind::Insert { 1000 } else { 1002 };
+            let answer = match kind {
+                Kind::Insert | Kind::Workers => 1000,
+                Kind::Delete | Kind::Read | Kind::Update => 1002,
+            };
             let turn = if sooner { 5 } else { 6 };
             assert_eq!(trace.lives[0].taken, Some((4, 1)));
             assert_eq!(trace.lives[0].written, Some((turn, answer)), "{kind:?}");
@@ -404,6 +416,22 @@ mod tests {
             reasons(2, &[0, 0, 0, 0, 1, 1, 0, 0]),
             [Reason::Locked(1), Reason::EveryCommandLoaded]
         );
+    }
+
+    /// Document 02, A.2: worker 2 is above the count from the writing turn, 6, on. Its searching
+    /// turn is no wait, and its idle ones are, whether the head is locked (turn 9) or not.
+    #[test]
+    fn a_worker_above_the_count_in_force_waits_when_idle() {
+        let commands = vec![command(Kind::Workers, 1)];
+        let trace = trace(1, 2, commands, &[0, 0, 1, 1, 1, 1, 2, 1, 2, 1, 1, 2]);
+        let counts: Vec<u8> = trace.frames.iter().map(|frame| frame.in_force).collect();
+        assert_eq!(counts[..6], [2; 6]);
+        assert_eq!(counts[6..], [1; 7]);
+        let not_allowed = |turn: &Turn| turn.outcome == Outcome::Wait(Reason::NotAllowed);
+        let waits: Vec<bool> = trace.turns.iter().map(not_allowed).collect();
+        let turns: Vec<usize> = (1..=12).filter(|turn| waits[turn - 1]).collect();
+        assert_eq!(turns, [7, 9, 12]);
+        assert_eq!(trace.lives[0].removed, Some(11));
     }
 
     #[test]

@@ -1,10 +1,11 @@
 //! Single commands, and commands for lists and pairs.
 
+use super::counts;
 use super::faults::{self, one_fault, two_faults, wrong_at, wrong_check_digits};
 use super::{
     Case, dealt, every_byte_everywhere, every_length, random_key, repeat, text, with_byte,
 };
-use crate::command::{Kind, LARGEST_CHUTE, LENGTH, encode};
+use crate::command::{Kind, LARGEST_CHUTE, LARGEST_COUNT, LENGTH, encode};
 use crate::identifier::{self, CHECK_DIGIT, LETTERS};
 use crate::random::Random;
 
@@ -13,10 +14,13 @@ const CHUTES: [u16; 14] = [
     0, 1, 2, 255, 256, 257, 511, 512, 513, 514, 768, 1024, 32_768, 65_535,
 ];
 
+/// Right counts of a worker change, small ones and the largest.
+const COUNTS: [u16; 10] = [1, 1, 2, 2, 3, 3, 4, 5, 8, 64];
+
 /// Where the identifier stands in a command.
-const TEXT: usize = 1;
+pub const TEXT: usize = 1;
 /// Where the chute stands in a command.
-const CHUTE: usize = 14;
+pub const CHUTE: usize = 14;
 
 /// Sets of faults are 0 to 31, one bit for each fault; 0 is no fault.
 const FAULT_SETS: u8 = 32;
@@ -35,7 +39,7 @@ pub const FAULTS: [u8; 5] = [
 ];
 
 pub fn cases(random: &mut Random) -> Vec<Case> {
-    let bases = Kind::ALL.map(|kind| command(random, kind));
+    let bases = Kind::OF_ITEMS.map(|kind| command(random, kind));
     let parts = [
         repeat(6_000, random, random_command),
         bases
@@ -66,9 +70,9 @@ pub fn case(part: Vec<u8>) -> Case {
     dealt(part, &[0, 0, 1, 1, 1, 1])
 }
 
-/// A right command of some kind.
+/// A right command on an item, of some kind.
 pub fn random_command(random: &mut Random) -> Vec<u8> {
-    let kind = random.pick(&Kind::ALL);
+    let kind = random.pick(&Kind::OF_ITEMS);
     command(random, kind)
 }
 
@@ -78,21 +82,38 @@ fn command(random: &mut Random, kind: Kind) -> Vec<u8> {
     with_key(random, kind, key)
 }
 
-/// A right command of this kind and key.
+/// A right command of this kind and, where it names an item, key.
 pub fn with_key(random: &mut Random, kind: Kind, key: u64) -> Vec<u8> {
-    let chute = if kind.carries_chute() {
-        1 + random.below(LARGEST_CHUTE.into()) as u16
-    } else {
-        0
+    let chute = match kind {
+        Kind::Insert | Kind::Update => 1 + random.below(LARGEST_CHUTE.into()) as u16,
+        Kind::Delete | Kind::Read => 0,
+        Kind::Workers => {
+            let count = random_count(random);
+            return workers(count);
+        }
     };
     encode(kind.number(), &text(key), chute)
 }
 
-/// A command that is right, or has one fault or any set of them.
+/// A worker change with this count, right or not.
+pub fn workers(count: u16) -> Vec<u8> {
+    encode(Kind::Workers.number(), &identifier::NONE, count)
+}
+
+/// A right count, mostly a small one.
+pub fn random_count(random: &mut Random) -> u16 {
+    match random.below(8) {
+        0 => 1 + random.below(LARGEST_COUNT.into()) as u16,
+        _ => random.pick(&COUNTS),
+    }
+}
+
+/// A command that is right, or has one fault or any set of them, or a worker change.
 pub fn perhaps_wrong(random: &mut Random) -> Vec<u8> {
-    let faults = match random.below(4) {
+    let faults = match random.below(5) {
         0 => random.pick(&FAULTS),
         1 => random.below(FAULT_SETS.into()) as u8,
+        2 => return counts::perhaps_wrong(random),
         _ => 0,
     };
     with_faults(random, faults)
@@ -116,7 +137,7 @@ pub fn with_faults(random: &mut Random, faults: u8) -> Vec<u8> {
         damage(random, &mut bytes, |position| LETTERS.contains(&position));
     }
     if faults & WRONG_KIND != 0 {
-        bytes[0] = random.pick(&[0, 5, 6, 255]);
+        bytes[0] = random.pick(&[0, 6, 7, 255]);
     }
     bytes
 }

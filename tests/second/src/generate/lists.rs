@@ -4,10 +4,11 @@ use super::commands::{FAULTS, each_character, perhaps_wrong, random_command, wit
 use super::{Case, opening, repeat};
 use crate::bytes::MOST_COMMANDS;
 use crate::command::{LENGTH, encode};
+use crate::identifier::NONE;
 use crate::random::Random;
 
 /// Commands in a list that has a fault at each place.
-const EVERYWHERE: usize = 16;
+pub const EVERYWHERE: usize = 16;
 /// Commands in a list that has two faults at each two places.
 const TWICE: usize = 6;
 
@@ -27,13 +28,13 @@ pub fn cases(random: &mut Random) -> Vec<Case> {
     lists.concat().into_iter().map(opening).collect()
 }
 
-/// A list of up to 40 right commands.
+/// A list of up to 40 right commands on items.
 fn right_list(random: &mut Random) -> Vec<u8> {
     let count = random.below(41) as usize;
     right_commands(random, count)
 }
 
-fn right_commands(random: &mut Random, count: usize) -> Vec<u8> {
+pub fn right_commands(random: &mut Random, count: usize) -> Vec<u8> {
     repeat(count, random, random_command).concat()
 }
 
@@ -51,16 +52,22 @@ fn two_perhaps_wrong(random: &mut Random) -> Vec<u8> {
     repeat(2, random, perhaps_wrong).concat()
 }
 
-/// The kinds and chutes at their bounds and the texts of document 01's refusals, each command at
-/// the first place and at the last.
+/// The kinds, chutes and counts at their bounds and the texts of document 01's refusals and of a
+/// worker change, each command at the first place and at the last.
 fn named_at_both_ends() -> Vec<Vec<u8>> {
     const RIGHT: &[u8; 13] = b"AA000000005AA";
-    let texts = [RIGHT, b"Aa000000005AA", b"AA000000004AA", b"AA0000000A5AA"];
+    let texts = [
+        RIGHT,
+        b"Aa000000005AA",
+        b"AA000000004AA",
+        b"AA0000000A5AA",
+        &NONE,
+    ];
     let good = encode(3, RIGHT, 0);
     let mut lists = Vec::new();
-    for kind in [0, 1, 2, 3, 4, 5, 255] {
+    for kind in [0, 1, 2, 3, 4, 5, 6, 255] {
         for text in texts {
-            for chute in [0, 1, 512, 513, 65_535] {
+            for chute in [0, 1, 64, 65, 512, 513, 65_535] {
                 let it = encode(kind, text, chute);
                 lists.push([&it[..], &good].concat());
                 lists.push([&good[..], &it].concat());
@@ -130,7 +137,7 @@ fn two_refused(random: &mut Random) -> Vec<Vec<u8>> {
     lists
 }
 
-fn with_command(list: &[u8], index: usize, command: &[u8]) -> Vec<u8> {
+pub fn with_command(list: &[u8], index: usize, command: &[u8]) -> Vec<u8> {
     let mut list = list.to_vec();
     list[index * LENGTH..][..LENGTH].copy_from_slice(command);
     list

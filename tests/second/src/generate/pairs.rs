@@ -10,14 +10,14 @@ use crate::random::Random;
 const KEY_BITS: u32 = 46;
 
 /// The loader's turns that take and link a record, step on it with another and link that.
-const LOADING: [u8; 5] = [0; 5];
+pub const LOADING: [u8; 5] = [0; 5];
 
 pub fn cases(random: &mut Random) -> Vec<Case> {
     let pairs = repeat(20, random, every_kind_pair).concat().into_iter();
     pairs.map(|pair| dealt(pair, &LOADING)).collect()
 }
 
-/// All pairs of kinds, each with one key twice and with two keys.
+/// All pairs of kinds of items, each with one key twice and with two keys.
 fn every_kind_pair(random: &mut Random) -> Vec<Vec<u8>> {
     kind_pairs()
         .into_iter()
@@ -26,9 +26,9 @@ fn every_kind_pair(random: &mut Random) -> Vec<Vec<u8>> {
 }
 
 fn kind_pairs() -> Vec<(Kind, Kind)> {
-    Kind::ALL
+    Kind::OF_ITEMS
         .iter()
-        .flat_map(|first| Kind::ALL.map(|second| (*first, second)))
+        .flat_map(|first| Kind::OF_ITEMS.map(|second| (*first, second)))
         .collect()
 }
 

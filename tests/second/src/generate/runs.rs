@@ -1,6 +1,7 @@
 //! Compared runs of the whole depot, made from a seed: openings, schedules of every sort fed whole
 //! and in pieces, refused calls between them, items announced again, reads beside other commands,
-//! commands that pass inserts and deletes, handed-back lists that were changed, and the program.
+//! commands that pass inserts and deletes, worker counts that change, handed-back lists that were
+//! changed, and the program.
 
 mod announcements;
 mod changes;
@@ -13,6 +14,7 @@ mod reads;
 mod schedules;
 #[cfg(test)]
 mod services;
+mod shifts;
 
 use super::Sort;
 use crate::calls::{COUNTS, STATUSES};
@@ -22,12 +24,13 @@ use crate::script::{List, Step};
 use openings::Opening;
 
 /// How many runs are always compared, whatever the seed adds to them.
-pub const FIXED: u64 = PASSES + passes::COUNT;
-/// Where those with items announced again begin, those with reads beside other commands, and those
-/// with commands that pass inserts and deletes.
+pub const FIXED: u64 = SHIFTS + shifts::COUNT;
+/// Where those with items announced again begin, those with reads beside other commands, those with
+/// commands that pass inserts and deletes, and those with worker counts that change.
 const ANNOUNCEMENTS: u64 = limits::COUNT + LONG;
 const READS: u64 = ANNOUNCEMENTS + announcements::COUNT;
 const PASSES: u64 = READS + reads::COUNT;
+const SHIFTS: u64 = PASSES + passes::COUNT;
 /// Long runs among them.
 const LONG: u64 = 14;
 /// Random runs come in rounds of this many kinds.
@@ -41,6 +44,7 @@ const SHORT: usize = 300;
 pub fn sort(index: u64) -> Sort {
     match index.checked_sub(FIXED) {
         Some(index) if index % ROUND == PROGRAM => Sort::Programs,
+        None if index >= SHIFTS => Sort::Shifts,
         None if index >= PASSES => Sort::Passes,
         None if index >= READS => Sort::Reads,
         None if index >= ANNOUNCEMENTS => Sort::Announcements,
@@ -63,8 +67,11 @@ pub fn play(seed: u64, index: u64, play: &mut Play) -> Result<(), Difference> {
     if index < PASSES {
         return reads::play(index - READS, random, play);
     }
-    if index < FIXED {
+    if index < SHIFTS {
         return passes::play(index - PASSES, random, play);
+    }
+    if index < FIXED {
+        return shifts::play(index - SHIFTS, random, play);
     }
     let index = index - FIXED;
     match index % ROUND {
@@ -281,13 +288,16 @@ mod tests {
             let played = Play::new(&depot).take_all(case);
             played.expect("the second program is itself");
         }
-        assert_eq!(depot.met("open"), [0, 1, 2, 3, 4, 5, 6, 7, 8, 9, 10, 13]);
+        assert_eq!(
+            depot.met("open"),
+            [0, 1, 2, 3, 4, 5, 6, 7, 8, 9, 10, 13, 14]
+        );
         assert_eq!(depot.met("advance"), [0, 6, 11, 12]);
         assert_eq!(depot.met("pending_counts"), [0, 6, 12]);
         assert_eq!(depot.met("worker_status"), [0, 6, 12]);
         assert_eq!(
             depot.met("program"),
-            [0, 1, 2, 3, 4, 5, 7, 8, 9, 10, 11, 13]
+            [0, 1, 2, 3, 4, 5, 7, 8, 9, 10, 11, 13, 14]
         );
     }
 

@@ -4,10 +4,10 @@
 use std::fmt;
 
 use crate::bytes::{self, MOST_ROOM, MOST_SIZE, MOST_WORKERS};
-use crate::command::{self, Command, LENGTH};
+use crate::command::{self, Command, Kind, LARGEST_COUNT, LENGTH};
 use crate::identifier;
 use crate::refusal::{Fault, Refusal};
-use crate::run::Settings;
+use crate::run::{Settings, largest_count};
 
 /// The longest input.
 pub const LONGEST: usize = 65_536;
@@ -67,12 +67,22 @@ impl Input {
         let settings = check_settings(size.into(), workers.into(), room.into())?;
         let commands = command::read_list(list).map_err(|fault| list_fault(list, fault))?;
         let parties: Vec<u64> = schedule.iter().copied().map(u64::from).collect();
-        let schedule = check_schedule(&parties, settings.workers)?;
+        let schedule = check_schedule(&parties, largest_count(settings.workers, &commands))?;
         Ok(Input {
             settings,
             commands,
             schedule,
         })
+    }
+
+    /// The largest worker count of the opening and of the list.
+    pub fn largest(&self) -> u8 {
+        largest_count(self.settings.workers, &self.commands)
+    }
+
+    /// Whether the list changes the worker count.
+    pub fn changes_workers(&self) -> bool {
+        self.commands.iter().any(|it| it.kind == Kind::Workers)
     }
 
     /// The bytes that the program reads, or its refusal of so many.
@@ -96,7 +106,7 @@ pub fn encode(settings: Settings, commands: &[u8], schedule: &[u8]) -> Vec<u8> {
 }
 
 fn command_bytes(command: &Command) -> Vec<u8> {
-    let text = super::identifier_text(command.key);
+    let text = super::identifier_text(command);
     command::encode(command.kind.number(), text.as_bytes(), command.chute)
 }
 
@@ -112,13 +122,14 @@ pub fn check_settings(size: u64, workers: u64, room: u64) -> Result<Settings, Re
     })
 }
 
-/// Refusal 11, on party numbers of any size.
-pub fn check_schedule(parties: &[u64], workers: u8) -> Result<Vec<u8>, Refused> {
+/// Refusal 11, on party numbers of any size, by the largest worker count.
+pub fn check_schedule(parties: &[u64], largest: u8) -> Result<Vec<u8>, Refused> {
     let check = |(index, party): (usize, &u64)| match u8::try_from(*party) {
-        Ok(party) if party <= workers => Ok(party),
+        Ok(party) if party <= largest => Ok(party),
         _ => {
             let turn = index + 1;
-            let words = format!("turn {turn} is party {party}'s, above the worker count {workers}");
+            let words =
+                format!("turn {turn} is party {party}'s, above the largest worker count {largest}");
             Err(refused(Refusal::Party, words))
         }
     };
@@ -139,12 +150,16 @@ fn list_fault(list: &[u8], fault: Fault) -> Refused {
     let part = &list[(fault.place - 1) * LENGTH..][..LENGTH];
     let chute = u16::from_be_bytes([part[14], part[15]]);
     let words = match fault.refusal {
-        Refusal::Kind => format!("kind {} is not 1 to 4", part[0]),
+        Refusal::Kind => format!("kind {} is not 1 to 5", part[0]),
         Refusal::Chute => format!("chute {chute} is wrong for kind {}", part[0]),
+        Refusal::Count => format!("worker count {chute} is not 1 to {LARGEST_COUNT}"),
         _ => {
             let shown = |byte: &u8| byte.escape_ascii().to_string();
             let characters: Vec<String> = part[1..=identifier::LENGTH].iter().map(shown).collect();
-            let words = super::identifier_fault(&characters, fault);
+            let words = match Kind::from_number(part[0]) {
+                Some(Kind::Workers) => super::not_0(&characters, fault),
+                _ => super::identifier_fault(&characters, fault),
+            };
             format!("identifier \"{}\": {words}", characters.concat())
         }
     };
@@ -183,7 +198,12 @@ mod tests {
         (0, 0, "refused 1: graph size 0 is not 1 to 150"),
         (1, 65, "refused 2: workers 65 is not 1 to 64"),
         (2, 16, "refused 3: room 4100 is not 1 to 4096"),
-        (22, 5, "refused 7: command 2: kind 5 is not 1 to 4"),
+        (22, 6, "refused 7: command 2: kind 6 is not 1 to 5"),
+        (
+            22,
+            5,
+            "refused 8: command 2: identifier \"AA000000005AA\": character 1 is `A`, not 0",
+        ),
         (
             24,
             b'a',
@@ -215,7 +235,7 @@ mod tests {
         (
             43,
             2,
-            "refused 11: turn 6 is party 2's, above the worker count 1",
+            "refused 11: turn 6 is party 2's, above the largest worker count 1",
         ),
     ];
 
@@ -235,6 +255,40 @@ mod tests {
         for (position, byte, words) in CHANGED {
             told(&with_byte(*position, *byte), words);
         }
+    }
+
+    /// The example with a worker change for its second command, which has this count, and one more
+    /// turn.
+    fn with_workers(count: u16, party: u8) -> Vec<u8> {
+        let change = command::encode(5, &identifier::NONE, count);
+        [&EXAMPLE[..22], &change, &EXAMPLE[38..], &[party]].concat()
+    }
+
+    /// Document 02, A.2: the refusals of a worker change, and 11 by the largest count.
+    #[test]
+    fn a_refused_worker_change_is_told() {
+        let told = |bytes: &[u8], words: &str| {
+            assert_eq!(Input::read(bytes).unwrap_err().to_string(), words);
+        };
+        let mut wrong = with_workers(65, 1);
+        told(
+            &wrong,
+            "refused 14: command 2: worker count 65 is not 1 to 64",
+        );
+        wrong[33] = b'x';
+        told(
+            &wrong,
+            "refused 8: command 2: identifier \"0000000000x00\": character 11 is `x`, not 0",
+        );
+        told(
+            &with_workers(3, 4),
+            "refused 11: turn 20 is party 4's, above the largest worker count 3",
+        );
+        let input = Input::read(&with_workers(3, 3)).unwrap();
+        assert_eq!((input.largest(), input.changes_workers()), (3, true));
+        assert_eq!(input.bytes(), Ok(with_workers(3, 3)));
+        let input = Input::read(EXAMPLE).unwrap();
+        assert_eq!((input.largest(), input.changes_workers()), (1, false));
     }
 
     /// The refusal number that opening, and else dealing, gives for an input of the example's

@@ -3,6 +3,7 @@
 use super::input::{Input, check_length, check_schedule, check_settings};
 use super::{read_list, read_number, read_turns};
 use crate::random::Random;
+use crate::run::largest_count;
 
 const SETTINGS: [&str; 3] = ["--size", "--workers", "--room"];
 
@@ -54,8 +55,9 @@ impl Options {
     ) -> Result<Vec<u8>, String> {
         let settings = check_settings(self.size, self.workers, self.room)?;
         let commands = read_list(list)?;
-        let parties = self.turns.parties(settings.workers, read_file)?;
-        let schedule = check_schedule(&parties, settings.workers)?;
+        let largest = largest_count(settings.workers, &commands);
+        let parties = self.turns.parties(largest, read_file)?;
+        let schedule = check_schedule(&parties, largest)?;
         let input = Input {
             settings,
             commands,
@@ -90,13 +92,14 @@ impl Turns {
         }
     }
 
-    /// The parties of the turns, one after the other.
+    /// The parties of the turns, one after the other; round-robin and random turns are those of all
+    /// parties up to the largest worker count.
     fn parties(
         &self,
-        workers: u8,
+        largest: u8,
         read_file: impl Fn(&str) -> Result<Vec<u8>, String>,
     ) -> Result<Vec<u64>, String> {
-        let parties = u64::from(workers) + 1;
+        let parties = u64::from(largest) + 1;
         match self {
             Turns::Given(turns) => Ok(turns.clone()),
             Turns::File(file) => {
@@ -183,6 +186,23 @@ mod tests {
         assert_ne!(random, turns("--random 6 300"));
     }
 
+    /// Document 02, A.2: turns go to parties up to the largest count of the opening and the list.
+    #[test]
+    fn turns_are_dealt_up_to_the_largest_count() {
+        let pack = |options: &str| {
+            let options = read(&format!("{SMALL} {options}")).unwrap();
+            options.pack(b"workers 1\nworkers 4\nworkers 3", read_file)
+        };
+        let turns = |options: &str| pack(options).unwrap()[54..].to_vec();
+        assert_eq!(turns("--round-robin 7"), [0, 1, 2, 3, 4, 0, 1]);
+        let random = turns("--random 5 300");
+        assert!((0..5).all(|party| random.contains(&party)));
+        assert!(random.iter().all(|party| *party < 5));
+        assert_eq!(turns("--turns 4"), [4]);
+        let words = "refused 11: turn 1 is party 5's, above the largest worker count 4";
+        assert_eq!(pack("--turns 5"), Err(words.to_string()));
+    }
+
     #[test]
     fn options_that_are_not_understood_are_told() {
         let cases = [
@@ -219,11 +239,11 @@ mod tests {
         ),
         (
             "--size 2 --workers 2 --room 4 --turns 3",
-            "refused 11: turn 1 is party 3's, above the worker count 2",
+            "refused 11: turn 1 is party 3's, above the largest worker count 2",
         ),
         (
             "--size 2 --workers 2 --room 4 --turns 256",
-            "refused 11: turn 1 is party 256's, above the worker count 2",
+            "refused 11: turn 1 is party 256's, above the largest worker count 2",
         ),
         (
             "--size 2 --workers 2 --room 4 --round-robin 65499",

@@ -1,7 +1,7 @@
 //! What is held against each state and each turn of a search.
 
 use second::command::Kind;
-use second::run::{Party, Run};
+use second::run::{HEAD, Party, Run};
 use second::serial::{self, Outcome, Table};
 
 use crate::met::Pass;
@@ -38,6 +38,41 @@ impl Judge {
             assert_eq!(usize::from(run.store.used), self.table.used);
         }
         run.chain().for_each(|record| hold_set(run, record));
+        assert_eq!(run.in_force, in_force(run), "{:?}", run.commands);
+    }
+}
+
+/// Document 02, A.2: the count of the last worker change that is written, else the opening's. These
+/// are written in their order, as each depends on those before it.
+pub fn in_force(run: &Run) -> u8 {
+    let written = |place: &u16| is_written(run, *place);
+    let count = run.commands.len() as u16;
+    last_count(run, (1..=count).filter(written))
+}
+
+/// The count of the last worker change among these places, else the opening's.
+fn last_count(run: &Run, places: impl Iterator<Item = u16>) -> u8 {
+    let counts = places.filter_map(|place| run.commands[usize::from(place) - 1].count());
+    counts.last().unwrap_or(run.settings.workers)
+}
+
+/// Document 02, A.2, for a worker that was given a turn: idle and above the count it waits, idle and
+/// not above it waits for nothing but the head's lock; and it takes a command only if it is neither
+/// above the count in force nor above that of the last worker change delivered before it.
+pub fn hold_count(run: &Run, worker: u8, after: &Run) {
+    let [before, now] = [run, after].map(|run| run.parties[usize::from(worker)]);
+    let above = worker > in_force(run);
+    match (before, now) {
+        (Party::Idle, _) => {
+            let waits = above || run.records.locked[usize::from(HEAD)];
+            assert_eq!(now == Party::Idle, waits, "{worker} of {:?}", run.commands);
+        }
+        (Party::Searching { .. }, Party::Holding { own }) => {
+            let place = run.records.place[usize::from(own)];
+            let most = last_count(run, 1..place);
+            assert!(!above && worker <= most, "{worker} takes {place}, {most}");
+        }
+        _ => {}
     }
 }
 
@@ -48,16 +83,18 @@ enum Order {
     Never,
 }
 
-/// Documents 01 and 02, A.5, by hand: a row for each kind of the one, a column for the other.
+/// Documents 01 and 02, A.2 and A.5, by hand: a row for each kind of the one, a column for the
+/// other.
 #[rustfmt::skip]
-const ORDER: [[Order; 4]; 4] = {
+const ORDER: [[Order; 5]; 5] = {
     use Order::{Always, Never, OneItem};
     [
-        // insert   delete   read     update
-        [Always,  Always,  OneItem, OneItem], // insert
-        [Always,  Always,  OneItem, OneItem], // delete
-        [OneItem, OneItem, Never,   OneItem], // read
-        [OneItem, OneItem, OneItem, OneItem], // update
+        // insert   delete   read     update   workers
+        [Always,  Always,  OneItem, OneItem, Always], // insert
+        [Always,  Always,  OneItem, OneItem, Always], // delete
+        [OneItem, OneItem, Never,   OneItem, Always], // read
+        [OneItem, OneItem, OneItem, OneItem, Always], // update
+        [Always,  Always,  Always,  Always,  Always], // workers
     ]
 };
 
@@ -129,7 +166,10 @@ fn follows(before: Party, now: Party, kind: Option<Kind>) -> bool {
         (Party::Holding { .. }, Party::Written { .. }) => kind == Some(Kind::Read),
         (Party::Holding { .. }, Party::LookedUp { .. })
         | (Party::LookedUp { .. }, Party::Written { .. }) => {
-            matches!(kind, Some(Kind::Insert | Kind::Delete | Kind::Update))
+            matches!(
+                kind,
+                Some(Kind::Insert | Kind::Delete | Kind::Update | Kind::Workers)
+            )
         }
         (Party::Idle, Party::Searching { .. })
         | (
@@ -151,7 +191,7 @@ pub fn is_written(run: &Run, place: u16) -> bool {
         }
         _ => false,
     };
-    let parties = &run.parties[..=usize::from(run.settings.workers)];
+    let parties = &run.parties[..=usize::from(run.largest)];
     is_removed(run, place) || parties.iter().any(wrote)
 }
 

@@ -35,8 +35,8 @@ fn insert(key: u64) -> Command {
     }
 }
 
-/// All lists of so many commands, of every kind and with keys below `keys`; chutes tell the
-/// commands apart.
+/// All lists of so many commands, of every kind that names an item and with keys below `keys`;
+/// chutes tell the commands apart.
 pub fn lists(count: usize, keys: u64) -> Vec<Vec<Command>> {
     let mut lists = vec![Vec::new()];
     for place in 1..=count as u16 {
@@ -51,10 +51,32 @@ pub fn lists(count: usize, keys: u64) -> Vec<Vec<Command>> {
 }
 
 fn choices(place: u16, keys: u64) -> impl Iterator<Item = Command> {
-    Kind::ALL.into_iter().flat_map(move |kind| {
+    Kind::OF_ITEMS.into_iter().flat_map(move |kind| {
         let chute = if kind.carries_chute() { 10 + place } else { 0 };
         (0..keys).map(move |key| Command { kind, key, chute })
     })
+}
+
+/// All lists of so many commands on one item, and on key 1 beside it where it is read, in which a
+/// worker change to a count up to `most` stands.
+pub fn changing(count: usize, most: u8) -> Vec<Vec<Command>> {
+    let mut lists = vec![Vec::new()];
+    for place in 1..=count as u16 {
+        let other = Command {
+            kind: Kind::Read,
+            key: 1,
+            chute: 0,
+        };
+        let items = choices(place, 1).chain([other]);
+        let all: Vec<Command> = items.chain((1..=most).map(Command::workers)).collect();
+        let longer = |list: &Vec<Command>, command| [&list[..], &[command]].concat();
+        lists = lists
+            .iter()
+            .flat_map(|list| all.iter().map(move |command| longer(list, *command)))
+            .collect();
+    }
+    lists.retain(|list| list.iter().any(|it| it.kind == Kind::Workers));
+    lists
 }
 
 /// All lists of three commands with keys below `keys` in which an insert or a delete has a read or

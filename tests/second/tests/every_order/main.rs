@@ -1,7 +1,8 @@
 //! Every order of turns of small settings: all states that any dealing reaches, judged by the
 //! serial run, and all turns that lead from one to another. Demand 3 of document 00 is what is held
 //! against the states, and the order of a worker's states against the turns; the sets of the
-//! records, and who is written before whom, are held against the dependence of documents 01 and 02.
+//! records, and who is written before whom, are held against the dependence of documents 01 and 02,
+//! and who begins a search and takes a command against the worker counts of document 02's A.2.
 
 mod judge;
 mod lists;
@@ -9,8 +10,8 @@ mod met;
 mod search;
 
 use judge::depends;
-use lists::{beside, lists, served, settings};
-use met::Met;
+use lists::{beside, changing, lists, served, settings};
+use met::{Counted, Met};
 use search::every_order;
 use second::command::Command;
 use second::command::Kind::{self, Delete, Insert, Read, Update};
@@ -44,8 +45,8 @@ fn every_order_of_up_to_two_commands() {
 fn every_order_of_three_commands() {
     let met = met_by(&[1, 2, 3], &lists(3, 2));
     assert!(met.states > 1_000_000);
-    for earlier in Kind::ALL {
-        for later in Kind::ALL {
+    for earlier in Kind::OF_ITEMS {
+        for later in Kind::OF_ITEMS {
             for same_item in [true, false] {
                 let it = (earlier, later, same_item);
                 let passes = met.count(|pass| (pass.earlier, pass.later, pass.same_item) == it);
@@ -126,5 +127,44 @@ fn every_order_beside_inserts_and_deletes() {
         }
         let moved = met.moves.map(|turns| turns > 0);
         assert_eq!(moved, [stocked.room > 1; 2], "{:?}", stocked.keys);
+    }
+}
+
+/// Searches lists with openings of one to three workers, in graphs of these sizes.
+fn met_changing(lists: &[Vec<Command>], sizes: &[u8]) -> Met {
+    let mut met = Met::default();
+    for size in sizes {
+        for workers in 1..=3 {
+            for list in lists {
+                every_order(served(settings(*size, workers, 1), &[], list), &mut met);
+            }
+        }
+    }
+    println!(
+        "{} settings, {} states, {:?}",
+        met.settings, met.states, met.counted
+    );
+    met
+}
+
+/// Document 02, A.2: all lists of up to three commands with a worker change among them. Counts go
+/// up and down, to 1 and above the opening's, and each situation is met.
+#[test]
+fn every_order_with_worker_changes() {
+    met_changing(&changing(1, 3), &[1, 2]);
+    met_changing(&changing(2, 3), &[1, 2, 3]);
+    let met = met_changing(&changing(3, 3), &[1, 2, 3]);
+    for counted in Counted::ALL {
+        assert!(met.counted.get(&counted) > Some(&0), "{counted:?}");
+    }
+}
+
+/// The same with four commands: every so many of the lists.
+#[test]
+fn every_order_with_worker_changes_among_four_commands() {
+    let lists: Vec<Vec<Command>> = changing(4, 3).into_iter().step_by(61).collect();
+    let met = met_changing(&lists, &[3, 4]);
+    for counted in Counted::ALL {
+        assert!(met.counted.get(&counted) > Some(&0), "{counted:?}");
     }
 }

@@ -1,9 +1,10 @@
 //! What the turns of searches meet: commands that pass others, and entries that move.
 
+use std::cmp::Ordering;
 use std::collections::HashMap;
 
 use second::command::Kind;
-use second::run::{Party, Run};
+use second::run::{HEAD, Party, Run};
 
 use crate::judge::is_written;
 
@@ -36,9 +37,75 @@ pub fn passes(run: &Run, own: u8) -> impl Iterator<Item = Pass> {
     })
 }
 
+/// A turn of a worker, with what the worker count has to do with it (document 02, A.2).
+#[derive(Clone, Copy, Debug, PartialEq, Eq, Hash)]
+pub enum Counted {
+    /// A worker above the count in force waits idle, with the head free.
+    Idle,
+    /// It goes on with a search that it began before, comes to its end, or waits at a lock.
+    Search,
+    SearchEnds,
+    SearchWaits,
+    /// It goes on with the worker change that it has written, and removes it.
+    Holder,
+    HolderRemoves,
+    /// A worker above the opening's count takes a command.
+    Taken,
+    /// A worker change is written that leaves more workers, fewer, or as many.
+    Up,
+    Down,
+    Same,
+}
+
+impl Counted {
+    pub const ALL: [Counted; 10] = [
+        Counted::Idle,
+        Counted::Search,
+        Counted::SearchEnds,
+        Counted::SearchWaits,
+        Counted::Holder,
+        Counted::HolderRemoves,
+        Counted::Taken,
+        Counted::Up,
+        Counted::Down,
+        Counted::Same,
+    ];
+
+    /// What a worker's turn is, if it is one of these.
+    fn of(run: &Run, worker: u8, after: &Run) -> Option<Counted> {
+        let [before, now] = [run, after].map(|run| run.parties[usize::from(worker)]);
+        let above = worker > run.in_force;
+        let change = before.own().and_then(|own| run.command(own)?.count());
+        match (before, now, change) {
+            (Party::Idle, ..) if above => {
+                let free = !run.records.locked[usize::from(HEAD)];
+                free.then_some(Counted::Idle)
+            }
+            (Party::Searching { .. }, Party::Idle, _) if above => Some(Counted::SearchEnds),
+            (Party::Searching { .. }, ..) if above && after == run => Some(Counted::SearchWaits),
+            (Party::Searching { .. }, ..) if above => Some(Counted::Search),
+            (Party::Searching { .. }, Party::Holding { .. }, _) => {
+                (worker > run.settings.workers).then_some(Counted::Taken)
+            }
+            (Party::LookedUp { .. }, _, Some(count)) => Some(match count.cmp(&run.in_force) {
+                Ordering::Greater => Counted::Up,
+                Ordering::Less => Counted::Down,
+                Ordering::Equal => Counted::Same,
+            }),
+            (Party::Clearing { .. }, Party::Idle, Some(_)) if above => Some(Counted::HolderRemoves),
+            (_, _, Some(_)) if above => Some(Counted::Holder),
+            _ => None,
+        }
+    }
+}
+
 #[derive(Default)]
 pub struct Met {
     pub states: usize,
+    /// How many searches there were.
+    pub settings: usize,
+    /// How many turns are each.
+    pub counted: HashMap<Counted, usize>,
     /// How many turns have each.
     passes: HashMap<Pass, usize>,
     /// Turns at which an entry goes up, and goes down, while a worker is between the look-up and
@@ -55,6 +122,13 @@ impl Met {
 
     pub fn note_pass(&mut self, pass: Pass) {
         *self.passes.entry(pass).or_default() += 1;
+    }
+
+    /// Notes a turn of a worker.
+    pub fn note_count(&mut self, run: &Run, worker: u8, after: &Run) {
+        if let Some(counted) = Counted::of(run, worker, after) {
+            *self.counted.entry(counted).or_default() += 1;
+        }
     }
 
     /// Notes what a writing turn moves.
@@ -75,7 +149,7 @@ impl Met {
 
 /// The records of the workers that are looked-up.
 fn looked_up(run: &Run) -> impl Iterator<Item = u8> {
-    let workers = &run.parties[1..=usize::from(run.settings.workers)];
+    let workers = &run.parties[1..=usize::from(run.largest)];
     workers.iter().filter_map(|party| match party {
         Party::LookedUp { own, .. } => Some(*own),
         _ => None,

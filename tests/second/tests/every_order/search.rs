@@ -5,7 +5,7 @@ use std::collections::HashMap;
 use second::bytes::party_bytes;
 use second::run::{Party, Run};
 
-use crate::judge::{Judge, hold_pass, hold_turn};
+use crate::judge::{Judge, hold_count, hold_pass, hold_turn};
 use crate::met::{Met, passes};
 
 /// The states of one setting, numbered as they are met, and which leads to which.
@@ -25,9 +25,14 @@ pub fn every_order(first: Run, met: &mut Met) {
     let mut left = Vec::from([(search.meet(&first), first)]);
     while let Some((number, run)) = left.pop() {
         judge.hold(&run);
-        for party in 0..=run.settings.workers {
+        for party in 0..=run.largest {
             let mut after = run.clone();
-            if !after.turn(party) {
+            let moved = after.turn(party);
+            if party > 0 {
+                hold_count(&run, party, &after);
+                met.note_count(&run, party, &after);
+            }
+            if !moved {
                 assert_eq!(after, run, "a wait changes nothing");
                 continue;
             }
@@ -51,6 +56,7 @@ pub fn every_order(first: Run, met: &mut Met) {
     let states = search.before.len();
     assert_eq!(search.leading_to_a_finish(), states, "{judge:?}");
     met.states += states;
+    met.settings += 1;
 }
 
 impl Search {
@@ -86,13 +92,14 @@ fn short(run: &Run) -> Vec<u8> {
     let records = &run.records;
     let mut bytes = Vec::with_capacity(128);
     bytes.extend([run.loaded as u8, records.free, run.store.used as u8]);
+    bytes.push(run.in_force);
     for record in 0..=usize::from(run.settings.size) {
         bytes.push(records.next[record]);
         bytes.push(records.place[record] as u8);
         bytes.push(u8::from(records.executing[record]) + 2 * u8::from(records.locked[record]));
         bytes.push(records.set[record][0] as u8);
     }
-    for party in &run.parties[..=usize::from(run.settings.workers)] {
+    for party in &run.parties[..=usize::from(run.largest)] {
         bytes.extend(party_bytes(*party));
     }
     bytes.extend(run.store.keys.iter().map(|key| *key as u8));

@@ -7,6 +7,7 @@ use std::process::ExitCode;
 
 use second::generate::runs::{self, FIXED};
 use second::generate::{Sort, cases};
+use second::met::Met;
 use second::play::{Difference, Play};
 use second::script::Step;
 
@@ -73,19 +74,23 @@ fn options() -> Option<Options> {
     Some(options)
 }
 
-/// Whether nothing differs in all inputs of a seed.
+/// Whether nothing differs in all inputs of a seed, and these meet all that they should.
 fn compare_all(archive: &Archive, seed: u64, runs: u64) -> bool {
     fs::remove_file(FAILING).ok(); // of an earlier comparison
     let mut tally = Tally::default();
     for (sort, case) in cases(seed) {
         let mut play = Play::new(archive);
         let outcome = play.take_all(case).map(|_| ());
-        tally.count(sort, &play.steps, outcome);
+        tally.count(sort, &play, outcome);
     }
     for index in 0..FIXED + runs {
         let mut play = Play::new(archive);
         let outcome = runs::play(seed, index, &mut play);
-        tally.count(runs::sort(index), &play.steps, outcome);
+        tally.count(runs::sort(index), &play, outcome);
+    }
+    println!("met: {}", tally.met.lines().join(", "));
+    if tally.met.lacks_any() {
+        println!("compare_depot: something is never met");
     }
     let sorts = Sort::ALL.map(|sort| format!("{} {}", sort.name(), tally.counts[sort as usize]));
     println!("{}", sorts.join(", "));
@@ -94,7 +99,7 @@ fn compare_all(archive: &Archive, seed: u64, runs: u64) -> bool {
         tally.counts.iter().sum::<u64>(),
         tally.differing
     );
-    tally.differing == 0
+    tally.differing == 0 && !tally.met.lacks_any()
 }
 
 /// What was compared so far.
@@ -102,12 +107,14 @@ fn compare_all(archive: &Archive, seed: u64, runs: u64) -> bool {
 struct Tally {
     /// How many inputs of each sort, in the order of `Sort::ALL`.
     counts: [u64; Sort::ALL.len()],
+    met: Met,
     differing: usize,
 }
 
 impl Tally {
     /// Counts an input; one that differs is printed, and the first is written down.
-    fn count(&mut self, sort: Sort, steps: &[Step], outcome: Result<(), Difference>) {
+    fn count(&mut self, sort: Sort, play: &Play, outcome: Result<(), Difference>) {
+        self.met += &play.met;
         let count = &mut self.counts[sort as usize];
         *count += 1;
         let Err(difference) = outcome else {
@@ -117,7 +124,7 @@ impl Tally {
             println!("{} {count}: {difference}", sort.name());
         }
         if self.differing == 0 {
-            write_failing(steps, &difference);
+            write_failing(&play.steps, &difference);
         }
         self.differing += 1;
     }

@@ -3,7 +3,10 @@
 
 use super::openings::Opening;
 use super::{apart, reports, schedules};
-use crate::bytes::{KEY, NUMBER, PARTY, PARTY_BYTES, STATE, USED, write_numbers, write_words};
+use crate::bytes::{
+    COUNT, IN_FORCE, KEY, LARGEST, LOADED, NUMBER, PARTY, PARTY_BYTES, ROOM, SIZE, STATE, USED,
+    WORKERS, write_numbers, write_words,
+};
 use crate::command::{LARGEST_CHUTE, LENGTH};
 use crate::play::{Difference, Play};
 use crate::random::Random;
@@ -92,7 +95,8 @@ fn middle(random: &mut Random, play: &mut Play) -> Result<(), Difference> {
 
 /// Turns and reports on whatever state there is now.
 pub fn step_on(random: &mut Random, play: &mut Play) -> Result<(), Difference> {
-    let workers = play.host().list(List::State).get(1).copied().unwrap_or(1);
+    let state = play.host().list(List::State);
+    let workers = state.get(LARGEST).copied().unwrap_or(1);
     let schedule = schedules::some(random, workers.min(64), 60);
     play.take(Step::Advance(schedule))?;
     reports(play)?;
@@ -103,8 +107,8 @@ pub fn step_on(random: &mut Random, play: &mut Play) -> Result<(), Difference> {
 
 /// Another room, in most cases with keys and chutes of its length.
 fn change_room(random: &mut Random, play: &mut Play) -> Result<(), Difference> {
-    let room = another(random, number(play, 2));
-    set_number(play, 2, room)?;
+    let room = another(random, number(play, ROOM));
+    set_number(play, ROOM, room)?;
     for (list, bytes) in [(List::Keys, KEY), (List::Chutes, NUMBER)] {
         if random.below(8) != 0 {
             play.take(Step::Resize(list, usize::from(room) * bytes))?;
@@ -115,8 +119,8 @@ fn change_room(random: &mut Random, play: &mut Play) -> Result<(), Difference> {
 
 /// Another command count, in most cases with commands and answers of its length.
 fn change_count(random: &mut Random, play: &mut Play) -> Result<(), Difference> {
-    let count = another(random, number(play, 4));
-    set_number(play, 4, count)?;
+    let count = another(random, number(play, COUNT));
+    set_number(play, COUNT, count)?;
     for (list, bytes) in [(List::Commands, LENGTH), (List::Answers, NUMBER)] {
         if random.below(8) != 0 {
             play.take(Step::Resize(list, usize::from(count) * bytes))?;
@@ -127,7 +131,7 @@ fn change_count(random: &mut Random, play: &mut Play) -> Result<(), Difference> 
 
 /// Another number of commands loaded or of places used.
 fn change_used(random: &mut Random, play: &mut Play) -> Result<(), Difference> {
-    let offset = random.pick(&[6, 8]);
+    let offset = random.pick(&[LOADED, USED]);
     let used = another(
         random,
         number(play, offset - 4).min(number(play, offset) + 1),
@@ -139,7 +143,7 @@ fn change_used(random: &mut Random, play: &mut Play) -> Result<(), Difference> {
 fn change_key(random: &mut Random, play: &mut Play) -> Result<(), Difference> {
     let keys = play.host().list(List::Keys);
     let places = (keys.len() / KEY) as u64;
-    let used = u64::from(number(play, 8)).clamp(1, places);
+    let used = u64::from(number(play, USED)).clamp(1, places);
     let from = random.below(used) as usize * KEY;
     let to = random.below(used) as usize * KEY;
     let key = keys[from..from + KEY].to_vec();
@@ -166,15 +170,17 @@ fn value(random: &mut Random, play: &Play, offset: usize) -> u8 {
     let value = match random.below(5) {
         0 => random.pick(&VALUES),
         1 => random.pick(&[
-            state[0],
-            state[0] + 1,
-            state[1],
-            state[5],
-            state[5].wrapping_add(1),
+            state[SIZE],
+            state[SIZE] + 1,
+            state[WORKERS],
+            state[LARGEST],
+            state[IN_FORCE],
+            state[COUNT + 1],
+            state[COUNT + 1].wrapping_add(1),
         ]),
         2 => random.pick(&[now.wrapping_add(1), now.wrapping_sub(1)]),
         3 => now ^ (1 << random.below(8)),
-        _ => random.below(u64::from(state[0]) + 2) as u8,
+        _ => random.below(u64::from(state[SIZE]) + 2) as u8,
     };
     if value == now { now ^ 1 } else { value }
 }

@@ -137,11 +137,13 @@ pub mod testing {
     use super::*;
     use crate::depot::Second;
     use crate::generate::runs;
+    use crate::met::Met;
 
     /// The steps of a run, and how it stands after them.
     pub struct Done {
         pub steps: Vec<Step>,
         pub run: Run,
+        pub met: Met,
     }
 
     /// Plays the run of an index on the second program alone.
@@ -152,6 +154,7 @@ pub mod testing {
         Done {
             run: play.host().run().expect("the run goes on"),
             steps: play.steps,
+            met: play.met,
         }
     }
 
@@ -183,7 +186,7 @@ pub mod testing {
         note: fn(&mut Run, u8, bool) -> Option<T>,
     ) -> Vec<T> {
         match run {
-            Some(mut run) if schedule.iter().all(|it| *it <= run.settings.workers) => {
+            Some(mut run) if schedule.iter().all(|it| *it <= run.largest) => {
                 let turns = schedule.iter();
                 turns
                     .filter_map(|party| note(&mut run, *party, apart))

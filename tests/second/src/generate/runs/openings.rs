@@ -20,9 +20,9 @@ const ROOMS: [u64; 8] = [1, 1, 2, 2, 3, 4, 16, 64];
 /// Commands of a run that is not long.
 const MANY: u64 = 40;
 
-/// Kinds to pick from: all alike, mostly independent ones, and mostly inserts.
-const KINDS: [&[Kind]; 4] = [
-    &Kind::ALL,
+/// Kinds to pick from: those of items alike, mostly independent ones, mostly inserts, and all kinds.
+const KINDS: [&[Kind]; 5] = [
+    &Kind::OF_ITEMS,
     &[Kind::Read, Kind::Update],
     &[
         Kind::Read,
@@ -33,8 +33,18 @@ const KINDS: [&[Kind]; 4] = [
         Kind::Insert,
     ],
     &[Kind::Insert, Kind::Insert, Kind::Delete, Kind::Read],
+    &[
+        Kind::Insert,
+        Kind::Delete,
+        Kind::Read,
+        Kind::Read,
+        Kind::Update,
+        Kind::Update,
+        Kind::Workers,
+    ],
 ];
 
+#[derive(Clone)]
 pub struct Opening {
     pub size: u64,
     pub workers: u64,

@@ -4,7 +4,7 @@ use super::limits::{example, with_example_settings};
 use super::openings::{Opening, commands};
 use super::schedules;
 use crate::command::{LENGTH, encode};
-use crate::generate::commands::{FAULTS, each_character, perhaps_wrong, with_faults};
+use crate::generate::commands::{FAULTS, each_character, perhaps_wrong, with_faults, workers};
 use crate::generate::{Case, with_byte};
 use crate::play::{Difference, Play};
 use crate::random::Random;
@@ -42,6 +42,10 @@ fn wrong_lists(random: &mut Random) -> Vec<Vec<u8>> {
         encode(0, FIRST, 0),
         encode(1, FIRST, 513),
         encode(3, FIRST, 1),
+        workers(0),
+        workers(65),
+        encode(5, FIRST, 1),
+        encode(5, b"0000000000010", 1),
     ];
     wrong.extend(each_character(random, &right));
     let mut lists = Vec::new();

@@ -186,7 +186,8 @@ fn beside_a_writer(worker: u8, held: Held, random: &mut Random, play: &mut Play)
     deal_each(&turns, random, play)
 }
 
-/// The command is another one of the same item, so that a read may be held as an update is.
+/// The command is another one of the same item or a worker change, so that a read may be held as an
+/// update is.
 fn with_another_command(worker: u8, held: Held, random: &mut Random, play: &mut Play) -> Played {
     let kind = random.pick(&Kind::ALL);
     set_command(play, held.place, &with_key(random, kind, held.key))?;
@@ -275,11 +276,13 @@ mod tests {
         let counts = counts(met.into_iter());
         let states = |kind: Kind| match kind {
             Read => vec![HOLDING, WRITTEN, WALKING, CLEARING],
-            Insert | Delete | Update => vec![HOLDING, LOOKED_UP, WRITTEN, WALKING, CLEARING],
+            Insert | Delete | Update | Kind::Workers => {
+                vec![HOLDING, LOOKED_UP, WRITTEN, WALKING, CLEARING]
+            }
         };
         let mut expected = Vec::new();
         for found in [false, true] {
-            for kind in Kind::ALL {
+            for kind in Kind::OF_ITEMS {
                 let states = states(kind).into_iter();
                 expected.extend(states.map(|state| (found, kind.number(), state)));
             }

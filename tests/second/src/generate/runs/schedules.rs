@@ -23,6 +23,8 @@ enum Policy {
     Loading,
     /// Seldom one that is to look up or to write, so that others have turns before it does.
     Lingering,
+    /// Few workers, on both sides of the count in force, and those at work; seldom others.
+    Near,
     /// All but the first worker that comes to one state, for several turns, and so on with another.
     Pausing {
         state: u8,
@@ -66,7 +68,7 @@ impl Policy {
     }
 
     fn next(&mut self, random: &mut Random, run: &Run) -> u8 {
-        let workers = run.settings.workers;
+        let workers = run.largest;
         match self {
             Policy::Random => any_party(random, workers),
             Policy::Bursty { party, left: 0 } => {
@@ -88,6 +90,7 @@ impl Policy {
             }
             Policy::Loading => any_party(random, workers) * random.below(2) as u8,
             Policy::Lingering => lingering(random, run),
+            Policy::Near => near(random, run),
             Policy::Pausing { left: 0, .. } => {
                 *self = Policy::pausing(random);
                 self.next(random, run)
@@ -97,8 +100,7 @@ impl Policy {
                 worker,
                 left,
             } => {
-                let comes = |it: &u8| standing(run.parties[usize::from(*it)])[0] == *state;
-                *worker = worker.or_else(|| (1..=workers).find(comes));
+                *worker = worker.or_else(|| first_in(run, *state));
                 *left -= u64::from(worker.is_some());
                 any_but(*worker, random, workers)
             }
@@ -106,13 +108,32 @@ impl Policy {
     }
 }
 
+/// The first worker that is in a state.
+fn first_in(run: &Run, state: u8) -> Option<u8> {
+    let comes = |it: &u8| standing(run.parties[usize::from(*it)])[0] == state;
+    (1..=run.largest).find(comes)
+}
+
 fn lingering(random: &mut Random, run: &Run) -> u8 {
     loop {
-        let party = any_party(random, run.settings.workers);
+        let party = any_party(random, run.largest);
         let now = run.parties[usize::from(party)];
         let lingers = matches!(now, Party::Holding { .. } | Party::LookedUp { .. });
         if !lingers || random.below(16) == 0 {
             return party;
+        }
+    }
+}
+
+fn near(random: &mut Random, run: &Run) -> u8 {
+    let at_work = |party: &u8| run.parties[usize::from(*party)] != Party::Idle;
+    let busy: Vec<u8> = (0..=run.largest).filter(at_work).collect();
+    match random.below(16) {
+        0 => any_party(random, run.largest),
+        1..=7 if !busy.is_empty() => random.pick(&busy),
+        _ => {
+            let few = [0, 0, 1, 2, run.in_force, run.in_force + 1];
+            random.pick(&few).min(run.largest)
         }
     }
 }
@@ -122,7 +143,7 @@ pub fn any(random: &mut Random, host: &Host) -> Vec<u8> {
     let Some(mut run) = host.run() else {
         return Vec::new();
     };
-    let workers = run.settings.workers;
+    let workers = run.largest;
     let turns = random.below(30 * run.commands.len() as u64 + 50) as usize;
     let mut policy = Policy::any(random, workers);
     let mut schedule = deal(random, &mut run, &mut policy, turns);
@@ -139,7 +160,7 @@ pub fn filled(random: &mut Random, host: &Host) -> Vec<u8> {
         return Vec::new();
     };
     let mut schedule = loaded(&mut run);
-    let mut policy = Policy::any(random, run.settings.workers);
+    let mut policy = Policy::any(random, run.largest);
     let turns = random.below(MOST as u64) as usize;
     schedule.extend(deal(random, &mut run, &mut policy, turns));
     schedule
@@ -150,7 +171,7 @@ pub fn to_the_end(random: &mut Random, host: &Host, most: usize) -> Vec<u8> {
     let Some(mut run) = host.run() else {
         return Vec::new();
     };
-    let mut policy = Policy::fair(random, run.settings.workers);
+    let mut policy = Policy::fair(random, run.largest);
     deal(random, &mut run, &mut policy, most)
 }
 
@@ -169,6 +190,14 @@ pub fn with_pauses(random: &mut Random, host: &Host, most: usize) -> Vec<u8> {
     schedule
 }
 
+/// Turns to the end, of few workers on both sides of the count in force.
+pub fn near_the_count(random: &mut Random, host: &Host, most: usize) -> Vec<u8> {
+    let Some(mut run) = host.run() else {
+        return Vec::new();
+    };
+    deal(random, &mut run, &mut Policy::Near, most)
+}
+
 /// Some turns, and who gets them is no matter; few enough for any state.
 pub fn some(random: &mut Random, workers: u8, most: u64) -> Vec<u8> {
     let turns = random.below(most);
@@ -177,7 +206,7 @@ pub fn some(random: &mut Random, workers: u8, most: u64) -> Vec<u8> {
 
 /// Turns one of which goes to a party that is not there.
 pub fn refused(random: &mut Random, host: &Host) -> Vec<u8> {
-    let workers = host.run().map_or(0, |run| run.settings.workers);
+    let workers = host.run().map_or(0, |run| run.largest);
     let mut schedule = some(random, workers, 10);
     let at = random.below(schedule.len() as u64 + 1) as usize;
     schedule.insert(at, random.pick(&[workers + 1, workers + 1, 65, 128, 255]));

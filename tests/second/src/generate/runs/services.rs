@@ -59,7 +59,7 @@ pub fn service(run: &mut Run, worker: u8, apart: bool) -> Option<Service> {
     run.turn(worker);
     let command = run.command(own);
     let place = usize::from(run.records.place[usize::from(own)]);
-    let others = (1..=run.settings.workers).filter(|other| *other != worker);
+    let others = (1..=run.largest).filter(|other| *other != worker);
     Some(Service {
         before: before.parties[party],
         after: run.parties[party],
