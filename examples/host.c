@@ -21,7 +21,7 @@ static const struct labelled labelled[COMMANDS] = {
     {DEPOT_INSERT, "CP100000017DE", 41}, {DEPOT_READ, "CP100000017DE", 0},     {DEPOT_DELETE, "EE200000023FR", 0},
 };
 
-static const char *const kinds[] = {"", "insert", "delete", "read", "update"};
+static const char *const kinds[] = {"", "insert", "delete", "read", "update", "workers"};
 static const char *const states[] = {"idle", "loading", "searching", "holding", "looked-up", "written", "walking", "clearing"};
 
 /* The lists that the host keeps between calls. */
