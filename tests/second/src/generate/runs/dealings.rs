@@ -196,6 +196,12 @@ pub mod testing {
         }
     }
 
+    /// Asserts that nine runs of ten come to their end.
+    pub fn assert_nearly_all_finish(played: &[Done]) {
+        let finished = played.iter().filter(|done| done.run.is_finished());
+        assert!(10 * finished.count() > 9 * played.len());
+    }
+
     /// Asserts that a seed gives the same runs again and another gives others.
     pub fn assert_made_from_the_seed(first: u64, count: u64) {
         for index in (first..first + count).step_by(31) {

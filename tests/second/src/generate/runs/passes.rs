@@ -196,7 +196,9 @@ mod tests {
     use crate::command::{Kind, encode};
     use crate::depot::Second;
     use crate::generate::runs::PASSES;
-    use crate::generate::runs::dealings::testing::{Done, assert_made_from_the_seed, done};
+    use crate::generate::runs::dealings::testing::{
+        Done, assert_made_from_the_seed, assert_nearly_all_finish, done,
+    };
     use crate::generate::runs::services::{self, Beside, CLEARING, LOOKED_UP, Service, counts};
     use crate::generate::text;
 
@@ -368,8 +370,7 @@ mod tests {
 
     #[test]
     fn nearly_all_runs_come_to_their_end() {
-        let finished = PLAYED.iter().filter(|done| done.run.is_finished());
-        assert!(10 * finished.count() as u64 > 9 * COUNT);
+        assert_nearly_all_finish(&PLAYED);
     }
 
     #[test]

@@ -238,7 +238,9 @@ mod tests {
     use crate::bytes::standing;
     use crate::depot::Second;
     use crate::generate::runs::READS;
-    use crate::generate::runs::dealings::testing::{Done, assert_made_from_the_seed, done, noted};
+    use crate::generate::runs::dealings::testing::{
+        Done, assert_made_from_the_seed, assert_nearly_all_finish, done, noted,
+    };
     use crate::generate::runs::services::{
         self, CLEARING, HOLDING, LOOKED_UP, Service, WALKING, WRITTEN, counts, service,
     };
@@ -397,8 +399,7 @@ mod tests {
 
     #[test]
     fn nearly_all_runs_come_to_their_end() {
-        let finished = PLAYED.iter().filter(|done| done.run.is_finished());
-        assert!(10 * finished.count() as u64 > 9 * COUNT);
+        assert_nearly_all_finish(&PLAYED);
     }
 
     #[test]

@@ -316,7 +316,9 @@ mod tests {
     use super::*;
     use crate::command::Command;
     use crate::generate::runs::SHIFTS;
-    use crate::generate::runs::dealings::testing::{Done, assert_made_from_the_seed, done, noted};
+    use crate::generate::runs::dealings::testing::{
+        Done, assert_made_from_the_seed, assert_nearly_all_finish, done, noted,
+    };
     use crate::met::{Event, Met};
 
     static PLAYED: LazyLock<Vec<Done>> = LazyLock::new(|| {
@@ -393,8 +395,7 @@ mod tests {
 
     #[test]
     fn nearly_all_runs_come_to_their_end() {
-        let finished = PLAYED.iter().filter(|done| done.run.is_finished());
-        assert!(10 * finished.count() as u64 > 9 * COUNT);
+        assert_nearly_all_finish(&PLAYED);
     }
 
     #[test]
