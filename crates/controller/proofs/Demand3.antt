@@ -26,7 +26,7 @@ use Rattle.command.specs.Read.{commandsIn}
 use Rattle.state_bytes.specs.Layout.{Lists, listsOf, setupIn, stateIn, ascends, stateFits, handedBackFit}
 use Rattle.controller.specs.Calls.{CallOutcome, accepted, refused, kept, openOn, advanceOn, setupOf}
 use Rattle.controller.specs.Demand3.{Call, callOn, listsAfter, ProperCall, Proper, accepts, schedules, HoldsAfter, Demand3OverCalls}
-use Rattle.state_bytes.proofs.Bytes.{below-or-past, each-all-below}
+use Rattle.byte_fields.proofs.Bytes.{below-or-past, each-all-below}
 use Rattle.state_bytes.proofs.RoundTrip.{lists-state, state-read-back, setup-read-back, lists-fit, state-fits}
 use Rattle.controller.proofs.AcceptedOpening.{passed, IsOpened, accepted-opening}
 

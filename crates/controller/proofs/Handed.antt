@@ -17,11 +17,11 @@ use Rattle.command.specs.Read.{commandsIn}
 use Rattle.graph.specs.Items.{Kept}
 use Rattle.graph.specs.Memory.{Ready, memory, shown}
 use Rattle.graph.proofs.Commands.{commands-length}
-use Rattle.state_bytes.specs.Bytes.{numberAt, tabulate}
+use Rattle.byte_fields.specs.Bytes.{numberAt, tabulate}
 use Rattle.state_bytes.specs.Layout.{Lists, threadOf, threadAt, setAt, setupIn, countIn, stateIn, stateLength, threadFits, threadFitsAt}
 use Rattle.controller.specs.Performed.{CountersIn}
-use Rattle.state_bytes.proofs.Bytes.{below-or-past, tabulate-at, tabulate-past}
-use Rattle.state_bytes.proofs.Fill.{number-one}
+use Rattle.byte_fields.proofs.Bytes.{below-or-past, tabulate-at, tabulate-past}
+use Rattle.byte_fields.proofs.Fill.{number-one}
 use Rattle.state_bytes.proofs.StateParts.{no-member}
 use Rattle.state_bytes.proofs.Tested.{each-passed}
 use Rattle.state_bytes.proofs.Passed.{Long, InRange}

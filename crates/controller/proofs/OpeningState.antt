@@ -20,10 +20,10 @@ use Rattle.model.specs.Service.{openedService}
 use Rattle.model.specs.Step.{node, opened}
 use Rattle.model.specs.Proof.Tests.{eqb-cases}
 use Rattle.model.specs.declared.Counters.{Counters}
-use Rattle.state_bytes.specs.Bytes.{tabulate}
+use Rattle.byte_fields.specs.Bytes.{tabulate}
 use Rattle.state_bytes.specs.Layout.{lists, stateBytes, listsOf}
 use Rattle.state_bytes.specs.Written.{Shown}
-use Rattle.state_bytes.proofs.Bytes.{below-or-past}
+use Rattle.byte_fields.proofs.Bytes.{below-or-past}
 
 -- ---- lists of one value
 

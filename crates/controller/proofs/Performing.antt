@@ -28,7 +28,7 @@ use Rattle.state_bytes.specs.declared.Settings.{Settings}
 use Rattle.state_bytes.specs.Layout.{Lists, lists, listsOf}
 use Rattle.state_bytes.specs.Written.{Shown, Lays}
 use Rattle.controller.specs.Performed.{Performed}
-use Rattle.state_bytes.proofs.Bytes.{tabulate-elements}
+use Rattle.byte_fields.proofs.Bytes.{tabulate-elements}
 
 -- the threads of an array, idle past its end
 abbrev pub threadsOf : List Thread → ℕ → Thread

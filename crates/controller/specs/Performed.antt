@@ -14,7 +14,7 @@ use Rattle.graph.specs.Arrays.{NodesWithin}
 use Rattle.command.specs.Read.{commandsIn}
 use Rattle.graph.specs.Memory.{Memory, Ready, shown}
 use Rattle.state_bytes.specs.declared.Settings.{Settings}
-use Rattle.state_bytes.specs.Bytes.{numberAt}
+use Rattle.byte_fields.specs.Bytes.{numberAt}
 use Rattle.state_bytes.specs.Layout.{Lists, stateLength, listsOf, setupIn, countIn, stateFits, handedBackFit}
 use Rattle.state_bytes.specs.Written.{Sets}
 

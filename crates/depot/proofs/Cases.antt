@@ -17,7 +17,7 @@ use Rattle.model.specs.Store.{layOut, lookUp, insert}
 use Rattle.model.specs.Service.{writeKind}
 use Rattle.model.specs.Step.{opened, steps}
 use Rattle.model.specs.Statement.{allWithin}
-use Rattle.state_bytes.specs.Bytes.{numberAt, tabulate, fields}
+use Rattle.byte_fields.specs.Bytes.{numberAt, tabulate, fields}
 use Rattle.state_bytes.specs.Layout.{listsOf, stateLength, lengthsFit}
 use Rattle.controller.specs.Calls.{accepted, openedWith, openOn}
 use Rattle.depot.specs.Cases.{command, full, corrected, writtenInFull, input, stopped, Marked}

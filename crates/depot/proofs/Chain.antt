@@ -10,7 +10,7 @@ use lib.ListN.{length, getD}
 use lib.Dec.{ltb}
 use Rattle.model.specs.Graph.{Graph, chainFrom}
 use Rattle.state_bytes.specs.Layout.{Lists, stateIn}
-use Rattle.state_bytes.specs.Bytes.{numberAt}
+use Rattle.byte_fields.specs.Bytes.{numberAt}
 use Rattle.depot.specs.Program.{totals, report}
 
 -- nothing is behind a node whose next index is 0

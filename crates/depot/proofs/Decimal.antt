@@ -8,7 +8,7 @@ use mathlib.Core.List.{[], _∷_, _++_}
 use borrow.Author.Tests.{lt-ltb, le-ltb}
 use lib.ListN.{length, length-append}
 use Rattle.io.specs.Digits.{digits, glyph, Fewest}
-use Rattle.state_bytes.proofs.Bytes.{below-or-past}
+use Rattle.byte_fields.proofs.Bytes.{below-or-past}
 use Rattle.depot.specs.Program.{decimalWithin, decimal}
 
 -- a digit's character

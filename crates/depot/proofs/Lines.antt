@@ -7,7 +7,7 @@ use mathlib.Core.Path.{_≡_, refl}
 use mathlib.Core.List.{List}
 use lib.ListN.{length, getD, length-drop}
 use lib.Seq.{getD-drop}
-use Rattle.state_bytes.specs.Bytes.{fields}
+use Rattle.byte_fields.specs.Bytes.{fields}
 use Rattle.panel.specs.Reports.{answersFrom}
 use Rattle.depot.specs.Wrote.{Wrote}
 

@@ -22,7 +22,7 @@ use Rattle.model.specs.Setup.{Setup}
 use Rattle.model.specs.Statement.{allWithin}
 use Rattle.state_bytes.specs.Layout.{Lists, stateLength, setupIn, stateFits, lengthsFit, handedBackFit}
 use Rattle.controller.specs.Calls.{CallOutcome, accepted, refused, refusalIn, kept, openedWith, openOn, advanceOn}
-use Rattle.state_bytes.proofs.Bytes.{below-or-past}
+use Rattle.byte_fields.proofs.Bytes.{below-or-past}
 use Rattle.depot.specs.Program.{refusal, printed, zeros}
 
 -- ---- a refusal's number is not 0

@@ -4,7 +4,7 @@ use mathlib.Core.Path.{_≡_}
 use mathlib.Core.List.{List}
 use borrow.Author.Tests.{lt-ltb, le-ltb}
 use lib.ListN.{length}
-use Rattle.state_bytes.specs.Bytes.{numberAt}
+use Rattle.byte_fields.specs.Bytes.{numberAt}
 use Rattle.depot.specs.Program.{refusal, performed, output}
 
 module _ (input : List ℕ) where

@@ -12,11 +12,11 @@ use Rattle.model.specs.Proof.Theorem.{all-serial, none-linked, demand-3}
 use Rattle.model.specs.Statement.{serialAnswer}
 use Rattle.model.specs.Setup.{Setup}
 use Rattle.model.specs.Step.{State}
-use Rattle.state_bytes.specs.Bytes.{tabulate}
+use Rattle.byte_fields.specs.Bytes.{tabulate}
 use Rattle.state_bytes.specs.Layout.{listsOf, stateIn}
 use Rattle.controller.specs.Calls.{accepted}
 use Rattle.state_bytes.proofs.RoundTrip.{lists-answers}
-use Rattle.state_bytes.proofs.Bytes.{tabulate-is}
+use Rattle.byte_fields.proofs.Bytes.{tabulate-is}
 use Rattle.controller.proofs.AcceptedOpening.{accepted-opening}
 use Rattle.controller.proofs.Demand3.{opening-performs}
 use Rattle.depot.specs.Text.{ascii}

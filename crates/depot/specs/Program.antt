@@ -10,7 +10,7 @@ use Rattle.command.specs.declared.Kind.the-variants.{Insert, Delete, Read, Upda
 use Rattle.command.specs.Read.{kindOf}
 use Rattle.model.specs.Graph.{chainFrom}
 use Rattle.model.specs.Step.{State}
-use Rattle.state_bytes.specs.Bytes.{numberAt, fields}
+use Rattle.byte_fields.specs.Bytes.{numberAt, fields}
 use Rattle.state_bytes.specs.Layout.{Lists, lists, stateLength, stateIn}
 use Rattle.controller.specs.Calls.{CallOutcome, accepted, refused, openOn, advanceOn}
 use Rattle.depot.specs.Text.{ascii}

@@ -11,7 +11,7 @@ use Rattle.model.specs.Setup.{Setup}
 use Rattle.model.specs.Step.{State, opened, steps}
 use Rattle.model.specs.Serial.{serialAnswers, serialEntries}
 use Rattle.model.specs.Statement.{allWithin, removed, EachCommand}
-use Rattle.state_bytes.specs.Bytes.{tabulate}
+use Rattle.byte_fields.specs.Bytes.{tabulate}
 use Rattle.state_bytes.specs.Layout.{Lists}
 use Rattle.controller.specs.Calls.{accepted, setupOf}
 use Rattle.depot.specs.Text.{ascii}

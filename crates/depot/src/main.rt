@@ -9,12 +9,12 @@ mod perform;
 mod report;
 mod text;
 
+use byte_fields::number_at;
 use command::Command;
 use libc::STDIN_FILENO;
 use libc::STDOUT_FILENO;
 use perform::perform;
 use report::put_refusal;
-use state_bytes::number_at;
 
 // The longest input, and the length of what stands before the commands.
 const LONGEST: usize = 65536;

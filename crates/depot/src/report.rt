@@ -13,6 +13,7 @@ use crate::text::SPACE;
 use crate::text::put_byte;
 use crate::text::put_number;
 use crate::text::put_text;
+use byte_fields::number_at;
 use command::AnyKind;
 use command::Command;
 use command::Kind;
@@ -21,7 +22,6 @@ use node_set::Node;
 use panel::answers_from;
 use state_bytes::USED;
 use state_bytes::next_at;
-use state_bytes::number_at;
 
 // How many nodes a chain has at most.
 const LONGEST_CHAIN: usize = 150;

@@ -21,7 +21,7 @@ use Rattle.model.specs.Statement.{Accepted, allWithin, EachCommand}
 use Rattle.model.specs.Proof.Tests.{none-some}
 use Rattle.model.specs.Proof.Bounds.{reached-keys, reached-answers}
 use Rattle.state_bytes.specs.Layout.{Lists, threadBytes, listsOf, stateIn}
-use Rattle.state_bytes.proofs.Bytes.{below-or-past, lies-taken, lies-field, tabulate-length, tabulate-at, tabulate-past}
+use Rattle.byte_fields.proofs.Bytes.{below-or-past, lies-taken, lies-field, tabulate-length, tabulate-at, tabulate-past}
 use Rattle.state_bytes.proofs.StateParts.{thread-length, part-lies}
 use Rattle.state_bytes.proofs.RoundTrip.{lists-state, lists-answers, lists-keys, lists-chutes}
 use Rattle.controller.specs.Calls.{CallOutcome, accepted, advanceOn, setupOf}

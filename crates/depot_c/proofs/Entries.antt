@@ -7,11 +7,11 @@ use mathlib.Core.Path.{_≡_, refl, sym, ap, _∙_}
 use mathlib.Core.List.{List}
 use lib.ListN.{length, getD, take, drop}
 use lib.Seq.{take-all}
-use Rattle.state_bytes.specs.Bytes.{bytesOf, numberAt, tabulate, fields}
-use Rattle.state_bytes.proofs.Bytes.{Bytes, bytes-length, number-stands, lies-whole, lies-number, lies-field, fields-length, fields-of, tabulate-length, tabulate-at, tabulate-is}
+use Rattle.byte_fields.specs.Bytes.{bytesOf, numberAt, tabulate, fields}
+use Rattle.byte_fields.proofs.Bytes.{Bytes, bytes-length, number-stands, lies-whole, lies-number, lies-field, fields-length, fields-of, tabulate-length, tabulate-at, tabulate-is}
 use Rattle.depot_c.specs.Numbers.{numbersIn, bytesIn}
-use Rattle.state_bytes.proofs.Fill.{Filled, filled-all}
-use Rattle.state_bytes.proofs.Paste.{PutFields, fields-all, pasted-whole}
+use Rattle.byte_fields.proofs.Fill.{Filled, filled-all}
+use Rattle.byte_fields.proofs.Paste.{PutFields, fields-all, pasted-whole}
 
 -- as many numbers as there are times k bytes
 pub numbers-length : (k : ℕ) (bytes : List ℕ) → length (numbersIn k bytes) ≡ length bytes / k

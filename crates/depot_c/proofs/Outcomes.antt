@@ -14,14 +14,14 @@ use Rattle.command.specs.Read as Command
 use Rattle.command.proofs.Laws.{length-readings}
 use Rattle.model.specs.Setup.{Setup}
 use Rattle.model.specs.Proof.Tests.{fails}
-use Rattle.state_bytes.specs.Bytes.{numberAt}
+use Rattle.byte_fields.specs.Bytes.{numberAt}
 use Rattle.state_bytes.specs.Layout.{Lists, lists, stateLength, setupIn, countIn, stateFits, lengthsFit, handedBackFit}
 use Rattle.controller.specs.Calls.{CallOutcome, accepted, refused, refusalIn, kept, openedWith, openOn, advanceRefusal, advanceOn, setupOf}
 use Rattle.controller.specs.declared.«advance_call».Advancing.{Advancing}
 use Rattle.controller.specs.declared.«advance_call».Advancing.the-variants.{Advanced, WrongLength, UnknownThread, WrongState}
 use Rattle.depot_c.specs.Numbers.{numbersIn, bytesIn}
 use Rattle.depot_c.specs.Boundary.{areWhole, numberLists, decoded, encoded, packed, answerOf, left}
-use Rattle.state_bytes.proofs.Bytes.{Bytes}
+use Rattle.byte_fields.proofs.Bytes.{Bytes}
 use Rattle.state_bytes.proofs.Tested.{each-passed}
 use Rattle.state_bytes.proofs.Passed.{InRange, state-passed}
 use Rattle.depot_c.proofs.Entries.{numbers-length, numbers-read-back}

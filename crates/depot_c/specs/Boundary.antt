@@ -8,7 +8,7 @@ use lib.Dec.{eqb}
 use Rattle.s10.specs.Refusal.{Refusal}
 use Rattle.s10.specs.Outcome.{readText, refusalRead}
 use Rattle.s10.specs.Outcome as Identifier
-use Rattle.state_bytes.specs.Bytes.{bytesOf}
+use Rattle.byte_fields.specs.Bytes.{bytesOf}
 use Rattle.state_bytes.specs.Layout.{Lists, lists, stateIn}
 use Rattle.controller.specs.Calls.{CallOutcome, accepted, refused, refusalIn, openOn, advanceOn}
 use Rattle.panel.specs.Reports.{pendingCounts, workerStatusBytes, largestIn}

@@ -13,7 +13,7 @@ use Rattle.model.specs.Store.{Store, layOut}
 use Rattle.model.specs.Setup.{Setup}
 use Rattle.model.specs.Step.{opened}
 use Rattle.model.specs.Statement.{wrote, removed, EachCommand, serialAnswer}
-use Rattle.state_bytes.specs.Bytes.{numberAt}
+use Rattle.byte_fields.specs.Bytes.{numberAt}
 use Rattle.state_bytes.specs.Layout.{Lists, threadBytes}
 use Rattle.controller.specs.Demand3.{Call}
 use Rattle.depot_c.specs.Numbers.{bytesIn}

@@ -2,7 +2,7 @@
 use Prim.Native.Nat.{ℕ, _*_, _/_}
 use mathlib.Core.List.{List}
 use lib.ListN.{length, getD}
-use Rattle.state_bytes.specs.Bytes.{bytesOf, numberAt, tabulate, fields}
+use Rattle.byte_fields.specs.Bytes.{bytesOf, numberAt, tabulate, fields}
 
 -- the numbers that bytes write, k bytes each
 unfoldable pub numbersIn : ℕ → List ℕ → List ℕ

@@ -4,10 +4,10 @@ ghost use Rattle.s10.specs.Outcome.{textOutcome, refusalRead, number, writeNumb
 ghost use Rattle.depot_c.specs.Boundary.{packed, keyRead, readAnswer, readLeft};
 use crate::answer::packed;
 use crate::numbers::KEY;
+use byte_fields::put_number;
 use s10::Identifier;
 use s10::Reading;
 use s10::Writing;
-use state_bytes::put_number;
 
 // The answer to a reading.
 fn reading_answer(reading: Reading) -> u64

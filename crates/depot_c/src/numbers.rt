@@ -3,9 +3,9 @@ ghost use mathlib.Core.Path.{_≡_};
 ghost use Prim.Native.Nat.{_*_};
 ghost use lib.ListN.{length};
 ghost use Rattle.depot_c.specs.Numbers.{numbersIn, bytesIn};
-use state_bytes::number_at;
-use state_bytes::put_number;
-use state_bytes::word_at;
+use byte_fields::number_at;
+use byte_fields::put_number;
+use byte_fields::word_at;
 
 // How many bytes a key has, and how many a chute or an answer.
 pub const KEY: usize = 8;

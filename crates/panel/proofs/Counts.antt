@@ -11,9 +11,9 @@ use borrow.Author.Tests.{lt-ltb, le-ltb, ne-eqb, eqb-true}
 use Rattle.node_set.specs.Members.{member, countBelow}
 use Rattle.model.specs.Graph.{chainFrom}
 use Rattle.model.specs.Step.{State}
-use Rattle.state_bytes.specs.Bytes.{tabulate}
+use Rattle.byte_fields.specs.Bytes.{tabulate}
 use Rattle.state_bytes.specs.Layout.{Lists, stateIn, setAt}
-use Rattle.state_bytes.proofs.Fill.{Filled, filled-none, filled-more, filled-all}
+use Rattle.byte_fields.proofs.Fill.{Filled, filled-none, filled-more, filled-all}
 use Rattle.panel.specs.Reports.{pendingCounts}
 
 -- ---- how many pass a test

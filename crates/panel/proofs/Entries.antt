@@ -8,7 +8,7 @@ use mathlib.Core.Bool.{cond}
 use mathlib.Core.List.{List, [], _∷_, _++_, append-nil}
 use lib.Dec.{eqb}
 use lib.ListN.{length, set, drop, drop-of-length-le}
-use Rattle.state_bytes.specs.Bytes.{tabulate}
+use Rattle.byte_fields.specs.Bytes.{tabulate}
 use Rattle.state_bytes.specs.Layout.{Lists, stateIn, stateLength}
 use Rattle.panel.specs.declared.Report.{Report}
 use Rattle.panel.specs.declared.Report.the-variants.{Reported, WrongLength, WrongState}

@@ -9,12 +9,11 @@ use borrow.Author.Tests.{lt-leb, le-leb, lt-ltb}
 use Rattle.model.specs.declared.Thread.{Thread}
 use Rattle.model.specs.declared.Thread.the-variants.{Idle}
 use Rattle.model.specs.Step.{State}
-use Rattle.state_bytes.specs.Bytes.{fields}
+use Rattle.byte_fields.specs.Bytes.{fields, pasted}
 use Rattle.state_bytes.specs.Layout.{Lists, stateLength, stateIn, threadAt}
-use Rattle.state_bytes.specs.Pasted.{pasted}
-use Rattle.state_bytes.proofs.Bytes.{fields-length, tabulate-at}
-use Rattle.state_bytes.proofs.Fill.{number-one}
-use Rattle.state_bytes.proofs.Paste.{PutFields, fields-put, fields-all, pasted-whole}
+use Rattle.byte_fields.proofs.Bytes.{fields-length, tabulate-at}
+use Rattle.byte_fields.proofs.Fill.{number-one}
+use Rattle.byte_fields.proofs.Paste.{PutFields, fields-put, fields-all, pasted-whole}
 use Rattle.panel.specs.declared.WorkerStatus.{WorkerStatus}
 use Rattle.panel.specs.declared.WorkerState.the-variants as worker
 use Rattle.panel.specs.Reports.{entry, statusOf, reported, stateNumber, statusBytes, workerStatus, workerStatusBytes, largestIn}

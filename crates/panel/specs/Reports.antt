@@ -10,7 +10,7 @@ use Rattle.model.specs.declared.Thread.{Thread}
 use Rattle.model.specs.declared.Thread.the-variants.{Idle, Loading, Searching, Holding, LookedUp, Written, Walking, Clearing}
 use Rattle.model.specs.Graph.{chainFrom}
 use Rattle.model.specs.Step.{State, node}
-use Rattle.state_bytes.specs.Bytes.{tabulate, fields, numberAt}
+use Rattle.byte_fields.specs.Bytes.{tabulate, fields, numberAt}
 use Rattle.state_bytes.specs.Layout.{Lists, stateFits, handedBackFit}
 use Rattle.panel.specs.declared.Report.{Report}
 use Rattle.panel.specs.declared.Report.the-variants.{Reported, WrongLength, WrongState}

@@ -6,7 +6,7 @@ ghost use Prim.Native.Nat.{ℕ, suc, _≤_, _<_};
 ghost use lib.Dec.{eqb};
 ghost use lib.ListN.{length, drop};
 ghost use Rattle.model.specs.Step.{State};
-ghost use Rattle.state_bytes.specs.Bytes.{tabulate};
+ghost use Rattle.byte_fields.specs.Bytes.{tabulate};
 ghost use Rattle.state_bytes.specs.Layout.{atEntry, Lists, stateLength, stateIn};
 ghost use Rattle.s10.specs.Refusal.{plain};
 ghost use Rattle.panel.specs.Reports.{reportOf, reportRefusal, reportNumber, reportLeft, statusOf, reported, stateNumber, workerStatus, workerStatusBytes, largestIn};

@@ -6,8 +6,8 @@ use mathlib.Core.Path.{_≡_, refl, sym, ap, ap₂, _∙_}
 use mathlib.Core.Bool.{Bool, true, false, not, _&&_, _||_, true≢false}
 use lib.Dec.{leb}
 use Rattle.node_set.specs.Members.{noneAbove}
-use Rattle.state_bytes.specs.Bytes.{allBelow}
-use Rattle.state_bytes.proofs.Bytes.{all-below-each}
+use Rattle.byte_fields.specs.Bytes.{allBelow}
+use Rattle.byte_fields.proofs.Bytes.{all-below-each}
 
 -- of no number all pass
 pub all-below-none : (test : ℕ → Bool) → allBelow 0 test ≡ true

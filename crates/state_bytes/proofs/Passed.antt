@@ -7,9 +7,9 @@ use mathlib.Core.List.{List, [], _∷_}
 use lib.ListN.{length, getD}
 use lib.Dec.{eqb, leb}
 use borrow.Author.Tests.{leb-true, eqb-true}
-use Rattle.state_bytes.specs.Bytes.{numberAt, allBelow}
+use Rattle.byte_fields.specs.Bytes.{numberAt, allBelow}
 use Rattle.state_bytes.specs.Layout.{Lists, setAt, setupIn, countIn, stateLength, lockCoupled, headFits, settingsFit, setFits, nodeFitsAt, threadFitsAt, ascends, stateFits, lengthsFit, handedBackFit}
-use Rattle.state_bytes.proofs.Bytes.{all-below-each}
+use Rattle.byte_fields.proofs.Bytes.{all-below-each}
 use Rattle.state_bytes.proofs.Tested.{each-passed}
 use Rattle.state_bytes.proofs.RoundTrip.{state-tests, node-tests}
 

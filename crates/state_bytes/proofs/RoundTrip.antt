@@ -17,9 +17,9 @@ use Rattle.model.specs.Step.{State}
 use Rattle.model.specs.Proof.Chain.Invariant.{isLoader, isWorker}
 use Rattle.model.specs.Proof.Formed.{ThreadFormed, SetupFormed, Formed}
 use Rattle.command.specs.Read.{commandsIn}
-use Rattle.state_bytes.specs.Bytes.{bytesOf, numberAt, tabulate, fields, allBelow}
+use Rattle.byte_fields.specs.Bytes.{bytesOf, numberAt, tabulate, fields, allBelow}
 use Rattle.state_bytes.specs.Layout.{lockCoupled, headFits, Lists, flagByte, setBytes, threadBytes, stateBytes, listsOf, threadAt, setAt, setupIn, countIn, stateIn, stateLength, settingsFit, threadFits, threadFitsAt, setFits, nodeFitsAt, ascends, stateFits, lengthsFit, handedBackFit}
-use Rattle.state_bytes.proofs.Bytes.{bytes-length, one-byte, Lies, total, lies-part, lies-first, lies-rest, lies-field, lies-number, lies-element, tabulate-at, tabulate-past, tabulate-length, below-or-past, each-all-below}
+use Rattle.byte_fields.proofs.Bytes.{bytes-length, one-byte, Lies, total, lies-part, lies-first, lies-rest, lies-field, lies-number, lies-element, tabulate-at, tabulate-past, tabulate-length, below-or-past, each-all-below}
 use Rattle.state_bytes.proofs.StateParts.{wordsOf, members-of-words, tagOf, atOf, ownOf, foundOf, threadHead, thread-parts, thread-again, found-fits, flag-length, setParts, set-parts, set-lengths, set-length, thread-length, state-length, part-lies}
 
 -- What is read of a state's bytes and lists, field by field.

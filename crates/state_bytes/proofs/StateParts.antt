@@ -14,9 +14,9 @@ use Rattle.model.specs.declared.Thread.the-variants.{Idle, Loading, Searching, 
 use Rattle.model.specs.Setup.{Setup}
 use Rattle.model.specs.Step.{State}
 use Rattle.model.specs.Proof.Formed.{ThreadFormed}
-use Rattle.state_bytes.specs.Bytes.{bytesOf, fields}
+use Rattle.byte_fields.specs.Bytes.{bytesOf, fields}
 use Rattle.state_bytes.specs.Layout.{lockCoupled, flagByte, setBytes, threadBytes, headBytes, stateBytes, threadOf}
-use Rattle.state_bytes.proofs.Bytes.{_▸_, bytes-length, Lies, HaveLengths, joined, total, lies-part, lies-whole, joined-length, fields-length, below-or-past}
+use Rattle.byte_fields.proofs.Bytes.{_▸_, bytes-length, Lies, HaveLengths, joined, total, lies-part, lies-whole, joined-length, fields-length, below-or-past}
 
 -- ---- a set as three words
 

@@ -13,7 +13,7 @@ use Rattle.model.specs.declared.Thread.the-variants.{Idle, Loading, Searching, 
 use Rattle.model.specs.Setup.{Setup}
 use Rattle.model.specs.Step.{State, node}
 use Rattle.command.specs.Read.{commandsIn}
-use Rattle.state_bytes.specs.Bytes.{bytesOf, numberAt, tabulate, fields, allBelow}
+use Rattle.byte_fields.specs.Bytes.{bytesOf, numberAt, tabulate, fields, allBelow}
 
 -- ---- what the caller keeps between calls
 

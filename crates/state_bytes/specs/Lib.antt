@@ -1,4 +1,3 @@
-pub mod Bytes
 pub mod Layout
-pub mod Pasted
+pub mod Head
 pub mod Written

@@ -6,7 +6,7 @@ ghost use Prim.Native.Nat.{ℕ, _≤_};
 ghost use lib.ListN.{length, getD};
 ghost use lib.Dec.{eqb, leb};
 ghost use Rattle.model.specs.Statement.{allWithin};
-ghost use Rattle.state_bytes.specs.Bytes.{allBelow};
+ghost use Rattle.byte_fields.specs.Bytes.{allBelow};
 ghost use Rattle.state_bytes.specs.Layout.{Lists, stateLength, headFits, settingsFit, nodeFitsAt, threadFits, threadFitsAt, ascends, stateFits, handedBackFit};
 use crate::layout::CAPACITY;
 use crate::layout::CHAIN;
@@ -25,8 +25,8 @@ use crate::layout::STATE_LENGTH;
 use crate::layout::THREADS;
 use crate::layout::USED;
 use crate::layout::WORKERS;
-use crate::read::number_at;
 use crate::read::set_at;
+use byte_fields::number_at;
 use node_set::is_within;
 
 // Refusal 6: whether the lists are as long as the state's own settings say.

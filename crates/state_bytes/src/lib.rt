@@ -23,7 +23,6 @@ pub use layout::STATE_LENGTH;
 pub use layout::USED;
 pub use layout::WORKERS;
 pub use read::next_at;
-pub use read::number_at;
 pub use read::read_bytes;
 pub use read::read_flags;
 pub use read::read_numbers;
@@ -31,8 +30,6 @@ pub use read::read_sets;
 pub use read::read_threads;
 pub use read::set_at;
 pub use read::thread_at;
-pub use read::word_at;
-pub use write::put_number;
 pub use write::write_state;
 
 // What an opening fixes, as numbers.

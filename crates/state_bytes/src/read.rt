@@ -1,41 +1,18 @@
 // Reads the fields of the state bytes into arrays.
 ghost use mathlib.Core.Path.{_≡_};
-ghost use mathlib.Core.List.{[], _∷_};
 ghost use Prim.Native.Nat.{ℕ, _+_, _*_, _≤_};
 ghost use lib.ListN.{length, getD};
 ghost use lib.Dec.{eqb};
-ghost use Rattle.state_bytes.specs.Bytes.{numberAt, tabulate};
+ghost use Rattle.byte_fields.specs.Bytes.{numberAt, tabulate};
 ghost use Rattle.state_bytes.specs.Layout.{Lists, stateLength, stateIn, setAt, threadOf, threadAt};
 use crate::layout::LAST_NODE;
 use crate::layout::NEXT;
 use crate::layout::THREADS;
 use crate::layout::WAITS;
+use byte_fields::number_at;
+use byte_fields::word_at;
 use model::Thread;
 use node_set::Node;
-
-// The number of two bytes at an offset, the high one first.
-pub fn number_at(state: &[u8], at: usize) -> u16
-    requires { ⌜ at + 2 ≤ length (now state) ⌝ }
-    ensures { λ r. ⌜ r ≡ numberAt 2 at (now (state .entry)) ⌝ }
-{
-    let high = state[at];
-    let low = state[at + 1];
-    high as u16 * 256 + low as u16
-}
-
-// The number of eight bytes at an offset, the high one first.
-pub fn word_at(state: &[u8], at: usize) -> u64
-    requires { ⌜ at + 8 ≤ length (now state) ⌝ }
-    ensures { λ r. ⌜ r ≡ numberAt 8 at (now (state .entry)) ⌝ }
-{
-    let mut n = 0u64;
-    let mut i = 0;
-    while i < 8 {
-        n = n * 256 + state[at + i] as u64;
-        i += 1;
-    }
-    n
-}
 
 // Fills a list with the bytes from an offset on.
 pub fn read_bytes(state: &[u8], at: usize, out: &mut [u8])

@@ -6,9 +6,9 @@ ghost use Prim.Native.Nat.{ℕ, _+_, _*_, _≤_};
 ghost use lib.ListN.{length, getD};
 ghost use Rattle.node_set.specs.Members.{member};
 ghost use Rattle.model.specs.declared.Thread.the-variants.{Idle};
-ghost use Rattle.state_bytes.specs.Bytes.{bytesOf, fields};
+ghost use Rattle.byte_fields.specs.Bytes.{bytesOf, fields, pasted};
 ghost use Rattle.state_bytes.specs.Layout.{stateLength, flagByte, setBytes, threadBytes};
-ghost use Rattle.state_bytes.specs.Pasted.{pasted, headOf};
+ghost use Rattle.state_bytes.specs.Head.{headOf};
 ghost use Rattle.state_bytes.specs.Written.{Lays};
 use crate::Settings;
 use crate::layout::CAPACITY;
@@ -28,25 +28,12 @@ use crate::layout::THREADS;
 use crate::layout::USED;
 use crate::layout::WAITS;
 use crate::layout::WORKERS;
+use byte_fields::put_number;
 use model::Counters;
 use model::Thread;
 
 // A thread as numbers: its state's, where it stands, its own node, what it found; 0 where its state has none.
 struct Parts(u8, u8, u8, u16);
-
-// Writes the last `width` bytes of a number, the high one first.
-pub fn put_number(state: &mut [u8], at: usize, width: usize, n: u64)
-    requires { ⌜ at + width ≤ length (now state) ⌝ }
-    ensures { λ _. ⌜ now (state .exit) ≡ pasted at (bytesOf width n) (now (state .entry)) ⌝ }
-{
-    let mut rest = n;
-    let mut k = width;
-    while k > 0 {
-        k -= 1;
-        state[at + k] = (rest % 256) as u8;
-        rest = rest / 256;
-    }
-}
 
 // Writes bytes from an offset on.
 fn write_bytes(state: &mut [u8], at: usize, from: &[u8])

@@ -2,7 +2,7 @@
 use native.Mathlib.Omega.{arith}
 use mathlib.Core.Path.{sym, _∙_}
 use Rattle.state_bytes.specs.Layout.{stateLength}
-use Rattle.state_bytes.proofs.Fill.{number-one}
+use Rattle.byte_fields.proofs.Fill.{number-one}
 use borrow.Author.Needs.{needs}
 use Rattle.controller.proofs.advance_call.counters_in.Statement.{statement}
 use Rattle.controller.proofs.advance_call.counters_in.Tie as tie

@@ -2,7 +2,7 @@
 use native.Mathlib.Omega.{arith}
 use mathlib.Core.Path.{sym, _∙_}
 use Rattle.state_bytes.specs.Layout.{stateLength, setupIn, countIn}
-use Rattle.state_bytes.proofs.Fill.{number-one}
+use Rattle.byte_fields.proofs.Fill.{number-one}
 use Rattle.controller.proofs.advance_call.settings_in.Statement.{statement}
 use Rattle.controller.proofs.advance_call.settings_in.Tie as tie
 

@@ -3,7 +3,7 @@ use Prim.Native.Nat.{ℕ, _-_}
 use native.Mathlib.Omega.{arith}
 use mathlib.Core.Path.{refl, _∙_}
 use lib.ListN.{length}
-use Rattle.state_bytes.proofs.Fill.{Filled, filled-none, filled-more, filled-all}
+use Rattle.byte_fields.proofs.Fill.{Filled, filled-none, filled-more, filled-all}
 use Rattle.controller.proofs.OpeningState.{tabulate-constant}
 use Rattle.controller.proofs.open_call.clear_keys.Statement.{statement}
 use Rattle.controller.proofs.open_call.clear_keys.Tie as tie

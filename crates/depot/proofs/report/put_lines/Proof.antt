@@ -6,11 +6,11 @@ use mathlib.Core.Path.{_≡_, refl}
 use mathlib.Core.List.{List}
 use borrow.Author.Needs.{needs}
 use lib.ListN.{length-take, length-drop, length, take, drop, getD}
-use Rattle.state_bytes.specs.Bytes.{fields}
+use Rattle.byte_fields.specs.Bytes.{fields}
 use Rattle.depot.specs.Program.{commandLine, commandLines}
 use Rattle.depot.specs.Wrote.{Wrote}
 use Rattle.depot.proofs.Wrote.{wrote-then}
-use Rattle.state_bytes.proofs.Paste.{fields-more}
+use Rattle.byte_fields.proofs.Paste.{fields-more}
 use Rattle.depot.proofs.Lines.{none-wrote, some-from, first-from}
 use Rattle.depot.proofs.report.put_lines.Statement.{statement}
 use Rattle.depot.proofs.report.put_lines.Tie as tie

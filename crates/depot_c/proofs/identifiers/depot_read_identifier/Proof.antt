@@ -9,10 +9,10 @@ use Rattle.s10.specs.declared.Reading.{Reading}
 use Rattle.s10.specs.declared.Reading.the-variants.{Key, Refused}
 use Rattle.s10.specs.declared.Reason.the-variants.{WrongLength, WrongLetter, WrongDigit, WrongCheckDigit}
 use Rattle.s10.specs.Outcome.{TextOutcome, textOutcome, refusalRead}
-use Rattle.state_bytes.specs.Bytes.{bytesOf}
-use Rattle.state_bytes.proofs.Bytes.{bytes-length}
+use Rattle.byte_fields.specs.Bytes.{bytesOf}
+use Rattle.byte_fields.proofs.Bytes.{bytes-length}
 use Rattle.depot_c.specs.Boundary.{packed, keyRead, bytesRead, readAnswer, readLeft}
-use Rattle.state_bytes.proofs.Paste.{pasted-whole}
+use Rattle.byte_fields.proofs.Paste.{pasted-whole}
 use Rattle.depot_c.proofs.identifiers.depot_read_identifier.Statement.{statement}
 use Rattle.depot_c.proofs.identifiers.depot_read_identifier.Tie as tie
 

@@ -3,8 +3,8 @@ use Prim.Native.Nat.{ℕ, _*_, _-_}
 use native.Mathlib.Omega.{arith}
 use mathlib.Core.Path.{refl}
 use lib.ListN.{length}
-use Rattle.state_bytes.specs.Bytes.{numberAt}
-use Rattle.state_bytes.proofs.Fill.{Filled, filled-none, filled-more}
+use Rattle.byte_fields.specs.Bytes.{numberAt}
+use Rattle.byte_fields.proofs.Fill.{Filled, filled-none, filled-more}
 use Rattle.depot_c.proofs.Entries.{filled-numbers}
 use Rattle.depot_c.proofs.numbers.read_shorts.Statement.{statement}
 use Rattle.depot_c.proofs.numbers.read_shorts.Tie as tie

@@ -2,10 +2,10 @@
 use Prim.Native.Nat.{ℕ, _*_, _-_}
 use native.Mathlib.Omega.{arith}
 use lib.ListN.{length, getD}
-use Rattle.state_bytes.specs.Bytes.{bytesOf}
-use Rattle.state_bytes.proofs.Bytes.{bytes-length}
+use Rattle.byte_fields.specs.Bytes.{bytesOf}
+use Rattle.byte_fields.proofs.Bytes.{bytes-length}
 use Rattle.depot_c.proofs.Entries.{put-numbers}
-use Rattle.state_bytes.proofs.Paste.{PutFields, fields-none, fields-put, fields-put-length}
+use Rattle.byte_fields.proofs.Paste.{PutFields, fields-none, fields-put, fields-put-length}
 use Rattle.depot_c.proofs.numbers.write_shorts.Statement.{statement}
 use Rattle.depot_c.proofs.numbers.write_shorts.Tie as tie
 

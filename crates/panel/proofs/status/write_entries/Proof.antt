@@ -5,7 +5,7 @@ use native.Mathlib.Omega.{arith}
 use mathlib.Core.Path.{_≡_, sym, _∙_}
 use lib.ListN.{length, length-set}
 use Rattle.model.specs.Step.{State}
-use Rattle.state_bytes.proofs.Paste.{fields-none}
+use Rattle.byte_fields.proofs.Paste.{fields-none}
 use Rattle.panel.specs.Reports.{workerStatus}
 use Rattle.panel.proofs.Showing.{BytesPut, bytes-more, bytes-all}
 use Rattle.panel.proofs.status.write_entries.Statement.{statement}

@@ -8,10 +8,10 @@ use mathlib.Core.List.{List}
 use mathlib.Core.Path.{_≡_, refl, sym, _∙_}
 use lib.Dec.{leb, ltb}
 use lib.ListN.{getD}
-use Rattle.state_bytes.specs.Bytes.{allBelow}
+use Rattle.byte_fields.specs.Bytes.{allBelow}
 use Rattle.state_bytes.specs.Layout.{ascends}
 use Rattle.state_bytes.proofs.Below.{all-below-none, all-below-more, one-fails}
-use Rattle.state_bytes.proofs.Bytes.{below-or-past, all-below-each, each-all-below}
+use Rattle.byte_fields.proofs.Bytes.{below-or-past, all-below-each, each-all-below}
 use Rattle.state_bytes.proofs.fits.keys_ascend.Statement.{statement}
 use Rattle.state_bytes.proofs.fits.keys_ascend.Tie as tie
 

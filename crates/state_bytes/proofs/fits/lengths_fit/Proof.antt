@@ -6,9 +6,9 @@ use mathlib.Core.List.{List, [], _∷_, _++_}
 use mathlib.Core.Path.{_≡_, refl, sym, ap, ap₂, _∙_}
 use lib.Dec.{eqb}
 use lib.ListN.{length}
-use Rattle.state_bytes.specs.Bytes.{numberAt}
+use Rattle.byte_fields.specs.Bytes.{numberAt}
 use Rattle.state_bytes.specs.Layout.{lengthsFit, handedBackFit, Lists, stateLength, setupIn, countIn}
-use Rattle.state_bytes.proofs.Bytes.{_▸_}
+use Rattle.byte_fields.proofs.Bytes.{_▸_}
 use Rattle.state_bytes.proofs.Tested.{unequal-fails, equal-passes, all, fails-at, last-decides}
 use Rattle.state_bytes.proofs.fits.lengths_fit.Statement.{statement}
 use Rattle.state_bytes.proofs.fits.lengths_fit.Tie as tie

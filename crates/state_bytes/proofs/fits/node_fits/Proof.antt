@@ -9,10 +9,10 @@ use Prim.Native.Nat.{ℕ, _+_, _*_}
 use lib.Dec.{leb}
 use lib.ListN.{getD}
 use Rattle.node_set.specs.Members.{member, noneAbove}
-use Rattle.state_bytes.specs.Bytes.{numberAt}
+use Rattle.byte_fields.specs.Bytes.{numberAt}
 use Rattle.state_bytes.specs.Layout.{stateLength, setAt, setFits, nodeFitsAt}
 use Rattle.state_bytes.proofs.Below.{none-above-all-below}
-use Rattle.state_bytes.proofs.Bytes.{_▸_}
+use Rattle.byte_fields.proofs.Bytes.{_▸_}
 use Rattle.state_bytes.proofs.Tested.{above-fails, within-passes, all, fails-at, last-decides}
 use Rattle.state_bytes.proofs.fits.node_fits.Statement.{statement}
 use Rattle.state_bytes.proofs.fits.node_fits.Tie as tie

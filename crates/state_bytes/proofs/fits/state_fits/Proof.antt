@@ -8,10 +8,10 @@ use mathlib.Core.List.{List, [], _∷_, _++_}
 use mathlib.Core.Path.{_≡_, refl, sym, _∙_}
 use lib.Dec.{leb}
 use lib.ListN.{length, getD}
-use Rattle.state_bytes.specs.Bytes.{allBelow, numberAt}
+use Rattle.byte_fields.specs.Bytes.{allBelow, numberAt}
 use Rattle.state_bytes.specs.Layout.{Lists, stateLength, countIn, headFits, settingsFit, nodeFitsAt, threadFitsAt, ascends, stateFits}
-use Rattle.state_bytes.proofs.Bytes.{_▸_}
-use Rattle.state_bytes.proofs.Fill.{number-one}
+use Rattle.byte_fields.proofs.Bytes.{_▸_}
+use Rattle.byte_fields.proofs.Fill.{number-one}
 use Rattle.state_bytes.proofs.Tested.{answer-fails, answer-passes, all, fails-at, last-decides}
 use Rattle.state_bytes.proofs.fits.state_fits.Statement.{statement}
 use Rattle.state_bytes.proofs.fits.state_fits.Tie as tie

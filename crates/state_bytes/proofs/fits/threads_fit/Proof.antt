@@ -3,7 +3,7 @@ use Prim.Native.Nat.{_≤_, _-_}
 use native.Mathlib.Omega.{arith}
 use mathlib.Core.Bool.{true}
 use mathlib.Core.Path.{_≡_}
-use Rattle.state_bytes.specs.Bytes.{allBelow}
+use Rattle.byte_fields.specs.Bytes.{allBelow}
 use Rattle.state_bytes.specs.Layout.{threadFitsAt}
 use Rattle.state_bytes.proofs.Below.{all-below-none, all-below-more, one-fails, passed-all-below}
 use Rattle.state_bytes.proofs.Tested.{answer-fails, answer-passes}

@@ -4,7 +4,7 @@ use native.Mathlib.Omega.{arith}
 use mathlib.Core.Path.{refl}
 use lib.ListN.{length, getD}
 use lib.Dec.{eqb}
-use Rattle.state_bytes.proofs.Fill.{Filled, filled-none, filled-more, filled-all}
+use Rattle.byte_fields.proofs.Fill.{Filled, filled-none, filled-more, filled-all}
 use Rattle.state_bytes.proofs.read.read_flags.Statement.{statement}
 use Rattle.state_bytes.proofs.read.read_flags.Tie as tie
 

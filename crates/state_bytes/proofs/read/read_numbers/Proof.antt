@@ -3,8 +3,8 @@ use Prim.Native.Nat.{ℕ, _+_, _*_, _-_}
 use native.Mathlib.Omega.{arith}
 use mathlib.Core.Path.{refl}
 use lib.ListN.{length}
-use Rattle.state_bytes.specs.Bytes.{numberAt}
-use Rattle.state_bytes.proofs.Fill.{Filled, filled-none, filled-more, filled-all}
+use Rattle.byte_fields.specs.Bytes.{numberAt}
+use Rattle.byte_fields.proofs.Fill.{Filled, filled-none, filled-more, filled-all}
 use Rattle.state_bytes.proofs.read.read_numbers.Statement.{statement}
 use Rattle.state_bytes.proofs.read.read_numbers.Tie as tie
 

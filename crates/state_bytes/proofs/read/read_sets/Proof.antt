@@ -2,7 +2,7 @@
 use Prim.Native.Nat.{_-_}
 use native.Mathlib.Omega.{arith}
 use Rattle.state_bytes.specs.Layout.{setAt}
-use Rattle.state_bytes.proofs.Fill.{Filled, filled-none, filled-more, filled-all}
+use Rattle.byte_fields.proofs.Fill.{Filled, filled-none, filled-more, filled-all}
 use Rattle.state_bytes.proofs.read.read_sets.Statement.{statement}
 use Rattle.state_bytes.proofs.read.read_sets.Tie as tie
 

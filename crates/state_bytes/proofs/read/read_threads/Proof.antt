@@ -3,7 +3,7 @@ use Prim.Native.Nat.{_-_}
 use native.Mathlib.Omega.{arith}
 use mathlib.Core.Path.{refl}
 use Rattle.state_bytes.specs.Layout.{threadAt}
-use Rattle.state_bytes.proofs.Fill.{Filled, filled-none, filled-more, filled-all}
+use Rattle.byte_fields.proofs.Fill.{Filled, filled-none, filled-more, filled-all}
 use Rattle.state_bytes.proofs.read.read_threads.Statement.{statement}
 use Rattle.state_bytes.proofs.read.read_threads.Tie as tie
 

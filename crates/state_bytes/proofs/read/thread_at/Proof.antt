@@ -5,7 +5,7 @@ use mathlib.Core.Path.{_≡_, _∙_}
 use mathlib.Core.List.{List}
 use borrow.Author.Needs.{needs}
 use lib.ListN.{getD}
-use Rattle.state_bytes.specs.Bytes.{numberAt}
+use Rattle.byte_fields.specs.Bytes.{numberAt}
 use Rattle.state_bytes.specs.Layout.{stateLength, threadOf, threadAt}
 use Rattle.state_bytes.proofs.read.thread_at.Statement.{statement}
 use Rattle.state_bytes.proofs.read.thread_at.Tie as tie

@@ -6,10 +6,10 @@ use mathlib.Core.List.{List}
 use lib.ListN.{getD}
 use Rattle.node_set.specs.Laws.{NodeSet}
 use Rattle.node_set.proofs.Words.{array-is-a-set}
-use Rattle.state_bytes.specs.Bytes.{bytesOf}
-use Rattle.state_bytes.specs.Pasted.{pasted}
-use Rattle.state_bytes.proofs.Bytes.{bytes-length}
-use Rattle.state_bytes.proofs.Paste.{put-none, put-more, set-bytes}
+use Rattle.byte_fields.specs.Bytes.{bytesOf, pasted}
+use Rattle.byte_fields.proofs.Bytes.{bytes-length}
+use Rattle.byte_fields.proofs.Paste.{put-none, put-more}
+use Rattle.state_bytes.proofs.Shown.{set-bytes}
 use borrow.Author.Needs.{needs}
 use Rattle.state_bytes.proofs.write.put_set.Statement.{statement}
 use Rattle.state_bytes.proofs.write.put_set.Tie as tie

@@ -4,9 +4,8 @@ use lib.ListN.{length-set}
 use Prim.Native.Nat.{ℕ}
 use mathlib.Core.Path.{ap, sym, _∙_}
 use mathlib.Core.List.{List}
-use Rattle.state_bytes.specs.Bytes.{bytesOf}
-use Rattle.state_bytes.specs.Pasted.{pasted}
-use Rattle.state_bytes.proofs.Paste.{stores-before}
+use Rattle.byte_fields.specs.Bytes.{bytesOf, pasted}
+use Rattle.byte_fields.proofs.Paste.{stores-before}
 use borrow.Author.Needs.{needs}
 use Rattle.state_bytes.proofs.write.put_thread.Statement.{statement}
 use Rattle.state_bytes.proofs.write.put_thread.Tie as tie

@@ -4,8 +4,8 @@ use native.Mathlib.Omega.{arith}
 use lib.ListN.{length, getD}
 use mathlib.Core.Path.{ap, sym, _∙_}
 use mathlib.Core.List.{List}
-use Rattle.state_bytes.specs.Pasted.{pasted}
-use Rattle.state_bytes.proofs.Paste.{PutFields, fields-none, fields-put, fields-all, fields-put-length, store-pastes}
+use Rattle.byte_fields.specs.Bytes.{pasted}
+use Rattle.byte_fields.proofs.Paste.{PutFields, fields-none, fields-put, fields-all, fields-put-length, store-pastes}
 use mathlib.Core.Bool.{false}
 use Rattle.state_bytes.specs.Layout.{flagByte}
 use Rattle.state_bytes.proofs.write.write_flags.Statement.{statement}

@@ -2,11 +2,11 @@
 use native.Mathlib.Omega.{arith}
 use mathlib.Core.Path.{refl}
 use mathlib.Core.List.{_++_}
-use Rattle.state_bytes.specs.Bytes.{bytesOf}
+use Rattle.byte_fields.specs.Bytes.{bytesOf}
 use Rattle.state_bytes.specs.Layout.{lockCoupled}
-use Rattle.state_bytes.specs.Pasted.{headOf}
-use Rattle.state_bytes.proofs.Bytes.{bytes-length}
-use Rattle.state_bytes.proofs.Paste.{Put, put-none, put-more, put-length}
+use Rattle.state_bytes.specs.Head.{headOf}
+use Rattle.byte_fields.proofs.Bytes.{bytes-length}
+use Rattle.byte_fields.proofs.Paste.{Put, put-none, put-more, put-length}
 use borrow.Author.Needs.{needs}
 use Rattle.state_bytes.proofs.write.write_head.Statement.{statement}
 use Rattle.state_bytes.proofs.write.write_head.Tie as tie

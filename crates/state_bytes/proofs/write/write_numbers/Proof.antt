@@ -2,9 +2,9 @@
 use Prim.Native.Nat.{ℕ, _+_, _*_, _-_}
 use native.Mathlib.Omega.{arith}
 use lib.ListN.{length, getD}
-use Rattle.state_bytes.specs.Bytes.{bytesOf}
-use Rattle.state_bytes.proofs.Bytes.{bytes-length}
-use Rattle.state_bytes.proofs.Paste.{PutFields, fields-none, fields-put, fields-all, fields-put-length}
+use Rattle.byte_fields.specs.Bytes.{bytesOf}
+use Rattle.byte_fields.proofs.Bytes.{bytes-length}
+use Rattle.byte_fields.proofs.Paste.{PutFields, fields-none, fields-put, fields-all, fields-put-length}
 use Rattle.state_bytes.proofs.write.write_numbers.Statement.{statement}
 use Rattle.state_bytes.proofs.write.write_numbers.Tie as tie
 

@@ -3,7 +3,7 @@ use Prim.Native.Nat.{ℕ, _+_, _*_, _-_}
 use native.Mathlib.Omega.{arith}
 use lib.ListN.{length, getD}
 use Rattle.state_bytes.proofs.StateParts.{set-length}
-use Rattle.state_bytes.proofs.Paste.{PutFields, fields-none, fields-put, fields-all, fields-put-length}
+use Rattle.byte_fields.proofs.Paste.{PutFields, fields-none, fields-put, fields-all, fields-put-length}
 use mathlib.Core.List.{[]}
 use Rattle.node_set.specs.Members.{member}
 use Rattle.state_bytes.specs.Layout.{setBytes}

@@ -4,10 +4,11 @@ use mathlib.Core.Path.{_≡_, refl, sym, _∙_}
 use lib.ListN.{length, getD}
 use mathlib.Core.Bool.{false}
 use Rattle.state_bytes.specs.Layout.{stateLength}
-use Rattle.state_bytes.specs.Pasted.{headOf}
+use Rattle.state_bytes.specs.Head.{headOf}
 use Rattle.state_bytes.proofs.StateParts.{flag-length, set-length, thread-length}
-use Rattle.state_bytes.proofs.Bytes.{bytes-length}
-use Rattle.state_bytes.proofs.Paste.{put-none, put-more, put-fields, put-whole, head-length, shown-bytes}
+use Rattle.byte_fields.proofs.Bytes.{bytes-length}
+use Rattle.byte_fields.proofs.Paste.{put-none, put-more, put-fields, put-whole}
+use Rattle.state_bytes.proofs.Shown.{head-length, shown-bytes}
 use borrow.Author.Needs.{needs}
 use Rattle.state_bytes.proofs.write.write_state.Statement.{statement}
 use Rattle.state_bytes.proofs.write.write_state.Tie as tie

@@ -3,7 +3,7 @@ use Prim.Native.Nat.{ℕ, _+_, _*_, _-_}
 use native.Mathlib.Omega.{arith}
 use lib.ListN.{getD}
 use Rattle.state_bytes.proofs.StateParts.{thread-length}
-use Rattle.state_bytes.proofs.Paste.{PutFields, fields-none, fields-put, fields-all, fields-put-length}
+use Rattle.byte_fields.proofs.Paste.{PutFields, fields-none, fields-put, fields-all, fields-put-length}
 use Rattle.model.specs.declared.Thread.the-variants.{Idle}
 use Rattle.state_bytes.specs.Layout.{threadBytes}
 use Rattle.state_bytes.proofs.write.write_threads.Statement.{statement}

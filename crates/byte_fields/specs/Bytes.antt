@@ -3,6 +3,7 @@ use Prim.Native.Nat.{ℕ, zero, suc, _+_, _*_, _/_, _%_, _^_}
 use mathlib.Core.Bool.{Bool, true, _&&_}
 use mathlib.Core.List.{List, [], _∷_, _++_}
 use lib.ListN.{take, drop}
+use lib.Seq.{sets}
 
 -- the last k bytes of a number
 unfoldable pub bytesOf : ℕ → ℕ → List ℕ
@@ -32,3 +33,7 @@ fields (suc n) f = f 0 ++ fields n (λ i. f (suc i))
 unfoldable pub allBelow : ℕ → (ℕ → Bool) → Bool
 allBelow zero test = true
 allBelow (suc k) test = test k && allBelow k test
+
+-- b with a part stored from an offset on, element by element: `take at b ++ part ++ drop (at + length part) b` where the part fits
+unfoldable pub pasted : ℕ → List ℕ → List ℕ → List ℕ
+pasted at part b = sets b at part

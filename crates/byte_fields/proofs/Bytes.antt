@@ -11,7 +11,7 @@ use lib.Arith.{mod-mul, digits-lt, digits-div}
 use lib.Dec.{ltb}
 use borrow.Author.Tests.{ltb-true, ltb-false}
 use borrow.Author.Count.{below-more}
-use Rattle.state_bytes.specs.Bytes.{bytesOf, numberAfter, numberAt, tabulate, fields, allBelow}
+use Rattle.byte_fields.specs.Bytes.{bytesOf, numberAfter, numberAt, tabulate, fields, allBelow}
 
 -- a number is below another, or is not
 pub below-or-past {ℓ} : {P : Type ℓ} (n k : ℕ) → (n < k → P) → (k ≤ n → P) → P

@@ -1,10 +1,10 @@
--- `state_bytes::read::number_at` meets its contract. Two bytes are the high one times 256 and the low one. Assumes nothing.
+-- `byte_fields::number_at` meets its contract. Two bytes are the high one times 256 and the low one. Assumes nothing.
 use Prim.Native.Nat.{_+_, _<_}
 use native.Mathlib.Omega.{arith}
 use lib.ListN.{getD}
-use Rattle.state_bytes.proofs.Fill.{number-two}
-use Rattle.state_bytes.proofs.read.number_at.Statement.{statement}
-use Rattle.state_bytes.proofs.read.number_at.Tie as tie
+use Rattle.byte_fields.proofs.Fill.{number-two}
+use Rattle.byte_fields.proofs.number_at.Statement.{statement}
+use Rattle.byte_fields.proofs.number_at.Tie as tie
 
 shared-slice-read-high : tie.Need-shared-slice-read-high
 shared-slice-read-high c = omega arith
@@ -18,7 +18,7 @@ shared-slice-read-low c = omega arith
 -- both are bytes
 bytes : (c : tie.After-shared-slice-known2) →
     let args = c .before .before .args in
-    (getD (args .state .now) (args .at) 0 < 256) × (getD (args .state .now) (args .at + 1) 0 < 256)
+    (getD (args .list .now) (args .at) 0 < 256) × (getD (args .list .now) (args .at + 1) 0 < 256)
 bytes c =
     let at = c .before .before .args .at in
     (omega (arith, c .shared-slice-known2 .given at), omega (arith, c .shared-slice-known2 .given (at + 1)))
@@ -38,7 +38,7 @@ add-result c = omega (arith, bytes c)
 returns : tie.Need-returns
 returns c =
     let args = c .before .before .args in
-    omega (arith, number-two (args .at) (args .state .now) (c .before .before .pre))
+    omega (arith, number-two (args .at) (args .list .now) (c .before .before .pre))
 
 pub number-at-spec : {M : Type 1} → statement M
 number-at-spec =

@@ -1,21 +1,21 @@
--- `state_bytes::read::word_at` meets its contract. The loop's invariant: n is the number of the first i bytes, and below 256 ^ i. Assumes nothing.
+-- `byte_fields::word_at` meets its contract. The loop's invariant: n is the number of the first i bytes, and below 256 ^ i. Assumes nothing.
 use Prim.Native.Nat.{_+_, _-_, _^_, _≤_, _<_}
 use native.Mathlib.Omega.{arith}
 use mathlib.Core.Path.{_≡_, sym}
 use lib.ListN.{getD}
-use Rattle.state_bytes.specs.Bytes.{numberAt}
-use Rattle.state_bytes.proofs.Fill.{number-none, number-more, byte-more, byte-fits}
-use Rattle.state_bytes.proofs.read.word_at.Statement.{statement}
-use Rattle.state_bytes.proofs.read.word_at.Tie as tie
+use Rattle.byte_fields.specs.Bytes.{numberAt}
+use Rattle.byte_fields.proofs.Fill.{number-none, number-more, byte-more, byte-fits}
+use Rattle.byte_fields.proofs.word_at.Statement.{statement}
+use Rattle.byte_fields.proofs.word_at.Tie as tie
 
 abbrev Inv-loop : tie.InvT-loop
-Inv-loop state at n₀ i₀ n i = (i ≤ 8) × (n ≡ numberAt i at state) × (n < 256 ^ i)
+Inv-loop list at n₀ i₀ n i = (i ≤ 8) × (n ≡ numberAt i at list) × (n < 256 ^ i)
 
 abbrev μ-loop : tie.MeasureT-loop
-μ-loop state at n₀ i₀ n i = 8 - i
+μ-loop list at n₀ i₀ n i = 8 - i
 
 loop-holds : tie.Need-loop-holds Inv-loop μ-loop
-loop-holds c = (omega arith, sym (number-none (c .args .at) (c .args .state .now)), omega arith)
+loop-holds c = (omega arith, sym (number-none (c .args .at) (c .args .list .now)), omega arith)
 
 mul-n : tie.Need-mul-n Inv-loop μ-loop
 mul-n c =
@@ -31,7 +31,7 @@ shared-slice-read-n c = omega arith
 -- the byte that is read is a byte
 byte : (c : tie.After-shared-slice-known Inv-loop μ-loop) →
     let l = c .before .before in
-    getD (l .before .args .state .now) (l .before .args .at + l .loop .i) 0 < 256
+    getD (l .before .args .list .now) (l .before .args .at + l .loop .i) 0 < 256
 byte c = omega (arith, c .shared-slice-known .given (c .before .before .before .args .at + c .before .before .loop .i))
 
 cast-n : tie.Need-cast-n Inv-loop μ-loop
@@ -52,7 +52,7 @@ loop-again : tie.Need-loop-again Inv-loop μ-loop
 loop-again c =
     let s = c .before .before .loop in
     let args = c .before .before .before .args in
-    let more = number-more (s .i) (args .at) (args .state .now) (omega arith) in
+    let more = number-more (s .i) (args .at) (args .list .now) (omega arith) in
     (omega arith, rw (more, ← s .inv .1), byte-more (s .i) (s .n) _ (s .inv .2) (byte c))
 
 returns : tie.Need-returns Inv-loop μ-loop

@@ -7,7 +7,7 @@ use mathlib.Core.Path.{_≡_, refl, sym, ap, _∙_}
 use mathlib.Core.List.{List, [], _∷_, _++_}
 use lib.ListN.{length, getD, take, drop, set, length-drop, length-set}
 use lib.Seq.{take-all, take-suc, take-suc-set, getD-drop}
-use Rattle.state_bytes.specs.Bytes.{numberAfter, numberAt, tabulate}
+use Rattle.byte_fields.specs.Bytes.{numberAfter, numberAt, tabulate}
 
 -- ---- filling a list
 
