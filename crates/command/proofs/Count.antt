@@ -10,7 +10,7 @@ use borrow.Author.Tests.{leb-true}
 use lib.Dec.{leb}
 use lib.ListN.{getElem?}
 use Rattle.command.specs.declared.Kind.{Kind}
-use Rattle.command.specs.declared.Kind.the-variants.{Insert, Delete, Read, Update, Workers}
+use Rattle.command.specs.declared.Kind.the-variants.{Insert, Delete, Read, Update, Workers, Checkpoint}
 use Rattle.command.specs.declared.Command.{Command}
 use Rattle.command.specs.Read.{chuteFits}
 use Rattle.command.specs.Dependent.{hasItem}
@@ -27,6 +27,7 @@ item-keeps-count c n = by (c .kind)
     by Read h = refl
     by Update h = refl
     by Workers h = absurd (false≢true h)
+    by Checkpoint h = absurd (false≢true h)
 
 -- a command keeps the count, whatever it is, or sets it to one from 1 to 64 that its chute fits
 pub count-either : (c : Command) → ((n : ℕ) → countAfter c n ≡ n) ⊎ (((n : ℕ) → countAfter c n ≡ c .chute) × (chuteFits (c .kind) (c .chute) ≡ true → (1 ≤ c .chute) × (c .chute ≤ 64)))
@@ -39,6 +40,7 @@ count-either c = by (c .kind)
     by Read = inl (λ n. refl)
     by Update = inl (λ n. refl)
     by Workers = inr (λ n. refl, λ h. let k = and-eq-true-iff (leb 1 (c .chute)) (leb (c .chute) 64) .0 h in (leb-true 1 (c .chute) (k .0), leb-true (c .chute) 64 (k .1)))
+    by Checkpoint = inl (λ n. refl)
 
 -- so a count from 1 to 64 stays one
 pub count-fits : (c : Command) (n : ℕ) → chuteFits (c .kind) (c .chute) ≡ true → (1 ≤ n) × (n ≤ 64) → (1 ≤ countAfter c n) × (countAfter c n ≤ 64)

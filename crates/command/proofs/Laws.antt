@@ -1,6 +1,6 @@
 -- The laws of `specs/Laws.antt`. Assumes nothing.
 use Prim.Native.Nat.{ℕ, zero, suc, _+_, _/_, _≤_, _<_}
-use mathlib.Core.Path.{_≡_, refl, sym, ap, subst}
+use mathlib.Core.Path.{_≡_, refl, sym, ap, subst, _∙_}
 use mathlib.Core.Bool.{Bool, true, false, cond, not, _&&_, _||_, or-true, and-false, and-comm, and-eq-true-iff, false≢true}
 use mathlib.Core.List.{List, [], _∷_, map}
 use mathlib.Core.Option.{Option, none, some}
@@ -15,10 +15,10 @@ use Rattle.s10.specs.Outcome.{readText}
 use Rattle.s10.specs.Outcome as Identifier
 use Rattle.s10.proofs.Laws.{accepted-is-at-most-largest}
 use Rattle.command.specs.declared.Kind.{Kind}
-use Rattle.command.specs.declared.Kind.the-variants.{Insert, Delete, Read, Update, Workers}
+use Rattle.command.specs.declared.Kind.the-variants.{Insert, Delete, Read, Update, Workers, Checkpoint}
 use Rattle.command.specs.declared.Command.{Command}
 use Rattle.command.specs.Read.{CommandOutcome, accepted, refused, kindOf, chuteFits, chuteRefusal, chuteOf, firstNotZero, readZeros, readIdentifier, withKind, withChute, readCommand, parts, partsOf, readings, allAccepted, listRefused, firstRefusal, commandFrom, commandsIn}
-use Rattle.command.specs.Dependent.{hasItem, isInsertOrDelete, isRead, areDependent}
+use Rattle.command.specs.Dependent.{hasItem, isInsertOrDelete, isRead, isCheckpoint, areDependent}
 use Rattle.command.specs.Laws.{DependenceIsSymmetric, DependentPairs, KindOfItsNumber, AcceptedChuteFits, AcceptedChuteIsAtMostLast, AcceptedKeyIsAtMostLargest, CharacterIsTheIdentifiers, AllAccepted, NoRefusalIsAllAccepted, RefusedBeginsInside}
 
 -- equality goes both ways
@@ -43,6 +43,7 @@ no-read Delete w = refl
 no-read Read w = absurd (false≢true w)
 no-read Update w = refl
 no-read Workers w = refl
+no-read Checkpoint w = refl
 
 -- a read is for an item
 pub read-has-item : (kind : Kind) → isRead kind ≡ true → hasItem kind ≡ true
@@ -52,6 +53,7 @@ read-has-item Delete r = refl
 read-has-item Read r = refl
 read-has-item Update r = refl
 read-has-item Workers r = absurd (false≢true r)
+read-has-item Checkpoint r = absurd (false≢true r)
 
 -- what is for an item is independent of a read or an update of another key
 other-key : (a b : Command) → hasItem (a .kind) ≡ true → (a .key ≡ b .key → ⊥) → hasItem (b .kind) ≡ true → isInsertOrDelete (b .kind) ≡ false → areDependent a b ≡ false
@@ -74,7 +76,24 @@ dependent-pairs = record {
   updates = λ a b u v k. one-key a b k (ap isRead u);
   reads = λ a b r s. simp (r, s, and-false);
   workers = λ a b w. simp w;
+  checkpoints = λ a b w. simp w;
 }
+
+-- a checkpoint's kind is one
+pub checkpoint-is : (kind : Kind) → isCheckpoint kind ≡ true → kind ≡ Checkpoint
+unfolding isCheckpoint
+checkpoint-is Insert h = absurd (false≢true h)
+checkpoint-is Delete h = absurd (false≢true h)
+checkpoint-is Read h = absurd (false≢true h)
+checkpoint-is Update h = absurd (false≢true h)
+checkpoint-is Workers h = absurd (false≢true h)
+checkpoint-is Checkpoint h = refl
+
+-- and it depends on every command, as every command does on it
+pub checkpoint-depends : (a b : Command) → isCheckpoint (a .kind) ≡ true → (areDependent a b ≡ true) × (areDependent b a ≡ true)
+checkpoint-depends a b h =
+    let one = dependent-pairs .checkpoints a b (checkpoint-is (a .kind) h) in
+    (one, dependence-is-symmetric b a ∙ one)
 
 -- the tests of a number find each kind at its own
 pub kind-of-its-number : KindOfItsNumber
@@ -84,6 +103,7 @@ kind-of-its-number Delete = refl
 kind-of-its-number Read = refl
 kind-of-its-number Update = refl
 kind-of-its-number Workers = refl
+kind-of-its-number Checkpoint = refl
 
 -- what an accepted command has passed
 record Accepted (part : List ℕ) (command : Command) : Type 0 where
@@ -129,6 +149,7 @@ chute-that-fits Delete chute e = omega (arith, eqb-true chute 0 e)
 chute-that-fits Read chute e = omega (arith, eqb-true chute 0 e)
 chute-that-fits Update chute e = leb-true chute 512 (and-eq-true-iff (leb 1 chute) (leb chute 512) .0 e .1)
 chute-that-fits Workers chute e = omega (arith, leb-true chute 64 (and-eq-true-iff (leb 1 chute) (leb chute 64) .0 e .1))
+chute-that-fits Checkpoint chute e = omega (arith, eqb-true chute 0 e)
 
 -- a chute that fits is none or one of the 512
 pub accepted-chute-is-at-most-last : AcceptedChuteIsAtMostLast
@@ -185,6 +206,7 @@ character-is-the-identifiers part r e named = cases (kindOf (getD part 0 0)) ref
     chute-not Read e = plain-not 10 e
     chute-not Update e = plain-not 10 e
     chute-not Workers e = plain-not 14 e
+    chute-not Checkpoint e = plain-not 10 e
 
     chosen : (b : Bool) (command : Command) (kind : Kind) → cond b (accepted command) (refused (chuteRefusal kind)) ≡ refused r → ⊥
     chosen true command kind e = let z : _≡_ {A = ℕ} 0 1 = cc in omega arith

@@ -1,5 +1,6 @@
 pub mod Places
 pub mod Parts
+pub mod Rest
 pub mod Zeros
 pub mod Laws
 pub mod Count

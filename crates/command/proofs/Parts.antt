@@ -32,7 +32,7 @@ part-min at n l =
     rw (count, take-min)
 
 -- a list that is not empty begins with a part
-readings-cons : (bytes : List ℕ) → 0 < length bytes → readings bytes ≡ readCommand (take 16 bytes) ∷ readings (drop 16 bytes)
+pub readings-cons : (bytes : List ℕ) → 0 < length bytes → readings bytes ≡ readCommand (take 16 bytes) ∷ readings (drop 16 bytes)
 unfolding readings partsOf parts
 readings-cons bytes h =
     let more : (length bytes + 15) / 16 ≡ suc ((length (drop 16 bytes) + 15) / 16) = rw length-drop (omega arith) in

@@ -7,7 +7,7 @@ use mathlib.Core.Option.{some}
 use denote.Enum.Declared.{tagOf}
 use types.Run.{OneOf}
 use Rattle.command.specs.declared.Kind.{Kind}
-use Rattle.command.specs.declared.Kind.the-variants.{Insert, Delete, Read, Update, Workers}
+use Rattle.command.specs.declared.Kind.the-variants.{Insert, Delete, Read, Update, Workers, Checkpoint}
 use Rattle.command.specs.Read.{kindOf}
 use Rattle.command.proofs.Kind.{the-type}
 
@@ -23,6 +23,7 @@ kind-at Delete = refl
 kind-at Read = refl
 kind-at Update = refl
 kind-at Workers = refl
+kind-at Checkpoint = refl
 
 -- so kinds of one place are one kind
 same-place : (j k : Kind) → placeOf k ≡ placeOf j → j ≡ k

@@ -2,7 +2,7 @@
 use Prim.Native.Nat.{ℕ, max}
 use mathlib.Core.List.{List, [], _∷_}
 use Rattle.command.specs.declared.Kind.{Kind}
-use Rattle.command.specs.declared.Kind.the-variants.{Insert, Delete, Read, Update, Workers}
+use Rattle.command.specs.declared.Kind.the-variants.{Insert, Delete, Read, Update, Workers, Checkpoint}
 use Rattle.command.specs.declared.Command.{Command}
 
 -- "Kind 5 sets the worker count: [..] its chute field the new count": the count after a command of the kind with this chute field
@@ -12,6 +12,7 @@ countWith Delete chute count = count
 countWith Read chute count = count
 countWith Update chute count = count
 countWith Workers chute count = chute
+countWith Checkpoint chute count = count
 
 unfoldable pub countAfter : Command → ℕ → ℕ
 unfolding countWith

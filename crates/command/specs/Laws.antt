@@ -10,7 +10,7 @@ use Rattle.s10.specs.Refusal.{Refusal}
 use Rattle.s10.specs.Text.{largestKey}
 use Rattle.s10.specs.Outcome as Identifier
 use Rattle.command.specs.declared.Kind.{Kind}
-use Rattle.command.specs.declared.Kind.the-variants.{Read, Update, Workers}
+use Rattle.command.specs.declared.Kind.the-variants.{Read, Update, Workers, Checkpoint}
 use Rattle.command.specs.declared.Command.{Command}
 use Rattle.command.specs.Read.{CommandOutcome, accepted, refused, kindOf, kindNumber, chuteFits, readIdentifier, readCommand, readings, allAccepted, listRefused, firstRefusal}
 use Rattle.command.specs.Dependent.{hasItem, isInsertOrDelete, areDependent}
@@ -33,6 +33,8 @@ pub record DependentPairs : Type 0 where
   pub reads : (a b : Command) → a .kind ≡ Read → b .kind ≡ Read → areDependent a b ≡ false
   -- kind 5 "is dependent on every command" (02, A.2)
   pub workers : (a b : Command) → a .kind ≡ Workers → areDependent a b ≡ true
+  -- kind 6 "is dependent on every command" (02, A.3)
+  pub checkpoints : (a b : Command) → a .kind ≡ Checkpoint → areDependent a b ≡ true
 
 -- A kind is that of its number.
 abbrev pub KindOfItsNumber : Type 0

@@ -1,4 +1,4 @@
--- Commands as bytes: document 01, "Command list and store", and document 02, A.2. Each definition quotes its sentence. Assumes nothing.
+-- Commands as bytes: document 01, "Command list and store", and document 02, A.2 and A.3. Each definition quotes its sentence. Assumes nothing.
 use Prim.Native.Nat.{ℕ, zero, suc, _+_, _*_, _/_}
 use mathlib.Core.Bool.{Bool, cond, _&&_}
 use mathlib.Core.List.{List, [], _∷_, map}
@@ -9,7 +9,7 @@ use Rattle.s10.specs.Refusal.{Refusal, plain, atCharacter, atPlace}
 use Rattle.s10.specs.Outcome.{readText}
 use Rattle.s10.specs.Outcome as Identifier
 use Rattle.command.specs.declared.Kind.{Kind}
-use Rattle.command.specs.declared.Kind.the-variants.{Insert, Delete, Read, Update, Workers}
+use Rattle.command.specs.declared.Kind.the-variants.{Insert, Delete, Read, Update, Workers, Checkpoint}
 use Rattle.command.specs.declared.AnyKind.{AnyKind}
 use Rattle.command.specs.declared.AnyKind.the-variants.{Known, Unknown}
 use Rattle.command.specs.declared.Command.{Command}
@@ -46,10 +46,10 @@ abbrev pub identifierOutcome : Named → Identifier.TextOutcome
 identifierOutcome (Key key) = Identifier.accepted key
 identifierOutcome (NotNamed reason) = Identifier.refused (refusalFor reason)
 
--- "kind (1 insert, 2 delete, 3 read, 4 update)", and "Kind 5 sets the worker count" (02, A.2); any other number is no kind's
+-- "kind (1 insert, 2 delete, 3 read, 4 update)", "Kind 5 sets the worker count" (02, A.2), kind 6 "puts the store into a lent image" (02, A.3); any other number is no kind's
 unfoldable pub kindOf : ℕ → Option Kind
 kindOf n =
-    cond (eqb n 1) (some Insert) (cond (eqb n 2) (some Delete) (cond (eqb n 3) (some Read) (cond (eqb n 4) (some Update) (cond (eqb n 5) (some Workers) none))))
+    cond (eqb n 1) (some Insert) (cond (eqb n 2) (some Delete) (cond (eqb n 3) (some Read) (cond (eqb n 4) (some Update) (cond (eqb n 5) (some Workers) (cond (eqb n 6) (some Checkpoint) none)))))
 
 abbrev pub kindNumber : Kind → ℕ
 kindNumber Insert = 1
@@ -57,34 +57,39 @@ kindNumber Delete = 2
 kindNumber Read = 3
 kindNumber Update = 4
 kindNumber Workers = 5
+kindNumber Checkpoint = 6
 
 -- the kind that each answer of `Kind::of` stands for
 abbrev pub knownKind : AnyKind → Option Kind
 knownKind (Known kind) = some kind
 knownKind Unknown = none
 
--- "Insert and update carry chute 1 to 512; delete and read carry 0"; kind 5's "chute field [is] the new count", 1 to 64
+-- "Insert and update carry chute 1 to 512; delete and read carry 0"; kind 5's "chute field [is] the new count", 1 to 64; kind 6 has
+-- "chute 0"
 unfoldable pub chuteFits : Kind → ℕ → Bool
 chuteFits Insert chute = leb 1 chute && leb chute 512
 chuteFits Delete chute = eqb chute 0
 chuteFits Read chute = eqb chute 0
 chuteFits Update chute = leb 1 chute && leb chute 512
 chuteFits Workers count = leb 1 count && leb count 64
+chuteFits Checkpoint chute = eqb chute 0
 
--- refusal 10, "chute wrong for the kind"; "14 [..] when a kind 5 count is not 1 to 64, tested where 10 is for other kinds"
+-- refusal 10, "chute wrong for the kind"; "14 [..] when a kind 5 count is not 1 to 64, tested where 10 is for other kinds";
+-- kind 6's chute is tested "under 10"
 abbrev pub chuteRefusal : Kind → Refusal
 chuteRefusal Insert = plain 10
 chuteRefusal Delete = plain 10
 chuteRefusal Read = plain 10
 chuteRefusal Update = plain 10
 chuteRefusal Workers = plain 14
+chuteRefusal Checkpoint = plain 10
 
 -- "chute (two bytes, high first)"
 unfoldable pub chuteOf : List ℕ → ℕ
 chuteOf bytes = 256 * getD bytes 0 0 + getD bytes 1 0
 
--- Kind 5's identifier "is tested under 8 alone; its first faulty character is the first that is not 0": its position, from position i on, or
--- the position after the last
+-- Kind 5's identifier "is tested under 8 alone; its first faulty character is the first that is not 0", and kind 6's is "tested under 8 alone, as
+-- kind 5's is": its position, from position i on, or the position after the last
 unfoldable pub firstNotZero : ℕ → List ℕ → ℕ
 firstNotZero i [] = i
 firstNotZero i (c ∷ text) = cond (eqb c 48) (firstNotZero (i + 1) text) i
@@ -108,7 +113,7 @@ withChute kind (Identifier.accepted key) bytes =
     cond (eqb (length bytes) 2 && chuteFits kind (chuteOf bytes)) (accepted (record { kind = kind; key = key; chute = chuteOf bytes })) (refused (chuteRefusal kind))
 withChute kind (Identifier.refused r) bytes = refused r
 
--- what follows the kind: refusal 7, "kind not 1 to 4", which "now admits kind 5", or what follows the identifier's outcome
+-- what follows the kind: refusal 7, "kind not 1 to 4", which "now admits" kinds 5 and 6, or what follows the identifier's outcome
 unfoldable pub withKind : Option Kind → List ℕ → List ℕ → CommandOutcome
 unfolding readIdentifier withChute
 withKind none text bytes = refused (plain 7)

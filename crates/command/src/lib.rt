@@ -6,7 +6,7 @@ ghost use lib.Dec.{leb};
 ghost use Rattle.s10.specs.Outcome.{accepted};
 ghost use Rattle.command.specs.declared.ListReading.the-variants.{AllRead};
 ghost use Rattle.command.specs.Read.{refusalFor, commandOutcome, knownKind, kindOf, chuteFits, chuteRefusal, firstNotZero, readZeros, readIdentifier, identifierOutcome, withChute, readCommand, commandsIn, listOutcome, firstRefusal, readings, kindNumber};
-ghost use Rattle.command.specs.Dependent.{hasItem, isInsertOrDelete, isRead, areDependent};
+ghost use Rattle.command.specs.Dependent.{hasItem, isInsertOrDelete, isRead, isCheckpoint, areDependent};
 ghost use Rattle.command.specs.Count.{countAfter, largestCount};
 use s10::Character;
 use s10::Identifier;
@@ -21,6 +21,8 @@ pub enum Kind {
     Update,
     // Sets the worker count; its identifier is thirteen characters 0 and its chute field the count.
     Workers,
+    // Puts the store into the image; its identifier is thirteen characters 0 and its chute field 0.
+    Checkpoint,
 }
 
 // What the number of a kind stands for.
@@ -150,7 +152,7 @@ impl Command {
         let kind = self.kind;
         match kind {
             Kind::Workers => self.chute as usize,
-            Kind::Insert | Kind::Delete | Kind::Read | Kind::Update => count,
+            Kind::Insert | Kind::Delete | Kind::Read | Kind::Update | Kind::Checkpoint => count,
         }
     }
 }
@@ -166,6 +168,7 @@ impl Kind {
             3 => AnyKind::Known(Kind::Read),
             4 => AnyKind::Known(Kind::Update),
             5 => AnyKind::Known(Kind::Workers),
+            6 => AnyKind::Known(Kind::Checkpoint),
             _ => AnyKind::Unknown,
         }
     }
@@ -180,6 +183,7 @@ impl Kind {
             Kind::Read => 3,
             Kind::Update => 4,
             Kind::Workers => 5,
+            Kind::Checkpoint => 6,
         }
     }
 
@@ -188,7 +192,7 @@ impl Kind {
     {
         match self {
             Kind::Read => true,
-            Kind::Insert | Kind::Delete | Kind::Update | Kind::Workers => false,
+            Kind::Insert | Kind::Delete | Kind::Update | Kind::Workers | Kind::Checkpoint => false,
         }
     }
 
@@ -197,7 +201,16 @@ impl Kind {
     {
         match self {
             Kind::Insert | Kind::Delete => true,
-            Kind::Read | Kind::Update | Kind::Workers => false,
+            Kind::Read | Kind::Update | Kind::Workers | Kind::Checkpoint => false,
+        }
+    }
+
+    pub fn is_checkpoint(self) -> bool
+        ensures { λ r. ⌜ r ≡ isCheckpoint self ⌝ }
+    {
+        match self {
+            Kind::Checkpoint => true,
+            Kind::Insert | Kind::Delete | Kind::Read | Kind::Update | Kind::Workers => false,
         }
     }
 
@@ -207,7 +220,7 @@ impl Kind {
     {
         match self {
             Kind::Insert | Kind::Delete | Kind::Read | Kind::Update => true,
-            Kind::Workers => false,
+            Kind::Workers | Kind::Checkpoint => false,
         }
     }
 
@@ -231,7 +244,8 @@ impl Kind {
     {
         match self {
             Kind::Workers => Reason::WrongCount,
-            Kind::Insert | Kind::Delete | Kind::Read | Kind::Update => Reason::WrongChute,
+            Kind::Insert | Kind::Delete | Kind::Read | Kind::Update | Kind::Checkpoint =>
+                Reason::WrongChute,
         }
     }
 
@@ -241,7 +255,7 @@ impl Kind {
     {
         match self {
             Kind::Insert | Kind::Update => is_within(chute, Command::LARGEST_CHUTE),
-            Kind::Delete | Kind::Read => chute == 0,
+            Kind::Delete | Kind::Read | Kind::Checkpoint => chute == 0,
             Kind::Workers => is_within(chute, Command::MOST_WORKERS),
         }
     }

@@ -47,7 +47,7 @@ abbrev pub withLimit : ℕ → State → State
 withLimit n s = record {
   graph = s .graph;
   threads = s .threads;
-  service = record { store = s .service .store; answers = s .service .answers; limit = n };
+  service = record { store = s .service .store; answers = s .service .answers; limit = n; image = s .service .image };
 }
 
 -- in a state, the commands of `written` being answered

@@ -1,7 +1,9 @@
 pub mod Upd
-pub mod Setup
 pub mod Serial
+pub mod Setup
 pub mod Store
+pub mod Image
+pub mod ImageLaws
 pub mod Graph
 pub mod Service
 pub mod Step
@@ -9,4 +11,5 @@ pub mod Statement
 pub mod OneTurn
 pub mod WaitsFor
 pub mod Count
+pub mod Checkpoint
 pub mod Proof

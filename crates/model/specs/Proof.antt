@@ -1,12 +1,16 @@
 pub mod Tests
 pub mod Upd
 pub mod Trace
+pub mod Places
 pub mod Commute
 pub mod Serial
 pub mod Store
 pub mod Write
 pub mod InOrder
 pub mod Service
+pub mod Last
+pub mod Image
+pub mod Imaged
 pub mod Consistent
 pub mod Chain
 pub mod Formed
@@ -16,3 +20,10 @@ pub mod Finish
 pub mod Theorem
 pub mod Bounds
 pub mod Count
+pub mod Entries
+pub mod Few
+pub mod Slots
+pub mod ImageChain
+pub mod ImageLaws
+pub mod Resume
+pub mod Checkpoint

@@ -1,18 +1,37 @@
 -- The serial run of document 01, "The serial run and demand 3": what every answer and the last table are measured by. It is fed the
--- capacity ("room") and the commands, and nothing of a schedule or a state. Assumes nothing.
-use Prim.Native.Nat.{ℕ}
+-- capacity ("room"), the entries that it starts from and the commands, and nothing of a schedule or a state. Assumes nothing.
+use Prim.Native.Nat.{ℕ, _≤_, _<_}
 use mathlib.Core.Bool.{Bool, false, cond, _||_}
 use mathlib.Core.List.{List, [], _∷_}
 use lib.ListN.{length}
 use lib.Dec.{eqb, leb, ltb}
+use Rattle.s10.specs.Text.{largestKey}
 use Rattle.command.specs.declared.Kind.{Kind}
-use Rattle.command.specs.declared.Kind.the-variants.{Insert, Delete, Read, Update, Workers}
+use Rattle.command.specs.declared.Kind.the-variants.{Insert, Delete, Read, Update, Workers, Checkpoint}
 use Rattle.command.specs.declared.Command.{Command}
 
--- "Its state is a list of entries, key and chute, keys ascending, empty at first."
+-- "Its state is a list of entries, key and chute, keys ascending, empty at first"; and of a run opened from an image, "the serial run
+-- starts, from that store" (02, A.3)
 pub record Entry : Type 0 where
   pub key : ℕ
   pub chute : ℕ
+
+-- every entry has the property
+abbrev pub All : (Entry → Type 0) → List Entry → Type 0
+All P [] = Unit {0}
+All P (e ∷ es) = P e × All P es
+
+-- "keys ascending": each key is smaller than every later one
+abbrev pub Ascending : List Entry → Type 0
+Ascending [] = Unit {0}
+Ascending (e ∷ es) = All (λ (x : Entry). e .key < x .key) es × Ascending es
+
+-- entries that a store of the capacity can hold
+pub record Stored (capacity : ℕ) (es : List Entry) : Type 0 where
+  pub ascending : Ascending es
+  pub fits : length es ≤ capacity
+  pub keys : All (λ (e : Entry). e .key ≤ largestKey) es
+  pub chutes : All (λ (e : Entry). (1 ≤ e .chute) × (e .chute ≤ 512)) es
 
 unfoldable pub present : ℕ → List Entry → Bool
 present key [] = false
@@ -61,6 +80,8 @@ serveKind Read capacity key chute es = cond (present key es) (served (chuteAt ke
 serveKind Update capacity key chute es = cond (present key es) (served 1000 (setChute key chute es)) (served 1002 es)
 -- "the serial run, where kind 5 answers 1000" (02, A.2)
 serveKind Workers capacity key chute es = served 1000 es
+-- kind 6 "answers 1000" (02, A.3)
+serveKind Checkpoint capacity key chute es = served 1000 es
 
 unfoldable pub serve : ℕ → Command → List Entry → Served
 unfolding serveKind
@@ -79,10 +100,10 @@ answersAfter capacity [] es = []
 answersAfter capacity (c ∷ cs) es = serve capacity c es .answer ∷ answersAfter capacity cs (serve capacity c es .entries)
 
 -- the serial run's answers, and its entries "after the last command"
-unfoldable pub serialAnswers : ℕ → List Command → List ℕ
+unfoldable pub serialAnswers : ℕ → List Entry → List Command → List ℕ
 unfolding answersAfter
-serialAnswers capacity cs = answersAfter capacity cs []
+serialAnswers capacity first cs = answersAfter capacity cs first
 
-unfoldable pub serialEntries : ℕ → List Command → List Entry
+unfoldable pub serialEntries : ℕ → List Entry → List Command → List Entry
 unfolding entriesAfter
-serialEntries capacity cs = entriesAfter capacity cs []
+serialEntries capacity first cs = entriesAfter capacity cs first

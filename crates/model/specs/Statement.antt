@@ -12,7 +12,8 @@ use Rattle.command.specs.Read.{chuteFits}
 use Rattle.command.specs.Count.{largestCount}
 use Rattle.model.specs.declared.Thread.{Thread}
 use Rattle.model.specs.declared.Thread.the-variants.{Idle, Loading, Searching, Holding, LookedUp, Written, Walking, Clearing}
-use Rattle.model.specs.Serial.{serialAnswers, serialEntries}
+use Rattle.s10.specs.Text.{largestKey}
+use Rattle.model.specs.Serial.{Stored, serialAnswers, serialEntries}
 use Rattle.model.specs.Store.{layOut}
 use Rattle.model.specs.Setup.{Setup, commandAt}
 use Rattle.model.specs.Service.{inOneStep}
@@ -25,7 +26,9 @@ pub record Accepted (o : Setup) : Type 0 where
   pub largest : o .largest ≡ largestCount (o .workers) (o .commands)
   pub capacity : (1 ≤ o .capacity) × (o .capacity ≤ 4096)
   pub count : length (o .commands) ≤ 4096
+  pub entries : Stored (o .capacity) (o .entries)
   pub chutes : (c : ℕ) (cmd : Command) → commandAt (o .commands) c ≡ some cmd → chuteFits (cmd .kind) (cmd .chute) ≡ true
+  pub keys : (c : ℕ) (cmd : Command) → commandAt (o .commands) c ≡ some cmd → cmd .key ≤ largestKey
 
 -- every step of a schedule names a thread up to a worker count
 unfoldable pub allWithin : ℕ → List ℕ → Bool
@@ -73,7 +76,7 @@ EachCommand o P = (c : ℕ) → 1 ≤ c → c ≤ length (o .commands) → P c
 
 -- the serial run's answer to command c
 unfoldable pub serialAnswer : Setup → ℕ → ℕ
-serialAnswer o c = getD (0 ∷ serialAnswers (o .capacity) (o .commands)) c 0
+serialAnswer o c = getD (0 ∷ serialAnswers (o .capacity) (o .entries) (o .commands)) c 0
 
 -- the three parts, after a schedule
 pub record Holds (o : Setup) (ts : List ℕ) : Type 0 where
@@ -81,7 +84,7 @@ pub record Holds (o : Setup) (ts : List ℕ) : Type 0 where
   pub answer : EachCommand o (λ c. steps o ts (opened o) .service .answers c ≡ cond (wrote o c ts (opened o)) (serialAnswer o c) 0)
   -- "When all commands are removed, every answer is given and the chute table is that run's, entry for entry."
   pub table : EachCommand o (λ c. removed o c ts (opened o) ≡ true) →
-      EachCommand o (λ c. 1 ≤ steps o ts (opened o) .service .answers c) × (steps o ts (opened o) .service .store ≡ layOut (o .capacity) (serialEntries (o .capacity) (o .commands)))
+      EachCommand o (λ c. 1 ≤ steps o ts (opened o) .service .answers c) × (steps o ts (opened o) .service .store ≡ layOut (o .capacity) (serialEntries (o .capacity) (o .entries) (o .commands)))
   -- "And some further dealing is accepted and leaves every command removed and every party idle"
   pub finish : (more : List ℕ) × (allWithin (o .largest) more ≡ true) × EachCommand o (λ c. removed o c (ts ++ more) (opened o) ≡ true)
       × ((t : ℕ) → t ≤ o .largest → steps o (ts ++ more) (opened o) .threads t ≡ Idle)

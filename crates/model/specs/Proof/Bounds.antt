@@ -8,7 +8,7 @@ use mathlib.Core.Option.{some}
 use lib.ListN.{length, getElem?, getD, replicate}
 use lib.Dec.{eqb, leb}
 use Rattle.command.specs.declared.Kind.{Kind}
-use Rattle.command.specs.declared.Kind.the-variants.{Insert, Delete, Read, Update, Workers}
+use Rattle.command.specs.declared.Kind.the-variants.{Insert, Delete, Read, Update, Workers, Checkpoint}
 use Rattle.command.specs.declared.Command.{Command}
 use Rattle.command.proofs.Laws.{chute-that-fits}
 use Rattle.model.specs.Serial.{Entry, Served, present, chuteAt, serveKind, serve, answersAfter, serialAnswers}
@@ -17,7 +17,8 @@ use Rattle.model.specs.Setup.{Setup, commandAt}
 use Rattle.model.specs.Step.{opened, steps}
 use Rattle.model.specs.Statement.{Accepted, allWithin, wrote, EachCommand, serialAnswer}
 use Rattle.model.specs.Proof.Tests.{cond-cases}
-use Rattle.model.specs.Proof.Serial.{All, all-putIn, all-takeOut, all-setChute, serve-keeps}
+use Rattle.model.specs.Proof.Serial.{all-map, all-putIn, all-takeOut, all-setChute, serve-keeps}
+use Rattle.model.specs.Serial.{All}
 use Rattle.model.specs.Proof.Service.{entriesOf, entries-keep}
 use Rattle.model.specs.Proof.Theorem.{table-at-any-moment, demand-3}
 
@@ -29,10 +30,10 @@ serve-each : (P : Entry → Type 0) (capacity : ℕ) (c : Command) (es : List En
 serve-each P capacity c es own h =
     serve-keeps (All P) capacity c es h (λ _ _ _. all-putIn P _ es own h) (λ _. all-takeOut P _ es h) (λ _. all-setChute P _ _ es (λ _ _ _. own) h)
 
--- so what holds of each command's key and chute holds of each entry
+-- so what holds of each command's key and chute, and of each entry at first, holds of each entry
 pub entries-each : (P : Entry → Type 0) (o : Setup) (W : ℕ → Bool)
-    → ((k : ℕ) (c : Command) → commandAt (o .commands) k ≡ some c → P (record { key = c .key; chute = c .chute })) → All P (entriesOf o W)
-entries-each P o W own = entries-keep (All P) o W (λ k c es at. serve-each P (o .capacity) c es (own k c at)) tt
+    → ((k : ℕ) (c : Command) → commandAt (o .commands) k ≡ some c → P (record { key = c .key; chute = c .chute })) → All P (o .entries) → All P (entriesOf o W)
+entries-each P o W own = entries-keep (All P) o W (λ k c es at. serve-each P (o .capacity) c es (own k c at))
 
 -- the key at a place is an entry's, or one of the zeros past them
 laid-each : (P : ℕ → Type 0) (n : ℕ) (es : List Entry) → P 0 → All (λ (e : Entry). P (e .key)) es → (i : ℕ)
@@ -69,6 +70,7 @@ answer-fits Delete capacity key chute es h = cond-cases (λ (s : Served). s .ans
 answer-fits Read capacity key chute es h = cond-cases (λ (s : Served). s .answer < 65536) (present key es) (λ _. chuteAt-fits key es h) (λ _. omega arith)
 answer-fits Update capacity key chute es h = cond-cases (λ (s : Served). s .answer < 65536) (present key es) (λ _. omega arith) (λ _. omega arith)
 answer-fits Workers capacity key chute es h = omega arith
+answer-fits Checkpoint capacity key chute es h = omega arith
 
 answers-fit : (capacity : ℕ) (cs : List Command) (es : List Entry) (n : ℕ) → ChutesFit es
     → ((j : ℕ) (c : Command) → getElem? cs j ≡ some c → c .chute < 65536) → getD (answersAfter capacity cs es) n 0 < 65536
@@ -83,16 +85,16 @@ pub serial-fits : (o : Setup) → Accepted o → (c : ℕ) → serialAnswer o c 
 unfolding serialAnswer serialAnswers commandAt
 serial-fits o acc zero = omega arith
 serial-fits o acc (suc n) =
-    answers-fit (o .capacity) (o .commands) [] n tt (λ j c at. omega (arith, chute-that-fits (c .kind) (c .chute) (acc .chutes (suc j) c at)))
+    answers-fit (o .capacity) (o .commands) (o .entries) n (all-map (λ e h. omega (arith, h .1)) (o .entries) (acc .entries .chutes)) (λ j c at. omega (arith, chute-that-fits (c .kind) (c .chute) (acc .chutes (suc j) c at)))
 
 -- ---- what a schedule reaches
 
 module _ (o : Setup) (acc : Accepted o) (ts : List ℕ) (within : allWithin (o .largest) ts ≡ true) where
-  -- what holds of 0 and of each command's key holds of each key of the store
-  pub reached-keys : (P : ℕ → Type 0) → P 0 → ((k : ℕ) (c : Command) → commandAt (o .commands) k ≡ some c → P (c .key)) → (i : ℕ)
+  -- what holds of 0, of each command's key and of each entry's at first holds of each key of the store
+  pub reached-keys : (P : ℕ → Type 0) → P 0 → ((k : ℕ) (c : Command) → commandAt (o .commands) k ≡ some c → P (c .key)) → All (λ (e : Entry). P (e .key)) (o .entries) → (i : ℕ)
       → P (getD (steps o ts (opened o) .service .store .keys) i 0)
-  reached-keys P none own i =
-      rw (table-at-any-moment o acc ts within) (keys-each P (o .capacity) _ none (entries-each (λ (e : Entry). P (e .key)) o _ own) i)
+  reached-keys P none own first i =
+      rw (table-at-any-moment o acc ts within) (keys-each P (o .capacity) _ none (entries-each (λ (e : Entry). P (e .key)) o _ own first) i)
 
   -- each answer is 0 or the serial run's
   pub reached-answers : EachCommand o (λ c. steps o ts (opened o) .service .answers c < 65536)

@@ -10,7 +10,7 @@ use lib.ListN.{length}
 use lib.Dec.{eqb, leb, ltb}
 use borrow.Author.Tests.{eqb-true, ne-eqb, not-false}
 use Rattle.command.specs.declared.Kind.{Kind}
-use Rattle.command.specs.declared.Kind.the-variants.{Insert, Delete, Read, Update, Workers}
+use Rattle.command.specs.declared.Kind.the-variants.{Insert, Delete, Read, Update, Workers, Checkpoint}
 use Rattle.command.specs.declared.Command.{Command}
 use Rattle.command.specs.Dependent.{areDependent, hasItem, isInsertOrDelete, isRead}
 use Rattle.command.specs.Count.{countAfter}
@@ -112,6 +112,7 @@ read-of Delete capacity key chute r es = absurd (false≢true r)
 read-of Read capacity key chute r es = cond-cases (λ (s : Served). s .entries ≡ es) (present key es) (λ _. refl) (λ _. refl)
 read-of Update capacity key chute r es = absurd (false≢true r)
 read-of Workers capacity key chute r es = absurd (false≢true r)
+read-of Checkpoint capacity key chute r es = absurd (false≢true r)
 
 -- an absent key gets no chute
 set-absent : (key chute : ℕ) (es : List Entry) → present key es ≡ false → setChute key chute es ≡ es
@@ -135,6 +136,7 @@ change-of Delete capacity key chute f = absurd (true≢false f)
 change-of Read capacity key chute f = inl (read-of Read capacity key chute refl)
 change-of Update capacity key chute f = inr (update-of capacity key chute)
 change-of Workers capacity key chute f = inl (λ es. refl)
+change-of Checkpoint capacity key chute f = inl (λ es. refl)
 
 -- and keeps the number of entries
 length-kept : (capacity : ℕ) (c : Command) (es : List Entry) → isInsertOrDelete (c .kind) ≡ false → length (effectOf capacity c es) ≡ length es
@@ -204,6 +206,7 @@ set-passes Read capacity key chute y v es h =
 set-passes Update capacity key chute y v es h =
     update-of capacity key chute (setChute y v es) ∙ (set-set-commute key chute y v es h ∙ ap (setChute y v) (sym (update-of capacity key chute es)))
 set-passes Workers capacity key chute y v es h = refl
+set-passes Checkpoint capacity key chute y v es h = refl
 
 -- ---- the law
 
@@ -253,6 +256,7 @@ answer-of Delete capacity key chute es fs s n = rw (s .0) (answer-cond (present 
 answer-of Read capacity key chute es fs s n = rw (s .0) (answer-cond (present key fs) _ _ _ _ (s .1) refl)
 answer-of Update capacity key chute es fs s n = rw (s .0) (answer-cond (present key fs) _ _ _ _ refl refl)
 answer-of Workers capacity key chute es fs s n = refl
+answer-of Checkpoint capacity key chute es fs s n = refl
 
 -- and independent commands leave one another's answers
 pub replies-kept : (capacity : ℕ) (a b : Command) (es : List Entry) → areDependent a b ≡ false

@@ -16,6 +16,7 @@ use Rattle.model.specs.declared.Thread.{Thread}
 use Rattle.model.specs.declared.Thread.the-variants.{Idle, Loading, Searching, Holding, LookedUp, Written, Walking, Clearing}
 use Rattle.model.specs.Setup.{Setup, commandAt}
 use Rattle.model.specs.Graph.{Graph}
+use Rattle.model.specs.Image.{imageLength}
 use Rattle.model.specs.Service.{Service}
 use Rattle.model.specs.Step.{State}
 use Rattle.model.specs.Proof.Chain.Invariant.{isLoader, isWorker}
@@ -74,6 +75,7 @@ pub record ServiceFormed (o : Setup) (v : Service) : Type 0 where
   pub store : StoreFormed (o .capacity) (v .store)
   pub answers : (c : ℕ) → AnswerAt (length (o .commands)) c (v .answers c)
   pub limit : (1 ≤ v .limit) × (v .limit ≤ 64)
+  pub image : length (v .image) ≡ imageLength (o .capacity)
 
 pub record Formed (o : Setup) (s : State) : Type 0 where
   pub graph : GraphFormed o (s .graph)

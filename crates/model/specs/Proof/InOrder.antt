@@ -9,12 +9,13 @@ use lib.ListN.{length}
 use lib.Dec.{eqb, leb}
 use borrow.Author.Tests.{leb-false}
 use Rattle.command.specs.declared.Kind.{Kind}
-use Rattle.command.specs.declared.Kind.the-variants.{Insert, Delete, Read, Update, Workers}
+use Rattle.command.specs.declared.Kind.the-variants.{Insert, Delete, Read, Update, Workers, Checkpoint}
 use Rattle.model.specs.Serial.{Entry, present, putIn, takeOut, setChute}
 use Rattle.model.specs.Store.{Store, layOut, insert, remove, replace}
 use Rattle.model.specs.Service.{Write, writeKind}
 use Rattle.model.specs.Proof.Tests.{cond-cases}
-use Rattle.model.specs.Proof.Serial.{Ascending, ascending-putIn, ascending-takeOut, ascending-setChute, length-putIn, length-takeOut, length-setChute}
+use Rattle.model.specs.Proof.Serial.{ascending-putIn, ascending-takeOut, ascending-setChute, length-putIn, length-takeOut, length-setChute}
+use Rattle.model.specs.Serial.{Ascending}
 use Rattle.model.specs.Proof.Store.{insert-is-putIn, insert-is-replace, remove-is-takeOut, replace-is-setChute, remove-absent, replace-absent}
 
 pub record InOrder (capacity : ℕ) (st : Store) : Type 0 where
@@ -71,3 +72,4 @@ module _ (capacity key : ℕ) (es : List Entry) (ascending : Ascending es) (fits
   written-in-order Read chute found = cond-cases After (eqb found 0) (λ _. kept) (λ _. kept)
   written-in-order Update chute found = cond-cases After (eqb found 0) (λ _. kept) (λ _. replaced chute (present key es) refl)
   written-in-order Workers chute found = kept
+  written-in-order Checkpoint chute found = kept

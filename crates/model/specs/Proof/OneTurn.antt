@@ -11,7 +11,7 @@ use lib.ListN.{length}
 use lib.Dec.{eqb, leb}
 use borrow.Author.Tests.{eqb-false, ne-eqb, leb-true, leb-false}
 use Rattle.command.specs.declared.Kind.{Kind}
-use Rattle.command.specs.declared.Kind.the-variants.{Insert, Delete, Read, Update, Workers}
+use Rattle.command.specs.declared.Kind.the-variants.{Insert, Delete, Read, Update, Workers, Checkpoint}
 use Rattle.command.specs.Dependent.{isRead}
 use Rattle.node_set.specs.declared.Node.{Node}
 use Rattle.model.specs.declared.Thread.{Thread}
@@ -27,7 +27,8 @@ use Rattle.model.specs.OneTurn.{ReadsInOneTurn}
 use Rattle.model.specs.Proof.Tests.{true-false, none-some, neither, cond-cases}
 use Rattle.model.specs.Proof.Upd.{upd-same, upd-other, upd-cases}
 use Rattle.model.specs.Proof.Chain.Invariant.{Ghost, Inv, looked, clears}
-use Rattle.model.specs.Proof.Chain.Facts.{looked-own, command-place}
+use Rattle.model.specs.Proof.Chain.Facts.{looked-own}
+use Rattle.model.specs.Proof.Places.{command-place}
 use Rattle.model.specs.Proof.Chain.Load.{f-out}
 use Rattle.model.specs.Proof.Chain.Ghost.{ghostStep, workerGhost}
 use Rattle.model.specs.Proof.Chain.Keep.{keeps, steps-keep}
@@ -136,6 +137,7 @@ other-is Delete n = refl
 other-is Read n = absurd (n refl)
 other-is Update n = refl
 other-is Workers n = refl
+other-is Checkpoint n = refl
 
 -- a holding worker's step, by that test
 module _ (o : Setup) (s : State) (t : ℕ) (low : 1 ≤ t) (own : Node) (here : s .threads t ≡ Holding own) where

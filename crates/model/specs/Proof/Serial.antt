@@ -11,21 +11,11 @@ use lib.ListN.{length}
 use lib.Dec.{eqb, leb, ltb}
 use borrow.Author.Tests.{ltb-true, ltb-false, leb-true, leb-false, eqb-true, eqb-false}
 use Rattle.command.specs.declared.Kind.{Kind}
-use Rattle.command.specs.declared.Kind.the-variants.{Insert, Delete, Read, Update, Workers}
+use Rattle.command.specs.declared.Kind.the-variants.{Insert, Delete, Read, Update, Workers, Checkpoint}
 use Rattle.command.specs.declared.Command.{Command}
 use Rattle.command.specs.Read.{chuteFits}
-use Rattle.model.specs.Serial.{Entry, present, chuteAt, putIn, takeOut, setChute, Served, serveKind, serve}
+use Rattle.model.specs.Serial.{Entry, All, Ascending, present, chuteAt, putIn, takeOut, setChute, Served, serveKind, serve}
 use Rattle.model.specs.Proof.Tests.{cond-cases}
-
--- every entry has the property
-abbrev pub All : (Entry → Type 0) → List Entry → Type 0
-All P [] = Unit {0}
-All P (e ∷ es) = P e × All P es
-
--- "keys ascending": each key is smaller than every later one
-abbrev pub Ascending : List Entry → Type 0
-Ascending [] = Unit {0}
-Ascending (e ∷ es) = All (λ (x : Entry). e .key < x .key) es × Ascending es
 
 -- every chute is from 1 up
 abbrev pub AllPositive : List Entry → Type 0
@@ -132,6 +122,7 @@ serve-keeps P capacity c es same put out other = by (c .kind) refl
     by Read q = cond-cases here (present (c .key) es) (λ _. same) (λ _. same)
     by Update q = cond-cases here (present (c .key) es) (λ _. other (inr q)) (λ _. same)
     by Workers q = same
+    by Checkpoint q = same
 
 -- Each of the three changes keeps the order.
 pub serve-ascending : (capacity : ℕ) (c : Command) (es : List Entry) → Ascending es → Ascending (serve capacity c es .entries)
@@ -153,6 +144,7 @@ BringsPositive Delete chute = Unit {0}
 BringsPositive Read chute = Unit {0}
 BringsPositive Update chute = 1 ≤ chute
 BringsPositive Workers chute = Unit {0}
+BringsPositive Checkpoint chute = Unit {0}
 
 -- "Insert and update carry chute 1 to 512": a chute that fits its kind is one.
 pub fitting-brings-positive : (kind : Kind) (chute : ℕ) → chuteFits kind chute ≡ true → BringsPositive kind chute
@@ -162,6 +154,7 @@ fitting-brings-positive Delete chute h = tt
 fitting-brings-positive Read chute h = tt
 fitting-brings-positive Update chute h = leb-true 1 chute (and-eq-true-iff (leb 1 chute) (leb chute 512) .0 h .0)
 fitting-brings-positive Workers chute h = tt
+fitting-brings-positive Checkpoint chute h = tt
 
 -- The only chute that comes in is the command's.
 pub serve-positive : (capacity : ℕ) (c : Command) (es : List Entry) → BringsPositive (c .kind) (c .chute) → AllPositive es → AllPositive (serve capacity c es .entries)

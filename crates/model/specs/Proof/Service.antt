@@ -10,7 +10,7 @@ use mathlib.Core.Option.{none, some}
 use lib.ListN.{length, getElem?, getD, take}
 use lib.Dec.{leb, ltb}
 use Rattle.command.specs.declared.Kind.{Kind}
-use Rattle.command.specs.declared.Kind.the-variants.{Insert, Delete, Read, Update, Workers}
+use Rattle.command.specs.declared.Kind.the-variants.{Insert, Delete, Read, Update, Workers, Checkpoint}
 use Rattle.command.specs.declared.Command.{Command}
 use Rattle.command.specs.Dependent.{areDependent}
 use Rattle.command.specs.Count.{countAfter}
@@ -25,12 +25,13 @@ use Rattle.model.specs.Proof.Tests.{none-some, eqb-cases, cond-cases}
 use Rattle.model.specs.Proof.Upd.{upd-same, upd-other}
 use Rattle.model.specs.Proof.Trace.{Placed, Closed, run, runOnly}
 use Rattle.model.specs.Proof.Trace.{runOnly-agrees, runOnly-all, runOnly-none, runOnly-before, runOnly-keeps, next-reply, next-effect}
-use Rattle.model.specs.Proof.Serial.{Ascending, AllPositive, BringsPositive, fitting-brings-positive, serve-ascending, serve-fits, serve-positive, chuteAt-present}
+use Rattle.model.specs.Proof.Serial.{AllPositive, BringsPositive, fitting-brings-positive, serve-ascending, serve-fits, serve-positive, chuteAt-present, all-map}
+use Rattle.model.specs.Serial.{Ascending}
 use Rattle.model.specs.Proof.Commute.{effectOf, replyOf, service-commutes, counts-commute}
 
 -- the entries after the commands of W alone, in delivery order
 unfoldable pub entriesOf : Setup → (ℕ → Bool) → List Entry
-entriesOf o W = runOnly (effectOf (o .capacity)) W 1 (o .commands) []
+entriesOf o W = runOnly (effectOf (o .capacity)) W 1 (o .commands) (o .entries)
 
 -- a command of W has every earlier command that it depends on in W
 abbrev pub ClosedDown : Setup → (ℕ → Bool) → Type 0
@@ -44,7 +45,7 @@ EarlierIn o W k c = (j : ℕ) (a : Command) → commandAt (o .commands) j ≡ so
 
 -- ---- the command of a place, in the terms of part T
 
-placed : (cs : List Command) (k : ℕ) (c : Command) → commandAt cs k ≡ some c → Placed 1 cs k c
+pub placed : (cs : List Command) (k : ℕ) (c : Command) → commandAt cs k ≡ some c → Placed 1 cs k c
 unfolding commandAt
 placed cs zero c e = absurd (none-some none refl e)
 placed cs (suc n) c e = record { offset = n; place = omega arith; found = e }
@@ -61,9 +62,9 @@ unfolding answersAfter
 answers-length capacity [] es = refl
 answers-length capacity (c ∷ cs) es = ap suc (answers-length capacity cs (serve capacity c es .entries))
 
-pub serial-length : (capacity : ℕ) (cs : List Command) → length (serialAnswers capacity cs) ≡ length cs
+pub serial-length : (capacity : ℕ) (first : List Entry) (cs : List Command) → length (serialAnswers capacity first cs) ≡ length cs
 unfolding serialAnswers
-serial-length capacity cs = answers-length capacity cs []
+serial-length capacity first cs = answers-length capacity cs first
 
 -- the answer to a command is its reply in the full run
 answer-at : (capacity : ℕ) (cs : List Command) (n : ℕ) (c : Command) (es : List Entry) → getElem? cs n ≡ some c
@@ -74,14 +75,14 @@ answer-at capacity (b ∷ cs) zero c es e = let q : b ≡ c = cc in ap (λ (x : 
 answer-at capacity (b ∷ cs) (suc n) c es e = answer-at capacity cs n c (effectOf capacity b es) e
 
 serial-answer-at : (o : Setup) (k : ℕ) (c : Command) (p : Placed 1 (o .commands) k c)
-    → serialAnswer o k ≡ replyOf (o .capacity) c (run (effectOf (o .capacity)) (take (p .offset) (o .commands)) [])
+    → serialAnswer o k ≡ replyOf (o .capacity) c (run (effectOf (o .capacity)) (take (p .offset) (o .commands)) (o .entries))
 unfolding serialAnswer serialAnswers
 serial-answer-at o k c p =
     let q : k ≡ suc (p .offset) = omega arith in
-    rw q (answer-at (o .capacity) (o .commands) (p .offset) c [] (p .found))
+    rw q (answer-at (o .capacity) (o .commands) (p .offset) c (o .entries) (p .found))
 
 -- and the last entries are the full run's
-entries-after : (capacity : ℕ) (cs : List Command) (es : List Entry) → run (effectOf capacity) cs es ≡ entriesAfter capacity cs es
+pub entries-after : (capacity : ℕ) (cs : List Command) (es : List Entry) → run (effectOf capacity) cs es ≡ entriesAfter capacity cs es
 unfolding run entriesAfter
 entries-after capacity [] es = refl
 entries-after capacity (c ∷ cs) es = entries-after capacity cs (effectOf capacity c es)
@@ -91,24 +92,24 @@ entries-after capacity (c ∷ cs) es = entries-after capacity cs (effectOf capac
 -- they hang only on which commands of the list are in the set
 pub entries-agree : (o : Setup) (W U : ℕ → Bool) → EachCommand o (λ c. W c ≡ U c) → entriesOf o W ≡ entriesOf o U
 unfolding entriesOf
-entries-agree o W U agree = runOnly-agrees (effectOf (o .capacity)) W U 1 (o .commands) [] (λ k l h. agree k l (omega arith))
+entries-agree o W U agree = runOnly-agrees (effectOf (o .capacity)) W U 1 (o .commands) (o .entries) (λ k l h. agree k l (omega arith))
 
-pub entries-all : (o : Setup) (W : ℕ → Bool) → EachCommand o (λ c. W c ≡ true) → entriesOf o W ≡ serialEntries (o .capacity) (o .commands)
+pub entries-all : (o : Setup) (W : ℕ → Bool) → EachCommand o (λ c. W c ≡ true) → entriesOf o W ≡ serialEntries (o .capacity) (o .entries) (o .commands)
 unfolding entriesOf serialEntries
 entries-all o W all =
-    runOnly-all (effectOf (o .capacity)) W 1 (o .commands) [] (λ k l h. all k l (omega arith)) ∙ entries-after (o .capacity) (o .commands) []
+    runOnly-all (effectOf (o .capacity)) W 1 (o .commands) (o .entries) (λ k l h. all k l (omega arith)) ∙ entries-after (o .capacity) (o .commands) (o .entries)
 
-pub entries-none : (o : Setup) → entriesOf o (λ c. false) ≡ []
+pub entries-none : (o : Setup) → entriesOf o (λ c. false) ≡ o .entries
 unfolding entriesOf
-entries-none o = runOnly-none (effectOf (o .capacity)) (λ c. false) 1 (o .commands) [] (λ k l h. refl)
+entries-none o = runOnly-none (effectOf (o .capacity)) (λ c. false) 1 (o .commands) (o .entries) (λ k l h. refl)
 
--- what every command keeps holds of the entries, if it holds of no entries
+-- what every command keeps holds of the entries, if it holds of the first ones
 pub entries-keep : (P : List Entry → Type 0) (o : Setup) (W : ℕ → Bool)
     → ((k : ℕ) (c : Command) (es : List Entry) → commandAt (o .commands) k ≡ some c → P es → P (serve (o .capacity) c es .entries))
-    → P [] → P (entriesOf o W)
+    → P (o .entries) → P (entriesOf o W)
 unfolding entriesOf
 entries-keep P o W keeps p =
-    runOnly-keeps (effectOf (o .capacity)) P W 1 (o .commands) [] (λ k c es at. keeps k c es (command-placed (o .commands) k c at)) p
+    runOnly-keeps (effectOf (o .capacity)) P W 1 (o .commands) (o .entries) (λ k c es at. keeps k c es (command-placed (o .commands) k c at)) p
 
 -- ---- one more command
 
@@ -128,8 +129,8 @@ module _ (o : Setup) (W : ℕ → Bool) (k : ℕ) (c : Command) (closed : Closed
   served-next out earlier =
       let law = service-commutes (o .capacity) in
       let p = placed (o .commands) k c at in
-      let answered = next-reply _ _ areDependent law W 1 _ k c [] p closed-trace out (λ j a q. earlier j a (command-placed _ j a q)) in
-      let left = next-effect _ _ areDependent law W 1 _ k c [] p closed-trace out (upd W k true) (upd-same W k true) (upd-other W k true) in
+      let answered = next-reply _ _ areDependent law W 1 _ k c (o .entries) p closed-trace out (λ j a q. earlier j a (command-placed _ j a q)) in
+      let left = next-effect _ _ areDependent law W 1 _ k c (o .entries) p closed-trace out (upd W k true) (upd-same W k true) (upd-other W k true) in
       (answered ∙ sym (serial-answer-at o k c p), left)
 
   -- a set that is closed downwards stays so
@@ -151,6 +152,7 @@ answer-positive Delete capacity key chute es h = cond-cases (λ (s : Served). 1 
 answer-positive Read capacity key chute es h = cond-cases (λ (s : Served). 1 ≤ s .answer) (present key es) (chuteAt-present key es h) (λ _. omega arith)
 answer-positive Update capacity key chute es h = cond-cases (λ (s : Served). 1 ≤ s .answer) (present key es) (λ _. omega arith) (λ _. omega arith)
 answer-positive Workers capacity key chute es h = omega arith
+answer-positive Checkpoint capacity key chute es h = omega arith
 
 answers-positive : (capacity : ℕ) (cs : List Command) (es : List Entry) (n : ℕ) → AllPositive es
     → ((j : ℕ) (c : Command) → getElem? cs j ≡ some c → BringsPositive (c .kind) (c .chute)) → n < length cs → 1 ≤ getD (answersAfter capacity cs es) n 0
@@ -162,13 +164,17 @@ answers-positive capacity (c ∷ cs) es (suc n) h fit l =
 
 -- ---- the entries of every set of commands, and the serial run's answers
 
-pub entries-ascending : (o : Setup) (W : ℕ → Bool) → Ascending (entriesOf o W)
-entries-ascending o W = entries-keep Ascending o W (λ k c es at. serve-ascending (o .capacity) c es) tt
-
-pub entries-fit : (o : Setup) (W : ℕ → Bool) → length (entriesOf o W) ≤ o .capacity
-entries-fit o W = entries-keep (λ (es : List Entry). length es ≤ o .capacity) o W (λ k c es at. serve-fits (o .capacity) c es) (omega arith)
-
 module _ (o : Setup) (accepted : Accepted o) where
+  pub entries-ascending : (W : ℕ → Bool) → Ascending (entriesOf o W)
+  entries-ascending W = entries-keep Ascending o W (λ k c es at. serve-ascending (o .capacity) c es) (accepted .entries .ascending)
+
+  pub entries-fit : (W : ℕ → Bool) → length (entriesOf o W) ≤ o .capacity
+  entries-fit W = entries-keep (λ (es : List Entry). length es ≤ o .capacity) o W (λ k c es at. serve-fits (o .capacity) c es) (accepted .entries .fits)
+
+  -- the chutes that the store begins with are from 1 up
+  first-positive : AllPositive (o .entries)
+  first-positive = all-map (λ e h. h .0) (o .entries) (accepted .entries .chutes)
+
   accepted-positive : (k : ℕ) (c : Command) → commandAt (o .commands) k ≡ some c → BringsPositive (c .kind) (c .chute)
   accepted-positive k c at = fitting-brings-positive (c .kind) (c .chute) (accepted .chutes k c at)
 
@@ -176,10 +182,10 @@ module _ (o : Setup) (accepted : Accepted o) where
   pub serial-positive : EachCommand o (λ c. 1 ≤ serialAnswer o c)
   unfolding serialAnswer serialAnswers commandAt
   serial-positive zero l h = absurd (omega arith)
-  serial-positive (suc n) l h = answers-positive (o .capacity) (o .commands) [] n tt (λ j. accepted-positive (suc j)) (omega arith)
+  serial-positive (suc n) l h = answers-positive (o .capacity) (o .commands) (o .entries) n first-positive (λ j. accepted-positive (suc j)) (omega arith)
 
   pub entries-positive : (W : ℕ → Bool) → AllPositive (entriesOf o W)
-  entries-positive W = entries-keep AllPositive o W (λ k c es at. serve-positive (o .capacity) c es (accepted-positive k c at)) tt
+  entries-positive W = entries-keep AllPositive o W (λ k c es at. serve-positive (o .capacity) c es (accepted-positive k c at)) first-positive
 
 -- ---- the worker count
 

@@ -12,7 +12,8 @@ use lib.Dec.{eqb, ltb}
 use borrow.Author.Tests.{ltb-true, ltb-false, lt-ltb, le-ltb, lt-leb, eq-eqb, ne-eqb}
 use Rattle.model.specs.Serial.{Entry, present, chuteAt, putIn, takeOut, setChute}
 use Rattle.model.specs.Store.{Store, layOut, room, inUse, halve, keyPlace, holds, lookUp, shiftUp, shiftDown, insert, remove, replace}
-use Rattle.model.specs.Proof.Serial.{All, Ascending, all-map, chuteAt-absent}
+use Rattle.model.specs.Proof.Serial.{all-map, chuteAt-absent}
+use Rattle.model.specs.Serial.{All, Ascending}
 
 -- The test on two numbers, as a case distinction.
 pub lt-or-le : (a b : ℕ) → (a < b) ⊎ (b ≤ a)

@@ -9,11 +9,12 @@ use lib.ListN.{length}
 use lib.Dec.{eqb, leb}
 use borrow.Author.Tests.{eq-eqb, ne-eqb, leb-false}
 use Rattle.command.specs.declared.Kind.{Kind}
-use Rattle.command.specs.declared.Kind.the-variants.{Insert, Delete, Read, Update, Workers}
+use Rattle.command.specs.declared.Kind.the-variants.{Insert, Delete, Read, Update, Workers, Checkpoint}
 use Rattle.model.specs.Serial.{Entry, Served, present, chuteAt, serveKind}
 use Rattle.model.specs.Store.{layOut, lookUp}
 use Rattle.model.specs.Service.{Write, write, writeKind}
-use Rattle.model.specs.Proof.Serial.{Ascending, AllPositive, chuteAt-absent, chuteAt-present}
+use Rattle.model.specs.Proof.Serial.{AllPositive, chuteAt-absent, chuteAt-present}
+use Rattle.model.specs.Serial.{Ascending}
 use Rattle.model.specs.Proof.Store.{lookUp-is-chuteAt, insert-is-putIn, remove-is-takeOut, replace-is-setChute}
 use Rattle.command.specs.Dependent.{hasItem}
 
@@ -38,6 +39,7 @@ module _ (capacity key chute : ℕ) (es : List Entry) (ascending : Ascending es)
   same-present Read p = rw (found p, p)
   same-present Update p = rw (found p, p) (ap (write 1000) (replace-is-setChute capacity key es ascending fits chute p))
   same-present Workers p = refl
+  same-present Checkpoint p = refl
 
   -- an insert of an absent key, by whether the store is full
   same-insert : present key es ≡ false → (b : Bool) → leb capacity (length es) ≡ b → Same Insert
@@ -52,6 +54,7 @@ module _ (capacity key chute : ℕ) (es : List Entry) (ascending : Ascending es)
   same-absent Read p = rw (missing p, p)
   same-absent Update p = rw (missing p, p)
   same-absent Workers p = refl
+  same-absent Checkpoint p = refl
 
   looked-up : (kind : Kind) → writeKind kind capacity key chute (lookUp key (layOut capacity es)) (layOut capacity es) ≡ asWrite (serveKind kind capacity key chute es)
   looked-up kind = rw (lookUp-is-chuteAt capacity key es ascending fits) (go (present key es) refl)
@@ -68,3 +71,4 @@ module _ (capacity key chute : ℕ) (es : List Entry) (ascending : Ascending es)
   written-as-served Read = looked-up Read
   written-as-served Update = looked-up Update
   written-as-served Workers = refl
+  written-as-served Checkpoint = refl

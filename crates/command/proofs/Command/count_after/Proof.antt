@@ -3,7 +3,7 @@ use mathlib.Core.Path.{_≡_, refl}
 use mathlib.Core.List.{[], _∷_}
 use borrow.Author.Needs.{needs}
 use Rattle.command.specs.declared.Kind.{Kind}
-use Rattle.command.specs.declared.Kind.the-variants.{Insert, Delete, Read, Update}
+use Rattle.command.specs.declared.Kind.the-variants.{Insert, Delete, Read, Update, Checkpoint}
 use Rattle.command.specs.Count.{countWith, countAfter}
 use Rattle.command.proofs.Places.{one-of}
 use Rattle.command.proofs.Command.count_after.Statement.{statement}
@@ -23,7 +23,7 @@ returns-2 : tie.Need-returns-2
 unfolding countAfter countWith
 returns-2 c =
     let a = c .before .args in
-    one-of (λ (k : Kind). a .count ≡ countWith k (a .self .chute) (a .count)) (a .self .kind) Insert (Delete ∷ Read ∷ Update ∷ []) (c .match .keys2) (refl, (refl, (refl, refl)))
+    one-of (λ (k : Kind). a .count ≡ countWith k (a .self .chute) (a .count)) (a .self .kind) Insert (Delete ∷ Read ∷ Update ∷ Checkpoint ∷ []) (c .match .keys2) (refl, (refl, (refl, (refl, refl))))
 
 pub count-after-spec : {M : Type 1} → statement M
 count-after-spec = tie.close (tie.spec enum-told cast-result returns returns-2)

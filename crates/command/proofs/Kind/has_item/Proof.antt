@@ -1,17 +1,13 @@
 -- `Kind::has_item` meets its contract: each arm answers as the definition does at its kinds. Assumes nothing.
 use mathlib.Core.Path.{_≡_, refl}
-use mathlib.Core.Bool.{true}
+use mathlib.Core.Bool.{true, false}
 use mathlib.Core.List.{[], _∷_}
-use borrow.Author.Needs.{needs}
 use Rattle.command.specs.declared.Kind.{Kind}
-use Rattle.command.specs.declared.Kind.the-variants.{Insert, Delete, Read, Update}
+use Rattle.command.specs.declared.Kind.the-variants.{Insert, Delete, Read, Update, Workers, Checkpoint}
 use Rattle.command.specs.Dependent.{hasItem}
 use Rattle.command.proofs.Places.{one-of}
 use Rattle.command.proofs.Kind.has_item.Statement.{statement}
 use Rattle.command.proofs.Kind.has_item.Tie as tie
-
-enum-told : tie.Need-enum-told
-enum-told c = search needs
 
 returns : tie.Need-returns
 unfolding hasItem
@@ -19,7 +15,7 @@ returns c = one-of (λ (k : Kind). true ≡ hasItem k) (c .before .args .self) I
 
 returns-2 : tie.Need-returns-2
 unfolding hasItem
-returns-2 c = search needs
+returns-2 c = one-of (λ (k : Kind). false ≡ hasItem k) (c .before .args .self) Workers (Checkpoint ∷ []) (c .match .keys2) (refl, refl)
 
 pub has-item-spec : {M : Type 1} → statement M
-has-item-spec = tie.close (tie.spec enum-told returns returns-2)
+has-item-spec = tie.close (tie.spec returns returns-2)

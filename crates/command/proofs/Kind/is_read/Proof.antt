@@ -4,7 +4,7 @@ use mathlib.Core.Bool.{false}
 use mathlib.Core.List.{[], _∷_}
 use borrow.Author.Needs.{needs}
 use Rattle.command.specs.declared.Kind.{Kind}
-use Rattle.command.specs.declared.Kind.the-variants.{Insert, Delete, Update, Workers}
+use Rattle.command.specs.declared.Kind.the-variants.{Insert, Delete, Update, Workers, Checkpoint}
 use Rattle.command.specs.Dependent.{isRead}
 use Rattle.command.proofs.Places.{one-of}
 use Rattle.command.proofs.Kind.is_read.Statement.{statement}
@@ -19,7 +19,7 @@ returns c = search needs
 
 returns-2 : tie.Need-returns-2
 unfolding isRead
-returns-2 c = one-of (λ (k : Kind). false ≡ isRead k) (c .before .args .self) Insert (Delete ∷ Update ∷ Workers ∷ []) (c .match .keys2) (refl, (refl, (refl, refl)))
+returns-2 c = one-of (λ (k : Kind). false ≡ isRead k) (c .before .args .self) Insert (Delete ∷ Update ∷ Workers ∷ Checkpoint ∷ []) (c .match .keys2) (refl, (refl, (refl, (refl, refl))))
 
 pub is-read-spec : {M : Type 1} → statement M
 is-read-spec = tie.close (tie.spec enum-told returns returns-2)

@@ -4,7 +4,7 @@ use mathlib.Core.List.{[], _∷_}
 use borrow.Author.Needs.{needs}
 use lib.Dec.{eqb}
 use Rattle.command.specs.declared.Kind.{Kind}
-use Rattle.command.specs.declared.Kind.the-variants.{Insert, Delete, Read, Update}
+use Rattle.command.specs.declared.Kind.the-variants.{Insert, Delete, Read, Update, Checkpoint}
 use Rattle.command.specs.Read.{chuteFits}
 use Rattle.command.proofs.Places.{one-of}
 use Rattle.command.proofs.Kind.takes.Statement.{statement}
@@ -30,7 +30,7 @@ returns-2 : tie.Need-returns-2
 unfolding chuteFits
 returns-2 c =
     let s = c .before in
-    one-of (λ (k : Kind). eqb (s .args .chute) 0 ≡ chuteFits k (s .args .chute)) (s .args .self) Delete (Read ∷ []) (c .match .keys2) (refl, refl)
+    one-of (λ (k : Kind). eqb (s .args .chute) 0 ≡ chuteFits k (s .args .chute)) (s .args .self) Delete (Read ∷ Checkpoint ∷ []) (c .match .keys2) (refl, (refl, refl))
 
 returns-3 : tie.Need-returns-3
 unfolding chuteFits

@@ -1,9 +1,7 @@
 -- Facts that follow from the invariant, for every kind of step: what a thread's state implies, and which nodes are different because one
 -- has a command or stands in the chain and the other does not. Assumes nothing.
-use Prim.Native.Nat.{ℕ, zero, suc, _≤_, _<_}
+use Prim.Native.Nat.{ℕ, _≤_, _<_}
 use native.Mathlib.Omega.{arith}
-use lib.ListN.{length}
-use Rattle.command.specs.declared.Command.{Command}
 use mathlib.Core.Path.{_≡_, refl, sym, ap, _∙_}
 use mathlib.Core.Bool.{Bool, true, false}
 use mathlib.Core.List.{List, [], _∷_}
@@ -12,7 +10,7 @@ use mathlib.Core.Logic.{_⊎_, inl, inr, ⊎-elim}
 use Rattle.model.specs.declared.Thread.{Thread}
 use Rattle.model.specs.declared.Thread.the-variants.{Idle, Loading, Searching, Holding, LookedUp, Written, Walking, Clearing}
 use Rattle.model.specs.Upd.{upd}
-use Rattle.model.specs.Setup.{Setup, commandAt}
+use Rattle.model.specs.Setup.{Setup}
 use Rattle.model.specs.Step.{State}
 use Rattle.model.specs.Proof.Tests.{fails, true-false, none-some, le-cases}
 use Rattle.model.specs.Proof.Upd.{upd-other}
@@ -63,21 +61,6 @@ clears-done (LookedUp y f) x e = absurd (none-some none refl e)
 clears-done (Written y) x e = absurd (none-some none refl e)
 clears-done (Walking a y) x e = absurd (none-some none refl e)
 clears-done (Clearing a y) x e = e
-
--- ---- commands
-
--- every place from 1 to the last has a command, and no other
-pub some-command : (cs : List Command) (c : ℕ) → 1 ≤ c → c ≤ length cs → (cmd : Command) × (commandAt cs c ≡ some cmd)
-unfolding commandAt
-some-command cs zero l h = absurd (omega arith)
-some-command [] (suc i) l h = absurd (omega arith)
-some-command (c ∷ cs) (suc zero) l h = (c, refl)
-some-command (c ∷ cs) (suc (suc i)) l h = some-command cs (suc i) (omega arith) (omega arith)
-
-pub command-place : (cs : List Command) (c : ℕ) (cmd : Command) → commandAt cs c ≡ some cmd → 1 ≤ c
-unfolding commandAt
-command-place cs zero cmd e = absurd (none-some none refl e)
-command-place cs (suc i) cmd e = omega arith
 
 -- ---- nodes
 

@@ -26,7 +26,8 @@ use Rattle.model.specs.Proof.Chain.Invariant.{Ghost, Inv, Progress, at, 
 use Rattle.model.specs.Proof.Chain.Ghost.{writing}
 use Rattle.model.specs.Proof.Chain.Kept.{kept}
 use Rattle.model.specs.Proof.Chain.Moves.{worker-role, walks-moved}
-use Rattle.model.specs.Proof.Chain.Facts.{done-own, looked-own, clears-done, some-command, command-place, executes-used}
+use Rattle.model.specs.Proof.Chain.Facts.{done-own, looked-own, clears-done, executes-used}
+use Rattle.model.specs.Proof.Places.{some-command, command-place}
 
 module _ (o : Setup) (s : State) (g : Ghost) (i : Inv o s g) where
   -- a node with a command has the command of its place

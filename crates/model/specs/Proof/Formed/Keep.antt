@@ -14,17 +14,20 @@ use Rattle.model.specs.declared.Thread.the-variants.{Idle, Loading, Sear
 use Rattle.model.specs.Upd.{upd}
 use Rattle.model.specs.Setup.{Setup, commandAt, bothDependent}
 use Rattle.model.specs.Graph.{Graph, noNode}
-use Rattle.model.specs.Service.{Service, foundFor, inOneStep, writeFor}
+use Rattle.model.specs.Image.{imageLength}
+use Rattle.model.specs.Service.{Service, foundFor, inOneStep, imageAfter, writeFor}
 use Rattle.model.specs.Step.{State, node, moveTo, serveTo, commandOf, stepOn, load, loaderIdle, link, addDependence, loaderWalk, loaderStep, isAllowed, idle}
 use Rattle.model.specs.Step.{enter, ready, examine, leave, searching, holding, lookedUp, bypass, walking, return, clearing, workerStep, step, steps}
 use Rattle.model.specs.Statement.{allWithin}
 use Rattle.model.specs.Proof.Tests.{true-false, neither, cond-cases}
 use Rattle.model.specs.Proof.Chain.Invariant.{isLoader, isWorker}
-use Rattle.model.specs.Proof.Chain.Facts.{command-place}
+use Rattle.model.specs.Proof.Places.{command-place}
+use Rattle.model.specs.Proof.Image.{image-length}
 use Rattle.model.specs.Proof.Formed.{ThreadFormed, ThreadAt, AnswerAt, SetupFormed, GraphFormed, ServiceFormed, Formed}
 use Rattle.model.specs.Proof.Formed.Store.{lookUp-fits, writeKind-formed}
 use Rattle.model.specs.Proof.Formed.Set.{upd-keeps, moved-formed, served-formed, next-set, seq-set, executing-set, locked-set, waits-set, free-set, loaded-set}
-use Rattle.command.specs.Dependent.{hasItem}
+use Rattle.command.specs.declared.Kind.{Kind}
+use Rattle.command.specs.Dependent.{hasItem, isCheckpoint}
 use Rattle.command.proofs.Count.{count-fits}
 use Rattle.command.proofs.Laws.{chute-that-fits}
 
@@ -115,6 +118,11 @@ module _ (o : Setup) (fit : SetupFormed o) where
     found-fits none = omega arith
     found-fits (some cmd) = cond-cases (λ (n : ℕ). n < 65536) (hasItem (cmd .kind)) (λ _. lookUp-fits (v .store) (k .store) (cmd .key)) (λ _. omega arith)
 
+    -- an image that is written is as long as the one before
+    image-after-length : (kind : Kind) (c : ℕ) → length (v .image) ≡ imageLength (o .capacity) → length (imageAfter kind (o .capacity) c (v .store) (v .image)) ≡ imageLength (o .capacity)
+    unfolding imageAfter
+    image-after-length kind c h = cond-cases (λ (l : List ℕ). length l ≡ imageLength (o .capacity)) (isCheckpoint kind) (λ _. image-length (o .capacity) c (v .store)) (λ _. h)
+
     -- a command writes its chute, of two bytes, and an answer at its own place
     pub write-formed : (c found : ℕ) → c ≤ length (o .commands) → (cmd : Option Command) → commandAt (o .commands) c ≡ cmd → ServiceFormed o (writeFor o cmd c found v)
     unfolding writeFor
@@ -125,6 +133,7 @@ module _ (o : Setup) (fit : SetupFormed o) where
           store = writeKind-formed (v .store) (k .store) (cmd .kind) (o .capacity) (cmd .key) (cmd .chute) found (omega (arith, chute-that-fits (cmd .kind) (cmd .chute) (fit .chutes c cmd e)));
           answers = upd-keeps (AnswerAt (length (o .commands))) c (λ e. absurd (omega arith), λ e. absurd (omega arith)) (k .answers);
           limit = count-fits cmd (v .limit) (fit .chutes c cmd e) (k .limit);
+          image = image-after-length (cmd .kind) c (k .image);
         }
 
   -- ---- the workers

@@ -4,13 +4,14 @@ use Prim.Native.Nat.{ℕ, zero, suc, _+_, _-_, _/_, _≤_, _<_}
 use native.Mathlib.Omega.{arith}
 use mathlib.Core.Path.{_≡_, refl, _∙_}
 use mathlib.Core.Bool.{Bool, true, false, cond, _&&_, and-eq-true-iff}
-use mathlib.Core.List.{List, [], _∷_, _++_}
+use mathlib.Core.List.{List, [], _∷_, _++_, map}
 use lib.ListN.{length, getD, take, drop, set, replicate, length-append, length-take, length-drop, length-set}
 use lib.Seq.{getD-drop}
 use lib.Dec.{eqb, leb, ltb}
 use borrow.Author.Tests.{ltb-true, leb-false}
 use Rattle.command.specs.declared.Kind.{Kind}
-use Rattle.command.specs.declared.Kind.the-variants.{Insert, Delete, Read, Update, Workers}
+use Rattle.command.specs.declared.Kind.the-variants.{Insert, Delete, Read, Update, Workers, Checkpoint}
+use Rattle.model.specs.Serial.{Entry, All, Stored}
 use Rattle.model.specs.Store.{Store, layOut, room, inUse, halve, keyPlace, holds, lookUp, shiftUp, shiftDown, insert, remove, replace}
 use Rattle.model.specs.Service.{Write, writeKind}
 use Rattle.model.specs.Proof.Tests.{cond-cases}
@@ -111,14 +112,19 @@ pub record StoreFormed (capacity : ℕ) (st : Store) : Type 0 where
   pub used-fits : st .used ≤ capacity
   pub chutes-fit : Fit (st .chutes)
 
--- an empty store is all zeros
-pub layOut-formed : (capacity : ℕ) → StoreFormed capacity (layOut capacity [])
+-- chutes of entries are such
+chutes-of-fit : (es : List Entry) → All (λ (e : Entry). (1 ≤ e .chute) × (e .chute ≤ 512)) es → Fit (map chuteOf es)
+chutes-of-fit [] h = λ i. omega arith
+chutes-of-fit (e ∷ es) h = cons-fit (e .chute) (map chuteOf es) (omega (arith, h .0 .1)) (chutes-of-fit es (h .1))
+
+-- so a store of entries that it can hold has the shape
+pub layOut-formed : (capacity : ℕ) (es : List Entry) → Stored capacity es → StoreFormed capacity (layOut capacity es)
 unfolding layOut
-layOut-formed capacity = record {
-  keys-length = length-laid keyOf capacity [] (omega arith);
-  chutes-length = length-laid chuteOf capacity [] (omega arith);
-  used-fits = omega arith;
-  chutes-fit = replicate-fit (capacity - 0);
+layOut-formed capacity es h = record {
+  keys-length = length-laid keyOf capacity es (h .fits);
+  chutes-length = length-laid chuteOf capacity es (h .fits);
+  used-fits = h .fits;
+  chutes-fit = append-fit (map chuteOf es) (replicate (capacity - length es) 0) (chutes-of-fit es (h .chutes)) (replicate-fit (capacity - length es));
 }
 
 module _ {capacity : ℕ} (st : Store) (k : StoreFormed capacity st) where
@@ -195,3 +201,4 @@ module _ {capacity : ℕ} (st : Store) (k : StoreFormed capacity st) where
   writeKind-formed Read room key chute found f = cond-cases After (eqb found 0) (λ _. k) (λ _. k)
   writeKind-formed Update room key chute found f = cond-cases After (eqb found 0) (λ _. k) (λ _. replace-formed key chute f)
   writeKind-formed Workers room key chute found f = k
+  writeKind-formed Checkpoint room key chute found f = k
