@@ -7,22 +7,25 @@ use mathlib.Core.List.{List}
 use borrow.Author.Tests.{le-leb, lt-leb}
 use lib.ListN.{length, getD, set}
 use lib.Dec.{ltb, eqb}
-use Rattle.model.specs.Store.{Store, inUse, halve, keyPlace, holds, lookUp, insert, remove, replace, shiftUp, shiftDown}
+use Rattle.model.specs.Store.{Store, room, inUse, halve, keyPlace, holds, lookUp, insert, remove, replace, shiftUp, shiftDown}
 use Rattle.store.specs.declared.Found.{Found}
 use Rattle.store.specs.Lists.{storeOf}
 use Rattle.store.specs.Find.{Finds}
 use Rattle.model.specs.Proof.Formed.Store.{held-in-use}
 
 -- Steps that go as the definitions do find what the definitions say: each result is put for the one before.
-pub finds : (key : ℕ) (st : Store) (both : ℕ) (found : Found) → both ≡ min (length (st .keys)) (length (st .chutes))
-    → found .in_use ≡ min (st .used) both → found .at ≡ halve (found .in_use) (st .keys) key 0 (found .in_use)
+pub finds : (key : ℕ) (st : Store) (found : Found) → found .in_use ≡ inUse st → found .at ≡ halve (found .in_use) (st .keys) key 0 (found .in_use)
     → found .at ≤ found .in_use → found .held ≡ (ltb (found .at) (found .in_use) && eqb (getD (st .keys) (found .at) 0) key)
     → Finds key st found
 unfolding inUse keyPlace holds
-finds key st both found b u p within h =
-    let in-use : found .in_use ≡ inUse st = cc in
+finds key st found in-use p within h =
     let place : found .at ≡ keyPlace key st = rw in-use at p in
     record { in-use = in-use; place = place; held = rw (in-use, place) at h; within = within }
+
+-- the smaller of the count and both lengths is how many places are in use
+pub in-use-is : (st : Store) (both n : ℕ) → both ≡ min (length (st .keys)) (length (st .chutes)) → n ≡ min (st .used) both → n ≡ inUse st
+unfolding inUse room
+in-use-is st both n b u = rw (u, b)
 
 -- A test picks what its value picks.
 picked : {A : Type 0} (x y : A) {b c : Bool} → b ≡ c → cond c x y ≡ cond b x y

@@ -5,7 +5,7 @@ ghost use mathlib.Core.Bool.{_&&_};
 ghost use Prim.Native.Nat.{min, _<_, _≤_};
 ghost use lib.ListN.{length, getD};
 ghost use lib.Dec.{ltb, eqb};
-ghost use Rattle.model.specs.Store.{lookUp, insert as inserted, remove as removed, replace as replaced};
+ghost use Rattle.model.specs.Store.{inUse, lookUp, insert as inserted, remove as removed, replace as replaced};
 ghost use Rattle.model.specs.Store.{halve, shiftUp, shiftDown};
 ghost use Rattle.store.specs.Lists.{storeOf};
 ghost use Rattle.store.specs.Find.{Finds};
@@ -23,6 +23,14 @@ fn smaller(a: usize, b: usize) -> usize
     ensures { λ r. ⌜ r ≡ min a b ⌝ }
 {
     if a < b { a } else { b }
+}
+
+// How many places are in use: as many as the count says, and no more than both lists have.
+pub fn in_use(keys: &[u64], chutes: &[u16], used: usize) -> usize
+    ensures counted { λ r. ⌜ r ≡ inUse (storeOf (now (keys .entry)) (now (chutes .entry)) used) ⌝ }
+    ensures within { λ r. ⌜ (r ≤ length (now (keys .entry))) × (r ≤ length (now (chutes .entry))) ⌝ }
+{
+    smaller(used, smaller(keys.len(), chutes.len()))
 }
 
 // Where a key stands in the first n places, or belongs where it is absent: binary search.
@@ -56,7 +64,7 @@ fn is_at(keys: &[u64], n: usize, place: usize, key: u64) -> bool
 fn find(keys: &[u64], chutes: &[u16], used: usize, key: u64) -> Found
     ensures { λ r. ⌜ Finds key (storeOf (now (keys .entry)) (now (chutes .entry)) used) r ⌝ }
 {
-    let n = smaller(used, smaller(keys.len(), chutes.len()));
+    let n = in_use(keys, chutes, used);
     let at = place(keys, n, key);
     let held = is_at(keys, n, at, key);
     Found {
