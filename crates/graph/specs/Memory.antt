@@ -13,7 +13,8 @@ use Rattle.model.specs.declared.Thread.the-variants.{Loading}
 use Rattle.model.specs.Upd.{upd}
 use Rattle.model.specs.Setup.{Setup}
 use Rattle.model.specs.Graph.{Graph, graphOf}
-use Rattle.model.specs.Service.{Service, writeFor}
+use Rattle.model.specs.Store.{Store}
+use Rattle.model.specs.Service.{Service, imageAfter, writeFor}
 use Rattle.model.specs.Step.{State, step, loaderWalk}
 use Rattle.store.specs.Lists.{storeOf}
 use Rattle.model.specs.declared.Counters.{Counters}
@@ -35,11 +36,12 @@ pub record GraphArrays : Type 0 where
   pub free : ℕ
   pub loaded : ℕ
 
--- the store's lists and count, the answers, and the worker count in force
+-- the store's lists and count, the answers, the image, and the worker count in force
 pub record ServiceLists : Type 0 where
   pub keys : List ℕ
   pub chutes : List ℕ
   pub answers : List ℕ
+  pub image : List ℕ
   pub used : ℕ
   pub limit : ℕ
 
@@ -51,14 +53,14 @@ pub record Memory : Type 0 where
 abbrev pub shownGraph : GraphArrays → Graph
 shownGraph a = graphOf (numbers (a .next)) (numbers (a .seq)) (flags (a .executing)) (flags (a .locked)) (sets (a .waits)) (a .free) (a .loaded)
 
-abbrev pub serviceOf : List ℕ → List ℕ → List ℕ → ℕ → ℕ → Service
-serviceOf keys chutes answers used limit = record { store = storeOf keys chutes used; answers = answersOf answers; limit = limit }
+abbrev pub serviceOf : List ℕ → List ℕ → List ℕ → List ℕ → ℕ → ℕ → Service
+serviceOf keys chutes answers image used limit = record { store = storeOf keys chutes used; answers = answersOf answers; limit = limit; image = image }
 
 abbrev pub shown : Memory → (ℕ → Thread) → State
 shown m threads = record {
   graph = shownGraph (m .graph);
   threads = threads;
-  service = serviceOf (m .service .keys) (m .service .chutes) (m .service .answers) (m .service .used) (m .service .limit);
+  service = serviceOf (m .service .keys) (m .service .chutes) (m .service .answers) (m .service .image) (m .service .used) (m .service .limit);
 }
 
 -- the loader's walk on the arrays: on every state that they show, the model's
@@ -73,11 +75,17 @@ abbrev pub limitAfter : Option Command → ℕ → ℕ
 limitAfter none limit = limit
 limitAfter (some c) limit = countAfter c limit
 
+-- the image after the command of a place is written
+abbrev pub imageFor : Option Command → ℕ → ℕ → Store → List ℕ → List ℕ
+imageFor none capacity place st image = image
+imageFor (some c) capacity place st image = imageAfter (c .kind) capacity place st image
+
 -- the writing of a command's answer in these lists: the model's
 abbrev pub Writes : Option Command → ℕ → ℕ → List ℕ → List ℕ → List ℕ → ℕ → List ℕ → List ℕ → List ℕ → ℕ → Type 0
 Writes item place found keys chutes answers used keys′ chutes′ answers′ used′ =
-    (o : Setup) (limit : ℕ) → o .capacity ≡ length keys
-    → writeFor o item place found (serviceOf keys chutes answers used limit) ≡ serviceOf keys′ chutes′ answers′ used′ (limitAfter item limit)
+    (o : Setup) (limit : ℕ) (image : List ℕ) → o .capacity ≡ length keys
+    → writeFor o item place found (serviceOf keys chutes answers image used limit)
+    ≡ serviceOf keys′ chutes′ answers′ (imageFor item (length keys) place (storeOf keys chutes used) image) used′ (limitAfter item limit)
 
 -- what a step needs of its memory: node numbers that are nodes', each node's command kept, and a list of as many commands as answers
 pub record Ready (list : List ℕ) (kinds itemKeys itemChutes : List ℕ) (m : Memory) (thread : Thread) : Type 0 where
@@ -88,10 +96,10 @@ pub record Ready (list : List ℕ) (kinds itemKeys itemChutes : List ℕ) (m : M
   pub whole : length list ≡ 16 * length (m .service .answers)
   pub few : length (m .service .answers) ≤ 4096
 
-abbrev pub memory : List ℕ → List ℕ → List Bool → List Bool → List (List ℕ) → List ℕ → List ℕ → List ℕ → Counters → Memory
-memory next seq executing locked waits keys chutes answers c = record {
+abbrev pub memory : List ℕ → List ℕ → List Bool → List Bool → List (List ℕ) → List ℕ → List ℕ → List ℕ → List ℕ → Counters → Memory
+memory next seq executing locked waits keys chutes answers image c = record {
   graph = record { next = next; seq = seq; executing = executing; locked = locked; waits = waits; free = c .free .0; loaded = c .loaded .0 };
-  service = record { keys = keys; chutes = chutes; answers = answers; used = c .used; limit = c .limit };
+  service = record { keys = keys; chutes = chutes; answers = answers; image = image; used = c .used; limit = c .limit };
 }
 
 -- what a step promises: for all threads of which t is in state `thread`, memory and threads show the model's next state, and the memory is

@@ -23,5 +23,6 @@ pub use loader::loader_walk;
 pub use service::in_one_step;
 pub use service::limit_after;
 pub use service::look_up;
+pub use service::save;
 pub use service::write;
 pub use service::write_read;

@@ -9,13 +9,15 @@ ghost use Rattle.command.specs.declared.Command.{Command as Cmd};
 ghost use Rattle.command.specs.declared.Kind.the-variants.{Insert, Read};
 ghost use Rattle.model.specs.Service.{foundFor, inOneStep, writeKind, write as writing};
 ghost use Rattle.model.specs.Store.{Store};
+ghost use Rattle.model.specs.Image.{imageLength};
 ghost use Rattle.store.specs.Lists.{storeOf};
 ghost use Rattle.graph.specs.Items.{itemOf};
-ghost use Rattle.graph.specs.Memory.{limitAfter, Writes};
+ghost use Rattle.graph.specs.Memory.{imageFor, limitAfter, Writes};
 use crate::items::Item;
 use command::Command;
 use command::Kind;
 use command::Seq;
+use image::write_image;
 
 // What a lookup finds for a command: the chute of its item, 0 where there is none.
 pub fn look_up(item: Item, keys: &[u64], chutes: &[u16], used: usize) -> u16
@@ -116,6 +118,7 @@ fn serve(command: Command, found: u16, keys: &mut [u64], chutes: &mut [u16], use
             Written { answer: 1000, used }
         }
         Kind::Workers => Written { answer: 1000, used },
+        Kind::Checkpoint => Written { answer: 1000, used },
     }
 }
 
@@ -139,6 +142,19 @@ pub fn write(
             let i = place.0 - 1;
             answers[i] = written.answer;
             written.used
+        }
+    }
+}
+
+// Puts the store into the image, where the command is a checkpoint: before it is written, which leaves the store as it is.
+pub fn save(item: Item, place: Seq, keys: &[u64], chutes: &[u16], used: usize, image: &mut [u8])
+    requires { ⌜ length (now image) ≡ imageLength (length (now keys)) ⌝ }
+    ensures { λ _. ⌜ now (image .exit) ≡ imageFor (itemOf item) (length (now (keys .entry))) (place .0) (storeOf (now (keys .entry)) (now (chutes .entry)) used) (now (image .entry)) ⌝ }
+{
+    if let Item::Of(command) = item {
+        let kind = command.kind;
+        if kind.is_checkpoint() {
+            write_image(keys, chutes, used, place.0, image);
         }
     }
 }

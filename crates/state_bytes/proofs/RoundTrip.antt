@@ -12,13 +12,13 @@ use Rattle.node_set.proofs.Laws.{word-of-is-word-of}
 use Rattle.model.specs.Proof.Tests.{fails}
 use Rattle.model.specs.declared.Thread.{Thread}
 use Rattle.model.specs.declared.Thread.the-variants.{Idle, Loading, Searching, Holding, LookedUp, Written, Walking, Clearing}
-use Rattle.model.specs.Setup.{Setup}
+use Rattle.model.specs.Setup.{Setup, withoutEntries}
 use Rattle.model.specs.Step.{State}
 use Rattle.model.specs.Proof.Chain.Invariant.{isLoader, isWorker}
 use Rattle.model.specs.Proof.Formed.{ThreadFormed, SetupFormed, Formed}
 use Rattle.command.specs.Read.{commandsIn}
 use Rattle.byte_fields.specs.Bytes.{bytesOf, numberAt, tabulate, fields, allBelow}
-use Rattle.state_bytes.specs.Layout.{lockCoupled, headFits, Lists, flagByte, setBytes, threadBytes, stateBytes, listsOf, threadAt, setAt, setupIn, countIn, stateIn, stateLength, settingsFit, threadFits, threadFitsAt, setFits, nodeFitsAt, ascends, stateFits, lengthsFit, handedBackFit}
+use Rattle.state_bytes.specs.Layout.{lockCoupled, headFits, Lists, flagByte, setBytes, threadBytes, stateBytes, listsOf, threadAt, setAt, setupIn, countIn, stateIn, stateLength, settingsFit, threadFits, threadFitsAt, setFits, nodeFitsAt, ascends, stateFits, lengthsFit, handedBackFit, imageFits}
 use Rattle.byte_fields.proofs.Bytes.{bytes-length, one-byte, Lies, total, lies-part, lies-first, lies-rest, lies-field, lies-number, lies-element, tabulate-at, tabulate-past, tabulate-length, below-or-past, each-all-below}
 use Rattle.state_bytes.proofs.StateParts.{wordsOf, members-of-words, tagOf, atOf, ownOf, foundOf, threadHead, thread-parts, thread-again, found-fits, flag-length, setParts, set-parts, set-lengths, set-length, thread-length, state-length, part-lies}
 
@@ -47,6 +47,7 @@ pub record Laid (o : Setup) (s : State) (l : Lists) : Type 0 where
   pub answers : l .answers ≡ tabulate (length (o .commands)) (λ i. s .service .answers (suc i))
   pub keys : l .keys ≡ s .service .store .keys
   pub chutes : l .chutes ≡ s .service .store .chutes
+  pub image : l .image ≡ s .service .image
 
 -- a flag is 1 or 0
 flag-read : (b : Bool) → getD (flagByte b) 0 0 ≡ cond b 1 0
@@ -100,8 +101,8 @@ module _ (o : Setup) (s : State) where
 
   -- the bytes of a formed state are read field by field, since each number fits its bytes
   state-laid : SetupFormed o → Formed o s → (l : Lists) → l .state ≡ stateBytes o s
-      → l .answers ≡ tabulate (length (o .commands)) (λ i. s .service .answers (suc i)) → l .keys ≡ s .service .store .keys → l .chutes ≡ s .service .store .chutes → Laid o s l
-  state-laid fo fs l state answers keys chutes = record {
+      → l .answers ≡ tabulate (length (o .commands)) (λ i. s .service .answers (suc i)) → l .keys ≡ s .service .store .keys → l .chutes ≡ s .service .store .chutes → l .image ≡ s .service .image → Laid o s l
+  state-laid fo fs l state answers keys chutes image = record {
     long = rw state (state-length o s);
     size = rw state (lies-number 1 (o .size) (omega (arith, fo .size)) (part-lies o s 1 (omega arith)));
     workers = rw state (lies-number 1 (o .workers) (omega (arith, fo .workers)) (part-lies o s 2 (omega arith)));
@@ -125,6 +126,7 @@ module _ (o : Setup) (s : State) where
     answers = answers;
     keys = keys;
     chutes = chutes;
+    image = image;
   }
 
   -- the definition of the lists, unfolded once
@@ -144,9 +146,13 @@ module _ (o : Setup) (s : State) where
   unfolding listsOf
   lists-chutes = refl
 
+  pub lists-image : listsOf o s .image ≡ s .service .image
+  unfolding listsOf
+  lists-image = refl
+
   -- so a formed state's lists are
   pub lists-laid : SetupFormed o → Formed o s → Laid o s (listsOf o s)
-  lists-laid fo fs = state-laid fo fs (listsOf o s) lists-state lists-answers lists-keys lists-chutes
+  lists-laid fo fs = state-laid fo fs (listsOf o s) lists-state lists-answers lists-keys lists-chutes lists-image
 
 -- ---- what is read is the state
 
@@ -280,12 +286,12 @@ module _ (o : Setup) (s : State) (fo : SetupFormed o) (fs : Formed o s) (l : Lis
       loaded = laid .loaded i;
     };
     threads = fun-ext (λ t. first-and-past 65 t _ Idle (s .threads t) (read-thread t) (fs .threads t .1)) i;
-    service = record { store = record { keys = laid .keys i; chutes = laid .chutes i; used = laid .used i }; answers = fun-ext read-answer i; limit = laid .limit i };
+    service = record { store = record { keys = laid .keys i; chutes = laid .chutes i; used = laid .used i }; answers = fun-ext read-answer i; limit = laid .limit i; image = laid .image i };
   }
 
-  pub read-setup : (commands : List ℕ) → o .commands ≡ commandsIn commands → setupIn (l .state) commands ≡ o
+  pub read-setup : (commands : List ℕ) → o .commands ≡ commandsIn commands → setupIn (l .state) commands ≡ withoutEntries o
   unfolding setupIn
-  read-setup commands e = λ i. record { size = laid .size i; workers = laid .workers i; largest = laid .largest i; capacity = laid .capacity i; commands = sym e i }
+  read-setup commands e = λ i. record { size = laid .size i; workers = laid .workers i; largest = laid .largest i; capacity = laid .capacity i; entries = []; commands = sym e i }
 
   pub read-count : countIn (l .state) ≡ length (o .commands)
   unfolding countIn
@@ -300,6 +306,11 @@ module _ (o : Setup) (s : State) (fo : SetupFormed o) (fs : Formed o s) (l : Lis
       rw (laid .capacity, laid .count)
       (both (both (both (both (eq-eqb _ _ (laid .long)) (eq-eqb _ _ (ap length (laid .answers) ∙ tabulate-length _ _))) (eq-eqb _ _ (ap length (laid .keys) ∙ fs .service .store .keys-length)))
       (eq-eqb _ _ (ap length (laid .chutes) ∙ fs .service .store .chutes-length))) (eq-eqb _ _ long))
+
+  -- the image too
+  pub fit-image : (commands : List ℕ) → imageFits (setupIn (l .state) commands .capacity) l ≡ true
+  unfolding imageFits setupIn
+  fit-image commands = rw (laid .capacity) (eq-eqb _ _ (ap length (laid .image) ∙ fs .service .image))
 
   -- its nodes and threads are within the graph size
   member-fits : (n : ℕ) → n < 151 → (y : ℕ) → y < 192 → (not (member (setAt (l .state) n) y) || leb y (o .size)) ≡ true
@@ -336,7 +347,7 @@ module _ (o : Setup) (s : State) (fo : SetupFormed o) (fs : Formed o s) where
   pub state-read-back : stateIn (listsOf o s) ≡ s
   state-read-back = read-state o s fo fs (listsOf o s) (lists-laid o s fo fs)
 
-  pub setup-read-back : (commands : List ℕ) → o .commands ≡ commandsIn commands → setupIn (stateBytes o s) commands ≡ o
+  pub setup-read-back : (commands : List ℕ) → o .commands ≡ commandsIn commands → setupIn (stateBytes o s) commands ≡ withoutEntries o
   setup-read-back commands same = rw (← lists-state o s) (read-setup o s fo fs (listsOf o s) (lists-laid o s fo fs) commands same)
 
   pub count-read-back : countIn (stateBytes o s) ≡ length (o .commands)
@@ -345,6 +356,9 @@ module _ (o : Setup) (s : State) (fo : SetupFormed o) (fs : Formed o s) where
   -- and pass the tests of a call
   pub lists-fit : (commands : List ℕ) → length commands ≡ 16 * length (o .commands) → handedBackFit (listsOf o s) commands ≡ true
   lists-fit = fit-handed-back o s fo fs (listsOf o s) (lists-laid o s fo fs)
+
+  pub image-fits : (commands : List ℕ) → imageFits (setupIn (stateBytes o s) commands .capacity) (listsOf o s) ≡ true
+  image-fits commands = rw (← lists-state o s) (fit-image o s fo fs (listsOf o s) (lists-laid o s fo fs) commands)
 
   pub state-fits : 1 ≤ o .size → 1 ≤ o .workers → s .service .limit ≤ o .largest → 1 ≤ o .capacity → ascends (s .service .store .used) (s .service .store .keys) ≡ true → stateFits (listsOf o s) ≡ true
   state-fits = fit-state o s fo fs (listsOf o s) (lists-laid o s fo fs)

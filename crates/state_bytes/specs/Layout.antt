@@ -11,31 +11,40 @@ use Rattle.node_set.specs.Members.{member, wordOf}
 use Rattle.model.specs.declared.Thread.{Thread}
 use Rattle.model.specs.declared.Thread.the-variants.{Idle, Loading, Searching, Holding, LookedUp, Written, Walking, Clearing}
 use Rattle.model.specs.Setup.{Setup}
+use Rattle.model.specs.Image.{imageLength}
 use Rattle.model.specs.Step.{State, node}
 use Rattle.command.specs.Read.{commandsIn}
 use Rattle.byte_fields.specs.Bytes.{bytesOf, numberAt, tabulate, fields, allBelow}
 
 -- ---- what the caller keeps between calls
 
--- state bytes, answers, keys and chutes
+-- state bytes, answers, keys, chutes and image
 pub record Lists : Type 0 where
   pub state : List ℕ
   pub answers : List ℕ
   pub keys : List ℕ
   pub chutes : List ℕ
+  pub image : List ℕ
 
+abbrev pub allLists : List ℕ → List ℕ → List ℕ → List ℕ → List ℕ → Lists
+allLists state keys chutes answers image = record { state = state; answers = answers; keys = keys; chutes = chutes; image = image }
+
+-- what a report is lent: no image
 abbrev pub lists : List ℕ → List ℕ → List ℕ → List ℕ → Lists
-lists state keys chutes answers = record { state = state; answers = answers; keys = keys; chutes = chutes }
+lists state keys chutes answers = allLists state keys chutes answers []
 
--- a list that a call is lent, and all four of them as they are at the call's entry and at its exit
+-- a list that a call is lent, and all of them as they are at the call's entry and at its exit
 abbrev pub Lent : Type 0
 Lent = Both (RefT (List ℕ)) (RefT (List ℕ))
 
 abbrev pub atEntry : Lent → Lent → Lent → Lent → Lists
 atEntry state keys chutes answers = lists (state .entry .now) (keys .entry .now) (chutes .entry .now) (answers .entry .now)
 
-abbrev pub atExit : Lent → Lent → Lent → Lent → Lists
-atExit state keys chutes answers = lists (state .exit .now) (keys .exit .now) (chutes .exit .now) (answers .exit .now)
+abbrev pub allAtEntry : Lent → Lent → Lent → Lent → Lent → Lists
+allAtEntry state keys chutes answers image = allLists (state .entry .now) (keys .entry .now) (chutes .entry .now) (answers .entry .now) (image .entry .now)
+
+abbrev pub allAtExit : Lent → Lent → Lent → Lent → Lent → Lists
+allAtExit state keys chutes answers image = allLists (state .exit .now) (keys .exit .now) (chutes .exit .now) (answers .exit .now) (image .exit .now)
 
 unfoldable pub stateLength : ℕ
 stateLength = 4718
@@ -90,6 +99,7 @@ listsOf o s = record {
   answers = tabulate (length (o .commands)) (λ i. s .service .answers (suc i));
   keys = s .service .store .keys;
   chutes = s .service .store .chutes;
+  image = s .service .image;
 }
 
 -- ---- bytes as a state
@@ -110,10 +120,10 @@ unfoldable pub setAt : List ℕ → ℕ → List ℕ
 unfolding numberAt
 setAt b n = numberAt 8 (769 + 24 * n) b ∷ numberAt 8 (777 + 24 * n) b ∷ numberAt 8 (785 + 24 * n) b ∷ []
 
--- the settings of state bytes, with the commands handed over beside them
+-- the settings of state bytes, with the commands handed over beside them; the opening's entries are not kept, and no step looks at them
 unfoldable pub setupIn : List ℕ → List ℕ → Setup
 unfolding numberAt commandsIn
-setupIn b commands = record { size = numberAt 1 1 b; workers = numberAt 1 2 b; largest = numberAt 1 3 b; capacity = numberAt 2 4 b; commands = commandsIn commands }
+setupIn b commands = record { size = numberAt 1 1 b; workers = numberAt 1 2 b; largest = numberAt 1 3 b; capacity = numberAt 2 4 b; entries = []; commands = commandsIn commands }
 
 unfoldable pub countIn : List ℕ → ℕ
 unfolding numberAt
@@ -136,6 +146,7 @@ stateIn l = record {
     store = record { keys = l .keys; chutes = l .chutes; used = numberAt 2 10 (l .state) };
     answers = λ c. getD (0 ∷ l .answers) c 0;
     limit = numberAt 1 13 (l .state);
+    image = l .image;
   };
 }
 
@@ -150,6 +161,10 @@ lengthsFit capacity count l =
 unfoldable pub handedBackFit : Lists → List ℕ → Bool
 handedBackFit l commands =
     lengthsFit (setupIn (l .state) commands .capacity) (countIn (l .state)) l && eqb (length commands) (16 * countIn (l .state))
+
+-- "An image of wrong length is 6" (02, A.3), of a call that can write it
+unfoldable pub imageFits : ℕ → Lists → Bool
+imageFits capacity l = eqb (length (l .image)) (imageLength capacity)
 
 -- ---- refusal 12: "a handed-back run whose own settings or command count break 1 to 5, whose record index or set passes the graph size,
 -- whose place passes the list, whose state is none of those named, or whose used store passes the room or doesn't ascend"

@@ -1,13 +1,13 @@
 // The tests of refusals 6, 12 and 11 on a handed-back state.
 ghost use mathlib.Core.Path.{_≡_};
-ghost use mathlib.Core.Bool.{cond, not, _||_};
+ghost use mathlib.Core.Bool.{true, cond, not, _||_};
 ghost use mathlib.Core.List.{List};
 ghost use Prim.Native.Nat.{ℕ, _≤_};
 ghost use lib.ListN.{length, getD};
 ghost use lib.Dec.{eqb, leb};
 ghost use Rattle.model.specs.Statement.{allWithin};
 ghost use Rattle.byte_fields.specs.Bytes.{allBelow};
-ghost use Rattle.state_bytes.specs.Layout.{Lists, stateLength, headFits, settingsFit, nodeFitsAt, threadFits, threadFitsAt, ascends, stateFits, handedBackFit};
+ghost use Rattle.state_bytes.specs.Layout.{Lists, setupIn, stateLength, headFits, settingsFit, nodeFitsAt, threadFits, threadFitsAt, ascends, stateFits, handedBackFit, imageFits};
 use crate::layout::CAPACITY;
 use crate::layout::CHAIN;
 use crate::layout::COUNT;
@@ -27,6 +27,7 @@ use crate::layout::USED;
 use crate::layout::WORKERS;
 use crate::read::set_at;
 use byte_fields::number_at;
+use image::SLOT;
 use node_set::is_within;
 
 // Refusal 6: whether the lists are as long as the state's own settings say.
@@ -54,6 +55,17 @@ pub fn lengths_fit(
         return false;
     }
     commands == 16 * count
+}
+
+// The same for the image, where the other lists fit.
+pub fn image_fits(state: &[u8], image: usize) -> bool
+    ensures { λ r. ⌜ ((l : Lists) (list : List ℕ) → l .state ≡ now (state .entry) → length (l .image) ≡ image → handedBackFit l list ≡ true → imageFits (setupIn (l .state) list .capacity) l ≡ r) ⌝ }
+{
+    if state.len() != STATE_LENGTH {
+        return false;
+    }
+    let capacity = number_at(state, CAPACITY) as usize;
+    image == SLOT * (capacity + 1)
 }
 
 // Whether the settings and the number of commands are in range.

@@ -4,6 +4,7 @@ mod layout;
 mod read;
 mod write;
 
+pub use fits::image_fits;
 pub use fits::lengths_fit;
 pub use fits::state_fits;
 pub use fits::threads_named;

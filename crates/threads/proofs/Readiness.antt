@@ -15,9 +15,9 @@ withArrays next seq executing locked waits free m = record {
   service = m .service;
 }
 
--- a memory with another store, other answers and another count in force
-abbrev pub withStore : List ℕ → List ℕ → List ℕ → ℕ → ℕ → Memory → Memory
-withStore keys chutes answers used limit m = record { graph = m .graph; service = record { keys = keys; chutes = chutes; answers = answers; used = used; limit = limit } }
+-- a memory with another store, other answers, another image and another count in force
+abbrev pub withStore : List ℕ → List ℕ → List ℕ → List ℕ → ℕ → ℕ → Memory → Memory
+withStore keys chutes answers image used limit m = record { graph = m .graph; service = record { keys = keys; chutes = chutes; answers = answers; image = image; used = used; limit = limit } }
 
 -- a step from a state that is known
 pub from-known : {list kinds itemKeys itemChutes : List ℕ} {t : ℕ} {m : Memory} {kinds′ itemKeys′ itemChutes′ : List ℕ} {thread known thread′ : Thread} {m′ : Memory}
@@ -37,14 +37,14 @@ module _ (list kinds itemKeys itemChutes : List ℕ) (m : Memory) (thread : Thre
   graph-ready thread′ next′ executing′ locked′ waits′ nodes within =
       record { nodes = nodes; free = ready .free; within = within; kept = ready .kept; whole = ready .whole; few = ready .few }
 
-  -- a store of any contents, with as many answers, is ready: readiness does not speak of it
-  pub store-ready : (thread′ : Thread) (keys′ chutes′ answers′ : List ℕ) (used′ limit′ : ℕ) → length answers′ ≡ length (m .service .answers) → NodesWithin thread′
-      → Ready list kinds itemKeys itemChutes (withStore keys′ chutes′ answers′ used′ limit′ m) thread′
-  store-ready thread′ keys′ chutes′ answers′ used′ limit′ count within =
+  -- a store and an image of any contents, with as many answers, is ready: readiness does not speak of it
+  pub store-ready : (thread′ : Thread) (keys′ chutes′ answers′ image′ : List ℕ) (used′ limit′ : ℕ) → length answers′ ≡ length (m .service .answers) → NodesWithin thread′
+      → Ready list kinds itemKeys itemChutes (withStore keys′ chutes′ answers′ image′ used′ limit′ m) thread′
+  store-ready thread′ keys′ chutes′ answers′ image′ used′ limit′ count within =
       record { nodes = ready .nodes; free = ready .free; within = within; kept = ready .kept; whole = rw count (ready .whole); few = rw count (ready .few) }
 
   -- nor does it speak of flags and sets
-  pub ready-beside : (executing : List Bool) (waits : List (List ℕ)) (keys chutes : List ℕ)
-      → Ready list kinds itemKeys itemChutes (withStore keys chutes (m .service .answers) (m .service .used) (m .service .limit) (withArrays (m .graph .next) (m .graph .seq) executing (m .graph .locked) waits (m .graph .free) m)) thread
-  ready-beside executing waits keys chutes =
+  pub ready-beside : (executing : List Bool) (waits : List (List ℕ)) (keys chutes image : List ℕ)
+      → Ready list kinds itemKeys itemChutes (withStore keys chutes (m .service .answers) image (m .service .used) (m .service .limit) (withArrays (m .graph .next) (m .graph .seq) executing (m .graph .locked) waits (m .graph .free) m)) thread
+  ready-beside executing waits keys chutes image =
       record { nodes = ready .nodes; free = ready .free; within = ready .within; kept = ready .kept; whole = ready .whole; few = ready .few }

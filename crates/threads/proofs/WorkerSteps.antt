@@ -27,8 +27,8 @@ use Rattle.store.specs.Lists.{storeOf}
 use Rattle.graph.specs.Arrays.{numbers, flags, Nodes, NodesWithin, Shows, Entered, Searches, Walks, ClearsOn}
 use Rattle.command.specs.Read.{commandsIn}
 use Rattle.graph.specs.Items.{keptAt, Kept}
-use Rattle.graph.specs.Memory.{Memory, memory, shown, limitAfter, Ready, Steps, Writes}
-use Rattle.graph.proofs.Writing.{read-keeps-limit}
+use Rattle.graph.specs.Memory.{Memory, memory, shown, limitAfter, imageFor, Ready, Steps, Writes}
+use Rattle.graph.proofs.Writing.{read-keeps-limit, read-keeps-image}
 use Rattle.threads.proofs.Readiness.{withArrays, withStore, graph-ready, store-ready}
 
 -- what a worker's step makes of memory and threads, by the worker's state
@@ -77,7 +77,7 @@ module _ (at own : Node) (free : ℕ) (next seq : List ℕ) (executing locked : 
       was t = Clearing at own
 
       s : State
-      s = shown (memory next seq executing locked waits [] [] [] (record { free = node free; loaded = record { 0 = 0 }; used = 0; limit = 0 })) was
+      s = shown (memory next seq executing locked waits [] [] [] [] (record { free = node free; loaded = record { 0 = 0 }; used = 0; limit = 0 })) was
 
       showing : Shows (s .graph) next seq executing locked waits
       showing = record { next-is = refl; seq-is = refl; executing-is = refl; locked-is = refl; waits-is = refl }
@@ -157,21 +157,25 @@ module _ (list kinds itemKeys itemChutes : List ℕ) (t : ℕ) (other : t ≡ 0 
     command-kept thread o threads ready small commands = rw commands (sym (ready .kept (own .0) small))
 
     module _ (item : Option Command) (item-is : item ≡ keptAt kinds itemKeys itemChutes (own .0)) where
+      -- the image after the command of a place is written
+      abbrev saved : ℕ → List ℕ
+      saved place = imageFor item (length (m .service .keys)) place (storeOf (m .service .keys) (m .service .chutes) (m .service .used)) (m .service .image)
+
       -- what a worker with that command writes after a lookup is what the model writes
       module _ (thread : Thread) (ready : Ready list kinds itemKeys itemChutes m thread) (small : own .0 ≤ 150) (place : ℕ) (place-is : place ≡ numbers (m .graph .seq) (own .0))
           (found : ℕ) (keys′ chutes′ answers′ : List ℕ) (used′ : ℕ)
           (writes : Writes item place found (m .service .keys) (m .service .chutes) (m .service .answers) (m .service .used) keys′ chutes′ answers′ used′)
           (count : length answers′ ≡ length (m .service .answers)) where
         abbrev written : Memory
-        written = withStore keys′ chutes′ answers′ used′ (limitAfter item (m .service .limit)) m
+        written = withStore keys′ chutes′ answers′ (saved place) used′ (limitAfter item (m .service .limit)) m
 
         writes-as-model : (o : Setup) (threads : ℕ → Thread) → o .commands ≡ commandsIn list → o .capacity ≡ length (m .service .keys)
             → lookedUp o t (own .0) found (shown m threads) ≡ shown written (upd threads t (Written own))
         unfolding lookedUp serveTo
-        writes-as-model o threads commands capacity = rw (command-kept thread o threads ready small commands, ← item-is, ← place-is, writes o (m .service .limit) capacity)
+        writes-as-model o threads commands capacity = rw (command-kept thread o threads ready small commands, ← item-is, ← place-is, writes o (m .service .limit) (m .service .image) capacity)
 
         written-ready : Ready list kinds itemKeys itemChutes written (Written own)
-        written-ready = store-ready list kinds itemKeys itemChutes m thread ready (Written own) keys′ chutes′ answers′ used′ _ count small
+        written-ready = store-ready list kinds itemKeys itemChutes m thread ready (Written own) keys′ chutes′ answers′ _ used′ _ count small
 
       -- a holding worker finds what the model's lookup of that command finds, and writes at once what is written in one step
       module _ (ready : Ready list kinds itemKeys itemChutes m (Holding own)) (found : ℕ)
@@ -181,31 +185,32 @@ module _ (list kinds itemKeys itemChutes : List ℕ) (t : ℕ) (other : t ≡ 0 
         holding-looks-up two =
             worker-steps kinds itemKeys itemChutes (Holding own) (LookedUp own found) m
             (λ o threads commands capacity is. rw (command-kept (Holding own) o threads ready (ready .within) commands, ← item-is, two, ← found-is))
-            (store-ready list kinds itemKeys itemChutes m (Holding own) ready (LookedUp own found) (m .service .keys) (m .service .chutes) (m .service .answers) (m .service .used) (m .service .limit) refl (ready .within))
+            (store-ready list kinds itemKeys itemChutes m (Holding own) ready (LookedUp own found) (m .service .keys) (m .service .chutes) (m .service .answers) (m .service .image) (m .service .used) (m .service .limit) refl (ready .within))
 
         -- the store stays, whatever is written in one step
         pub holding-writes : inOneStep item ≡ true → (place : ℕ) → place ≡ numbers (m .graph .seq) (own .0) → (answers′ : List ℕ)
             → Writes item place found (m .service .keys) (m .service .chutes) (m .service .answers) (m .service .used) (m .service .keys) (m .service .chutes) answers′ (m .service .used)
             → length answers′ ≡ length (m .service .answers)
-            → Steps list t (Holding own) m kinds itemKeys itemChutes (Written own) (withStore (m .service .keys) (m .service .chutes) answers′ (m .service .used) (m .service .limit) m)
+            → Steps list t (Holding own) m kinds itemKeys itemChutes (Written own) (withStore (m .service .keys) (m .service .chutes) answers′ (m .service .image) (m .service .used) (m .service .limit) m)
         unfolding workerStep holding
         holding-writes one place place-is answers′ writes count =
             let kept = read-keeps-limit item one (m .service .limit) in
-            worker-steps kinds itemKeys itemChutes (Holding own) (Written own) (withStore (m .service .keys) (m .service .chutes) answers′ (m .service .used) (m .service .limit) m)
+            let same-image = read-keeps-image item one (length (m .service .keys)) place (storeOf (m .service .keys) (m .service .chutes) (m .service .used)) (m .service .image) in
+            worker-steps kinds itemKeys itemChutes (Holding own) (Written own) (withStore (m .service .keys) (m .service .chutes) answers′ (m .service .image) (m .service .used) (m .service .limit) m)
             (λ o threads commands capacity is.
             let same = command-kept (Holding own) o threads ready (ready .within) commands ∙ sym item-is in
             rw (ap inOneStep same ∙ one, ap (λ (c : Option Command). foundFor c (shown m threads .service .store)) same ∙ sym found-is)
-            (rw kept at (writes-as-model (Holding own) ready (ready .within) place place-is found _ _ answers′ _ writes count o threads commands capacity)))
-            (store-ready list kinds itemKeys itemChutes m (Holding own) ready (Written own) _ _ answers′ _ _ count (ready .within))
+            (rw (kept, same-image) at (writes-as-model (Holding own) ready (ready .within) place place-is found _ _ answers′ _ writes count o threads commands capacity)))
+            (store-ready list kinds itemKeys itemChutes m (Holding own) ready (Written own) _ _ answers′ _ _ _ count (ready .within))
 
       -- and one that has looked up writes
       pub looked-up-writes : (place : ℕ) → place ≡ numbers (m .graph .seq) (own .0) → (found : ℕ) (keys′ chutes′ answers′ : List ℕ) (used′ : ℕ)
           → Writes item place found (m .service .keys) (m .service .chutes) (m .service .answers) (m .service .used) keys′ chutes′ answers′ used′
           → length answers′ ≡ length (m .service .answers) → Ready list kinds itemKeys itemChutes m (LookedUp own found)
-          → Steps list t (LookedUp own found) m kinds itemKeys itemChutes (Written own) (withStore keys′ chutes′ answers′ used′ (limitAfter item (m .service .limit)) m)
+          → Steps list t (LookedUp own found) m kinds itemKeys itemChutes (Written own) (withStore keys′ chutes′ answers′ (saved place) used′ (limitAfter item (m .service .limit)) m)
       unfolding workerStep
       looked-up-writes place place-is found keys′ chutes′ answers′ used′ writes count ready =
-          worker-steps kinds itemKeys itemChutes (LookedUp own found) (Written own) (withStore keys′ chutes′ answers′ used′ (limitAfter item (m .service .limit)) m)
+          worker-steps kinds itemKeys itemChutes (LookedUp own found) (Written own) (withStore keys′ chutes′ answers′ (saved place) used′ (limitAfter item (m .service .limit)) m)
           (λ o threads commands capacity is. writes-as-model (LookedUp own found) ready (ready .within) place place-is found keys′ chutes′ answers′ used′ writes count o threads commands capacity)
           (written-ready (LookedUp own found) ready (ready .within) place place-is found keys′ chutes′ answers′ used′ writes count)
 

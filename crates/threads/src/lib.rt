@@ -1,6 +1,8 @@
 // A thread's step: which kind of step on the graph's arrays its state asks for. Together they are the model's `step`.
 ghost use mathlib.Core.Path.{_≡_};
+ghost use lib.ListN.{length};
 ghost use lib.Dec.{leb};
+ghost use Rattle.model.specs.Image.{imageLength};
 ghost use Rattle.graph.specs.Memory.{Ready, Steps, memory};
 
 mod loader_thread;
@@ -37,16 +39,17 @@ pub fn step(
     keys: &mut [u64],
     chutes: &mut [u16],
     answers: &mut [u16],
+    image: &mut [u8],
     list: &[u8],
     t: u8,
     thread: Thread,
     counters: Counters,
 ) -> Stepped
-    requires { ⌜ Ready (now list) (now kinds) (now «item_keys») (now «item_chutes») (memory (now next) (now seq) (now executing) (now locked) (now waits) (now keys) (now chutes) (now answers) counters) thread ⌝ }
+    requires { ⌜ Ready (now list) (now kinds) (now «item_keys») (now «item_chutes») (memory (now next) (now seq) (now executing) (now locked) (now waits) (now keys) (now chutes) (now answers) (now image) counters) thread × (length (now image) ≡ imageLength (length (now keys))) ⌝ }
     ensures { λ r. ⌜ Steps (now (list .entry)) t thread
-        (memory (now (next .entry)) (now (seq .entry)) (now (executing .entry)) (now (locked .entry)) (now (waits .entry)) (now (keys .entry)) (now (chutes .entry)) (now (answers .entry)) counters)
+        (memory (now (next .entry)) (now (seq .entry)) (now (executing .entry)) (now (locked .entry)) (now (waits .entry)) (now (keys .entry)) (now (chutes .entry)) (now (answers .entry)) (now (image .entry)) counters)
         (now (kinds .exit)) (now («item_keys» .exit)) (now («item_chutes» .exit)) (r .thread)
-        (memory (now (next .exit)) (now (seq .exit)) (now (executing .exit)) (now (locked .exit)) (now (waits .exit)) (now (keys .exit)) (now (chutes .exit)) (now (answers .exit)) (r .counters)) ⌝ }
+        (memory (now (next .exit)) (now (seq .exit)) (now (executing .exit)) (now (locked .exit)) (now (waits .exit)) (now (keys .exit)) (now (chutes .exit)) (now (answers .exit)) (now (image .exit)) (r .counters)) ⌝ }
 {
     if t == 0 {
         return loader_step(
@@ -77,6 +80,7 @@ pub fn step(
         keys,
         chutes,
         answers,
+        image,
         allowed,
         thread,
         counters,

@@ -26,11 +26,11 @@ fn load_next(
     list: &[u8],
     counters: Counters,
 ) -> Stepped
-    requires { ⌜ Ready (now list) (now kinds) (now «item_keys») (now «item_chutes») (memory (now next) (now seq) [] (now locked) [] [] [] (now answers) counters) Idle ⌝ }
-    ensures { λ r. ⌜ ((executing : List Bool) (waits : List (List ℕ)) (keys chutes : List ℕ) → Steps (now (list .entry)) 0 Idle
-        (memory (now (next .entry)) (now (seq .entry)) executing (now (locked .entry)) waits keys chutes (now (answers .entry)) counters)
+    requires { ⌜ Ready (now list) (now kinds) (now «item_keys») (now «item_chutes») (memory (now next) (now seq) [] (now locked) [] [] [] (now answers) [] counters) Idle ⌝ }
+    ensures { λ r. ⌜ ((executing : List Bool) (waits : List (List ℕ)) (keys chutes image : List ℕ) → Steps (now (list .entry)) 0 Idle
+        (memory (now (next .entry)) (now (seq .entry)) executing (now (locked .entry)) waits keys chutes (now (answers .entry)) image counters)
         (now (kinds .exit)) (now («item_keys» .exit)) (now («item_chutes» .exit)) (r .thread)
-        (memory (now (next .exit)) (now (seq .exit)) executing (now (locked .exit)) waits keys chutes (now (answers .entry)) (r .counters))) ⌝ }
+        (memory (now (next .exit)) (now (seq .exit)) executing (now (locked .exit)) waits keys chutes (now (answers .entry)) image (r .counters))) ⌝ }
 {
     let free = counters.free;
     let loaded = counters.loaded;
@@ -72,11 +72,11 @@ pub fn loader_step(
     thread: Thread,
     counters: Counters,
 ) -> Stepped
-    requires { ⌜ Ready (now list) (now kinds) (now «item_keys») (now «item_chutes») (memory (now next) (now seq) (now executing) (now locked) (now waits) [] [] (now answers) counters) thread ⌝ }
-    ensures { λ r. ⌜ ((keys chutes : List ℕ) → Steps (now (list .entry)) 0 thread
-        (memory (now (next .entry)) (now (seq .entry)) (now (executing .entry)) (now (locked .entry)) (now (waits .entry)) keys chutes (now (answers .entry)) counters)
+    requires { ⌜ Ready (now list) (now kinds) (now «item_keys») (now «item_chutes») (memory (now next) (now seq) (now executing) (now locked) (now waits) [] [] (now answers) [] counters) thread ⌝ }
+    ensures { λ r. ⌜ ((keys chutes image : List ℕ) → Steps (now (list .entry)) 0 thread
+        (memory (now (next .entry)) (now (seq .entry)) (now (executing .entry)) (now (locked .entry)) (now (waits .entry)) keys chutes (now (answers .entry)) image counters)
         (now (kinds .exit)) (now («item_keys» .exit)) (now («item_chutes» .exit)) (r .thread)
-        (memory (now (next .exit)) (now (seq .exit)) (now (executing .exit)) (now (locked .exit)) (now (waits .exit)) keys chutes (now (answers .entry)) (r .counters))) ⌝ }
+        (memory (now (next .exit)) (now (seq .exit)) (now (executing .exit)) (now (locked .exit)) (now (waits .exit)) keys chutes (now (answers .entry)) image (r .counters))) ⌝ }
 {
     match thread {
         Thread::Idle => load_next(

@@ -18,6 +18,7 @@ use graph::in_one_step;
 use graph::item_of;
 use graph::limit_after;
 use graph::look_up;
+use graph::save;
 use graph::search;
 use graph::walk;
 use graph::write;
@@ -72,18 +73,19 @@ pub fn worker_step(
     keys: &mut [u64],
     chutes: &mut [u16],
     answers: &mut [u16],
+    image: &mut [u8],
     allowed: bool,
     thread: Thread,
     counters: Counters,
 ) -> Stepped
-    requires { ⌜ WorkerReady (now next) (now seq) (now kinds) (now «item_keys») (now «item_chutes») (now answers) (counters .free .0) thread ⌝ }
+    requires { ⌜ WorkerReady (now next) (now seq) (now kinds) (now «item_keys») (now «item_chutes») (now keys) (now answers) (now image) (counters .free .0) thread ⌝ }
     ensures { λ r. ⌜ ((list : List ℕ) (t : ℕ) → (t ≡ 0 → ⊥) → leb t (counters .limit) ≡ allowed
         → Ready list (now (kinds .entry)) (now («item_keys» .entry)) (now («item_chutes» .entry))
-        (memory (now (next .entry)) (now (seq .entry)) (now (executing .entry)) (now (locked .entry)) (now (waits .entry)) (now (keys .entry)) (now (chutes .entry)) (now (answers .entry)) counters) thread
+        (memory (now (next .entry)) (now (seq .entry)) (now (executing .entry)) (now (locked .entry)) (now (waits .entry)) (now (keys .entry)) (now (chutes .entry)) (now (answers .entry)) (now (image .entry)) counters) thread
         → Steps list t thread
-        (memory (now (next .entry)) (now (seq .entry)) (now (executing .entry)) (now (locked .entry)) (now (waits .entry)) (now (keys .entry)) (now (chutes .entry)) (now (answers .entry)) counters)
+        (memory (now (next .entry)) (now (seq .entry)) (now (executing .entry)) (now (locked .entry)) (now (waits .entry)) (now (keys .entry)) (now (chutes .entry)) (now (answers .entry)) (now (image .entry)) counters)
         (now (kinds .exit)) (now («item_keys» .exit)) (now («item_chutes» .exit)) (r .thread)
-        (memory (now (next .exit)) (now (seq .exit)) (now (executing .exit)) (now (locked .exit)) (now (waits .exit)) (now (keys .exit)) (now (chutes .exit)) (now (answers .exit)) (r .counters))) ⌝ }
+        (memory (now (next .exit)) (now (seq .exit)) (now (executing .exit)) (now (locked .exit)) (now (waits .exit)) (now (keys .exit)) (now (chutes .exit)) (now (answers .exit)) (now (image .exit)) (r .counters))) ⌝ }
 {
     let free = counters.free;
     let loaded = counters.loaded;
@@ -112,6 +114,7 @@ pub fn worker_step(
         Thread::LookedUp { own, found } => {
             let item = item_of(kinds, item_keys, item_chutes, own);
             let place = place_of(seq[own.0 as usize]);
+            save(item, place, keys, chutes, used, image);
             let used = write(item, place, found, keys, chutes, answers, used);
             let limit = limit_after(item, limit);
             let thread = Thread::Written { own };

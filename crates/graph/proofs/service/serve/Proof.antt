@@ -48,6 +48,9 @@ replace-requires c κs = search needs
 enum-told-5 : tie.Need-enum-told-5
 enum-told-5 c = search needs
 
+enum-told-6 : tie.Need-enum-told-6
+enum-told-6 c = search needs
+
 same-length : tie.Need-same-length
 same-length c = search needs
 
@@ -92,6 +95,10 @@ returns-7 : tie.Need-returns-7
 unfolding writeKind
 returns-7 c = rw (c .enum-told5 .given .1)
 
+returns-8 : tie.Need-returns-8
+unfolding writeKind
+returns-8 c = rw (c .enum-told6 .given .1)
+
 pub serve-spec : {M : Type 1} → statement M
 serve-spec =
     tie.close
@@ -107,6 +114,7 @@ serve-spec =
     returns-2
     replace-requires
     enum-told-5
+    enum-told-6
     same-length
     same-length-2
     returns-3
@@ -117,4 +125,5 @@ serve-spec =
     same-length-5
     same-length-6
     returns-6
-    returns-7)
+    returns-7
+    returns-8)

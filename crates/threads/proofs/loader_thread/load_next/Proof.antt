@@ -31,14 +31,14 @@ returns c =
     let start = entry (c .before) in
     let a = start .args in
     let tests = blocked-if (length (a .answers .now)) (a .counters .loaded .0) (a .counters .free .0) (a .locked .now) in
-    λ executing waits keys chutes. load-waits _ _ _ _ _
+    λ executing waits keys chutes image. load-waits _ _ _ _ _
     (⊎-elim
     (λ w. tests true _ _ (le-leb _ _ (w .taken)) refl refl)
     (⊎-elim
     (λ w. tests false true _ (lt-leb _ _ (w .0 .left)) (w .2 .taken) refl)
     (λ w. tests false false true (lt-leb _ _ (w .0 .left)) (w .2 .left) (w .4 .taken)))
     (c .if1 .came))
-    (ready-beside _ _ _ _ _ _ (start .pre) executing waits keys chutes)
+    (ready-beside _ _ _ _ _ _ (start .pre) executing waits keys chutes image)
 
 add-t22 : tie.Need-add-t22
 add-t22 c = search needs
@@ -63,9 +63,9 @@ returns-2 c =
     let a = start .args in
     let free = blocked-if (length (a .answers .now)) (a .counters .loaded .0) (a .counters .free .0) (a .locked .now) false false false
     (lt-leb _ _ (test1 .if1 .left)) (test2 .if2 .left) (test3 .if3 .left) in
-    λ executing waits keys chutes. load-takes _ _ _ _ _ _ _ _ _ _ _ _ _
+    λ executing waits keys chutes image. load-takes _ _ _ _ _ _ _ _ _ _ _ _ _
     free (c .load .ensures) (read .command-at .ensures) (kept .keep .ensures)
-    (ready-beside _ _ _ _ _ _ (start .pre) executing waits keys chutes)
+    (ready-beside _ _ _ _ _ _ (start .pre) executing waits keys chutes image)
 
 pub load-next-spec : {M : Type 1} → statement M
 load-next-spec =

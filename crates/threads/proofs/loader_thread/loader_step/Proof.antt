@@ -37,21 +37,21 @@ returns : tie.Need-returns
 returns c =
     let start = entry (idle c .before .before) in
     let known = idle c in
-    λ keys chutes. from-known (known .enum-told .given .1) (λ ready. c .load-next .ensures (start .args .executing .now) (start .args .waits .now) keys chutes)
-    (ready-beside _ _ _ _ _ _ (start .pre) _ _ keys chutes)
+    λ keys chutes image. from-known (known .enum-told .given .1) (λ ready. c .load-next .ensures (start .args .executing .now) (start .args .waits .now) keys chutes image)
+    (ready-beside _ _ _ _ _ _ (start .pre) _ _ keys chutes image)
 
 returns-2 : tie.Need-returns-2
 returns-2 c =
     let start = entry (loading (c .before) .before .before) in
     let known = loading (c .before) in
-    λ keys chutes. from-known (known .thread .given .1)
+    λ keys chutes image. from-known (known .thread .given .1)
     (walk-steps _ _ _ _ _ (known .thread .given .0 .0) (known .thread .given .0 .1 .0) _ _ _ _ _ (c .loader-walk .ensures .1) (c .loader-walk .ensures .0 .0) (c .loader-walk .ensures .0 .1))
-    (ready-beside _ _ _ _ _ _ (start .pre) _ _ keys chutes)
+    (ready-beside _ _ _ _ _ _ (start .pre) _ _ keys chutes image)
 
 returns-3 : tie.Need-returns-3
 returns-3 c =
     let start = c .before .before .before in
-    λ keys chutes. worker-state-waits _ _ _ _ _ (start .args .thread) (c .match .keys3) (ready-beside _ _ _ _ _ _ (start .pre) _ _ keys chutes)
+    λ keys chutes image. worker-state-waits _ _ _ _ _ (start .args .thread) (c .match .keys3) (ready-beside _ _ _ _ _ _ (start .pre) _ _ keys chutes image)
 
 pub loader-step-spec : {M : Type 1} → statement M
 loader-step-spec =

@@ -14,7 +14,7 @@ use Rattle.threads.proofs.worker_thread.worker_step.Tie as tie
 
 -- the function's entry, from where the cases part
 abbrev entry : tie.After-loaded → tie.Start
-entry c = c .before .before .before .before .before
+entry c = c .before .before .before .before .before .before
 
 -- where the worker searches, from its step
 abbrev searching : tie.After-search-arg4 → tie.After-thread
@@ -39,11 +39,15 @@ abbrev looked-up : tie.After-struct-known2 → tie.After-thread3
 looked-up c = c .before .before .before .before
 
 -- the call that writes, from where the slices are known after it
-abbrev write-called : tie.After-slice-known7 → tie.After-write
+abbrev write-called : tie.After-slice-known9 → tie.After-write
 write-called c = c .before .before .before .before .before .before
 
--- the call that reads the place, from the call that writes
-abbrev place-called : tie.After-write → tie.After-place-of2
+-- the call that saves the store, from the call that writes
+abbrev save-called : tie.After-write → tie.After-save
+save-called c = c .before .before .before .before .before .before
+
+-- the call that reads the place, from the call that saves
+abbrev place-called : tie.After-save → tie.After-place-of2
 place-called c = c .before .before .before .before
 
 -- where the worker walks, from its step
@@ -163,10 +167,17 @@ element-copy-out-place-of-2 c =
 place-of-requires-2 : tie.Need-place-of-requires-2
 place-of-requires-2 c κs = search needs
 
+save-requires : tie.Need-save-requires
+save-requires c κs =
+    let placed = c .before .before .before in
+    let item = placed .before .before .before in
+    let known = item .before .before .before in
+    entry (known .before .before) .pre .imaged
+
 write-requires : tie.Need-write-requires
 write-requires c κs =
     λ command e.
-    let placed = c .before .before .before in
+    let placed = place-called (c .before .before .before .before .before) in
     let item = placed .before .before .before in
     let known = item .before .before .before in
     let start = entry (known .before .before) in
@@ -185,14 +196,18 @@ same-length-5 c = search needs
 same-length-6 : tie.Need-same-length-6
 same-length-6 c = search needs
 
+same-length-7 : tie.Need-same-length-7
+same-length-7 c = search needs
+
 returns-3 : tie.Need-returns-3
 returns-3 c =
     let written = write-called (c .before) in
-    let placed = place-called written in
+    let saved = save-called written in
+    let placed = place-called saved in
     let item = placed .before .before .before in
     let known = item .before .before .before in
     let fields = known .thread3 .given .0 in
-    λ list t other al. rw (c .limit-after .ensures) (from-known (known .thread3 .given .1)
+    λ list t other al. rw (c .limit-after .ensures, saved .save .ensures) (from-known (known .thread3 .given .1)
     (looked-up-writes _ _ _ _ _ other _ (fields .0) _ (item .item-of2 .ensures) _ (placed .place-of2 .ensures) (fields .1 .0) _ _ _ _
     (written .write .ensures) (written .write .kept .1 .1 .1 .1 .1 .0)))
 
@@ -250,11 +265,11 @@ returns-7 c =
     λ list t other al. from-known (known .thread .given .1)
     (searching-steps _ _ _ _ _ other _ (known .thread .given .0 .0) _ al _ _ _ (c .search .ensures .1) (c .search .ensures .0))
 
-same-length-7 : tie.Need-same-length-7
-same-length-7 c = search needs
-
 same-length-8 : tie.Need-same-length-8
 same-length-8 c = search needs
+
+same-length-9 : tie.Need-same-length-9
+same-length-9 c = search needs
 
 returns-8 : tie.Need-returns-8
 returns-8 c =
@@ -305,11 +320,13 @@ worker-step-spec =
     mul-place-of-2
     element-copy-out-place-of-2
     place-of-requires-2
+    save-requires
     write-requires
     limit-after-requires
     same-length-4
     same-length-5
     same-length-6
+    same-length-7
     returns-3
     enum-known-thread-4
     enter-requires-2
@@ -321,8 +338,8 @@ worker-step-spec =
     returns-5
     returns-6
     returns-7
-    same-length-7
     same-length-8
+    same-length-9
     returns-8
     returns-9
     returns-10)
