@@ -45,6 +45,6 @@ module _ (o : Setup) (acc : Accepted o) (commands : List ℕ) (same : o .command
       }
 
 pub count-is-kept-over-calls : CountIsKeptOverCalls
-count-is-kept-over-calls size workers capacity commands lent l e calls proper =
-    let r = opening-and-calls-reach size workers capacity commands lent l e calls proper in
+count-is-kept-over-calls size workers capacity commands source lent l e calls proper =
+    let r = opening-and-calls-reach size workers capacity commands source lent l e calls proper in
     count-kept _ (r .0 .setup) commands refl (r .0 .long) (listsAfter calls l) (schedules calls) (r .1)

@@ -11,23 +11,24 @@ use lib.Dec.{leb, ltb}
 use borrow.Author.Tests.{lt-ltb, le-leb}
 use Rattle.model.specs.Serial.{Entry}
 use Rattle.model.specs.Store.{layOut}
-use Rattle.model.specs.Setup.{Setup}
+use Rattle.model.specs.Setup.{Setup, withoutEntries}
 use Rattle.model.specs.Step.{State, opened, steps}
 use Rattle.model.specs.Statement.{Accepted, allWithin, Holds}
-use Rattle.model.specs.Proof.Serial.{Ascending}
+use Rattle.model.specs.Serial.{Ascending}
 use Rattle.model.specs.Proof.Service.{entries-ascending, count-within}
 use Rattle.model.specs.Proof.Finish.Schedule.{steps-append, within-append}
 use Rattle.model.specs.Proof.Theorem.{reached, table-at-any-moment, demand-3}
+use Rattle.model.specs.Proof.Entries.{steps-without}
 use Rattle.model.specs.Proof.Formed.{Formed}
 use Rattle.model.specs.Proof.Formed.Keep.{steps-formed}
 use Rattle.model.specs.Proof.Formed.Opening.{opened-formed, accepted-formed}
 use Rattle.s10.specs.Refusal.{plain}
 use Rattle.command.specs.Read.{commandsIn}
-use Rattle.state_bytes.specs.Layout.{Lists, listsOf, setupIn, stateIn, ascends, stateFits, handedBackFit}
-use Rattle.controller.specs.Calls.{CallOutcome, accepted, refused, kept, openOn, advanceOn, setupOf}
+use Rattle.state_bytes.specs.Layout.{Lists, headBytes, stateBytes, listsOf, setupIn, stateIn, ascends, stateFits, handedBackFit, imageFits}
+use Rattle.controller.specs.Calls.{Source, CallOutcome, accepted, refused, kept, openOn, advanceOn, setupOf}
 use Rattle.controller.specs.Demand3.{Call, callOn, listsAfter, ProperCall, Proper, accepts, schedules, HoldsAfter, Demand3OverCalls}
 use Rattle.byte_fields.proofs.Bytes.{below-or-past, each-all-below}
-use Rattle.state_bytes.proofs.RoundTrip.{lists-state, state-read-back, setup-read-back, lists-fit, state-fits}
+use Rattle.state_bytes.proofs.RoundTrip.{lists-state, state-read-back, setup-read-back, lists-fit, image-fits, state-fits}
 use Rattle.controller.proofs.AcceptedOpening.{passed, IsOpened, accepted-opening}
 
 -- ---- the store's keys ascend
@@ -62,11 +63,16 @@ unfolding stateIn
 answer-in l c = refl
 
 -- a call on lists that fit performs its schedule on what is read of them, or refuses an unknown thread
-advance-is : (l : Lists) (commands schedule : List ℕ) (o : Setup) (s : State) → handedBackFit l commands ≡ true → stateFits l ≡ true
-    → setupIn (l .state) commands ≡ o → stateIn l ≡ s
+-- lists hold nothing of the opening's entries
+lists-without : (o : Setup) (s : State) → listsOf (withoutEntries o) s ≡ listsOf o s
+unfolding listsOf stateBytes headBytes
+lists-without o s = refl
+
+advance-is : (l : Lists) (commands schedule : List ℕ) (o : Setup) (s : State) → handedBackFit l commands ≡ true → imageFits (setupIn (l .state) commands .capacity) l ≡ true
+    → stateFits l ≡ true → setupIn (l .state) commands ≡ withoutEntries o → stateIn l ≡ s
     → advanceOn l commands schedule ≡ cond (allWithin (o .largest) schedule) (accepted (listsOf o (steps o schedule s))) (refused (plain 11))
 unfolding advanceOn
-advance-is l commands schedule o s fit whole setup state = rw (fit, whole, setup, state)
+advance-is l commands schedule o s fit imaged whole setup state = rw (fit, imaged, whole, setup, state, steps-without o schedule s, lists-without o (steps o schedule s))
 
 -- the lists are those that a schedule reaches from the opening
 abbrev pub Reach : Setup → Lists → List ℕ → Type 0
@@ -80,10 +86,10 @@ opening-reaches o l e = (refl, e)
 module _ (o : Setup) (acc : Accepted o) (ts : List ℕ) (within : allWithin (o .largest) ts ≡ true) where
   -- a reached state is formed, its keys ascend, and its lists are read as it
   pub formed : Formed o (steps o ts (opened o))
-  formed = steps-formed o (accepted-formed o acc) ts within (opened o) (opened-formed o (acc .size .0) (acc .workers .0) (accepted-formed o acc))
+  formed = steps-formed o (accepted-formed o acc) ts within (opened o) (opened-formed o (acc .size .0) (acc .workers .0) (acc .entries) (accepted-formed o acc))
 
   ascending : ascends (steps o ts (opened o) .service .store .used) (steps o ts (opened o) .service .store .keys) ≡ true
-  ascending = rw (table-at-any-moment o acc ts within) (laid-ascends (o .capacity) _ (entries-ascending o _))
+  ascending = rw (table-at-any-moment o acc ts within) (laid-ascends (o .capacity) _ (entries-ascending o acc _))
 
   -- the worker count in force is one of the opening's and the list's
   limited : steps o ts (opened o) .service .limit ≤ o .largest
@@ -100,7 +106,7 @@ module _ (o : Setup) (acc : Accepted o) (ts : List ℕ) (within : allWithin (o .
       let s : State = steps o ts (opened o) in
       let fo = accepted-formed o acc in
       rw (steps-append o ts schedule (opened o))
-      (advance-is (listsOf o s) commands schedule o s (lists-fit o s fo formed commands long)
+      (advance-is (listsOf o s) commands schedule o s (lists-fit o s fo formed commands long) (ap (λ (b : List ℕ). imageFits (setupIn b commands .capacity) (listsOf o s)) (lists-state o s) ∙ image-fits o s fo formed commands)
       (state-fits o s fo formed (acc .size .0) (acc .workers .0) limited (acc .capacity .0) ascending)
       (rw (lists-state o s) (setup-read-back o s fo formed commands same)) read-back)
 
@@ -157,26 +163,26 @@ module _ (o : Setup) (acc : Accepted o) (commands : List ℕ) (same : o .command
         }
 
 -- the opening's lists are those of the empty schedule, and every proper list of calls goes on from there
-pub opening-and-calls-reach : (size workers capacity : ℕ) (commands : List ℕ) (lent l : Lists) → openOn size workers capacity commands lent ≡ accepted l
+pub opening-and-calls-reach : (size workers capacity : ℕ) (commands : List ℕ) (source : Source) (lent l : Lists) → openOn size workers capacity commands source lent ≡ accepted l
     → (calls : List Call) → Proper commands l calls
-    → let o : Setup = setupOf size workers capacity commands in
+    → let o : Setup = setupOf size workers capacity commands source in
     IsOpened o commands l × Reach o (listsAfter calls l) (schedules calls)
-opening-and-calls-reach size workers capacity commands lent l e calls proper =
-    let is = accepted-opening size workers capacity commands lent l e in
+opening-and-calls-reach size workers capacity commands source lent l e calls proper =
+    let is = accepted-opening size workers capacity commands source lent l e in
     (is, calls-reach _ (is .setup) commands refl (is .long) calls l [] (opening-reaches _ l (is .lists)) proper)
 
 pub demand-3-over-calls : Demand3OverCalls
-demand-3-over-calls size workers capacity commands lent l e calls proper =
-    let r = opening-and-calls-reach size workers capacity commands lent l e calls proper in
+demand-3-over-calls size workers capacity commands source lent l e calls proper =
+    let r = opening-and-calls-reach size workers capacity commands source lent l e calls proper in
     holds _ (r .0 .setup) commands refl (r .0 .long) (listsAfter calls l) (schedules calls) (r .1)
 
 -- an accepted opening, then one call: a schedule of known threads is performed, and what is read of the lists left is the state reached
-pub opening-performs : (size workers capacity : ℕ) (commands : List ℕ) (lent l : Lists) → openOn size workers capacity commands lent ≡ accepted l
-    → let o : Setup = setupOf size workers capacity commands in
+pub opening-performs : (size workers capacity : ℕ) (commands : List ℕ) (source : Source) (lent l : Lists) → openOn size workers capacity commands source lent ≡ accepted l
+    → let o : Setup = setupOf size workers capacity commands source in
     (schedule : List ℕ) → allWithin (o .largest) schedule ≡ true →
     let s : State = steps o schedule (opened o) in
     (advanceOn l commands schedule ≡ accepted (listsOf o s)) × (stateIn (listsOf o s) ≡ s)
-opening-performs size workers capacity commands lent l e schedule within =
-    let o : Setup = setupOf size workers capacity commands in
-    let is : IsOpened o commands l = accepted-opening size workers capacity commands lent l e in
+opening-performs size workers capacity commands source lent l e schedule within =
+    let o : Setup = setupOf size workers capacity commands source in
+    let is : IsOpened o commands l = accepted-opening size workers capacity commands source lent l e in
     (more-accepted o (is .setup) commands refl (is .long) l [] (opening-reaches o l (is .lists)) schedule within, read-back o (is .setup) schedule within)

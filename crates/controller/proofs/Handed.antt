@@ -6,10 +6,11 @@ use mathlib.Core.Bool.{Bool, true, false, cond, not, _||_}
 use mathlib.Core.List.{List, [], _∷_}
 use lib.ListN.{length, getD, replicate, length-replicate, getD-replicate, List·getD-eq-default}
 use lib.Dec.{eqb, leb, ltb}
-use borrow.Author.Tests.{leb-true, lt-ltb, le-ltb}
+use borrow.Author.Tests.{leb-true, eqb-true, lt-ltb, le-ltb}
 use Rattle.node_set.specs.Members.{member}
 use Rattle.model.specs.declared.Thread.{Thread}
 use Rattle.model.specs.declared.Thread.the-variants.{Idle}
+use Rattle.model.specs.Image.{imageLength}
 use Rattle.model.specs.Statement.{allWithin}
 use Rattle.model.specs.declared.Counters.{Counters}
 use Rattle.graph.specs.Arrays.{NodesWithin, numbers}
@@ -18,7 +19,7 @@ use Rattle.graph.specs.Items.{Kept}
 use Rattle.graph.specs.Memory.{Ready, memory, shown}
 use Rattle.graph.proofs.Commands.{commands-length}
 use Rattle.byte_fields.specs.Bytes.{numberAt, tabulate}
-use Rattle.state_bytes.specs.Layout.{Lists, threadOf, threadAt, setAt, setupIn, countIn, stateIn, stateLength, threadFits, threadFitsAt}
+use Rattle.state_bytes.specs.Layout.{Lists, threadOf, threadAt, setAt, setupIn, countIn, stateIn, stateLength, threadFits, threadFitsAt, imageFits}
 use Rattle.controller.specs.Performed.{CountersIn}
 use Rattle.byte_fields.proofs.Bytes.{below-or-past, tabulate-at, tabulate-past}
 use Rattle.byte_fields.proofs.Fill.{number-one}
@@ -96,6 +97,10 @@ module _ (l : Lists) (commands : List ℕ) where
   unfolding setupIn
   fit-capacity long = sym (long .keys)
 
+  pub fit-image : Long l commands → imageFits (setupIn (l .state) commands .capacity) l ≡ true → length (l .image) ≡ imageLength (length (l .keys))
+  unfolding imageFits
+  fit-image long fit = eqb-true _ _ fit ∙ ap imageLength (fit-capacity long)
+
   pub fit-commands : setupIn (l .state) commands .commands ≡ commandsIn commands
   unfolding setupIn
   fit-commands = refl
@@ -120,7 +125,7 @@ pub record ReadOut (l : Lists) (k : Counters) (next seq : List ℕ) (executing l
 module _ (l : Lists) {k : Counters} {next seq : List ℕ} {executing locked : List Bool} {waits : List (List ℕ)} {threads : List Thread}
     (r : ReadOut l k next seq executing locked waits threads) where
   -- they show the state that stands in the lists
-  pub read-shows : shown (memory next seq executing locked waits (l .keys) (l .chutes) (l .answers) k) (threadsOf threads) ≡ stateIn l
+  pub read-shows : shown (memory next seq executing locked waits (l .keys) (l .chutes) (l .answers) (l .image) k) (threadsOf threads) ≡ stateIn l
   unfolding stateIn
   read-shows = λ i. record {
     graph = record {
@@ -133,7 +138,7 @@ module _ (l : Lists) {k : Counters} {next seq : List ℕ} {executing locked : Li
       loaded = r .counters .loaded-is i;
     };
     threads = fun-ext (λ t. ap (λ (a : List Thread). getD a t Idle) (r .threads-are) ∙ tabulate-cond 65 _ Idle t) i;
-    service = record { store = record { keys = l .keys; chutes = l .chutes; used = r .counters .used-is i }; answers = λ c. getD (0 ∷ l .answers) c 0; limit = r .counters .limit-is i };
+    service = record { store = record { keys = l .keys; chutes = l .chutes; used = r .counters .used-is i }; answers = λ c. getD (0 ∷ l .answers) c 0; limit = r .counters .limit-is i; image = l .image };
   }
 
   module _ (commands : List ℕ) (long : Long l commands) (range : InRange l) where
@@ -146,7 +151,7 @@ module _ (l : Lists) {k : Counters} {next seq : List ℕ} {executing locked : Li
 
     -- and they are ready for a step of any thread
     pub read-ready : {kinds itemKeys itemChutes : List ℕ} → Kept (commandsIn commands) (numbers seq) kinds itemKeys itemChutes
-        → Ready commands kinds itemKeys itemChutes (memory next seq executing locked waits (l .keys) (l .chutes) (l .answers) k) Idle
+        → Ready commands kinds itemKeys itemChutes (memory next seq executing locked waits (l .keys) (l .chutes) (l .answers) (l .image) k) Idle
     read-ready kept = record {
       nodes = subst (λ (a : List ℕ). (n : ℕ) → getD a n 0 ≤ 150) (sym (r .next-is)) (tabulate-all (λ (x : ℕ). x ≤ 150) 151 _ 0 (range .next) (omega arith));
       free = omega (arith, r .counters .free-is, range .free);

@@ -16,11 +16,11 @@ use Rattle.model.specs.Step.{steps}
 use Rattle.model.specs.Statement.{allWithin}
 use Rattle.command.specs.Read.{commandsIn}
 use Rattle.byte_fields.specs.Bytes.{bytesOf, numberAt, tabulate, fields}
-use Rattle.state_bytes.specs.Layout.{Lists, flagByte, setBytes, threadBytes, stateBytes, listsOf, threadOf, threadAt, setAt, setupIn, countIn, stateIn, stateLength, threadFits, threadFitsAt, stateFits, handedBackFit}
+use Rattle.state_bytes.specs.Layout.{Lists, flagByte, setBytes, threadBytes, stateBytes, listsOf, threadOf, threadAt, setAt, setupIn, countIn, stateIn, stateLength, threadFits, threadFitsAt, stateFits, handedBackFit, imageFits}
 use Rattle.controller.specs.Calls.{accepted, advanceOn}
 use Rattle.byte_fields.proofs.Bytes.{_▸_, Bytes, number-read-below, number-stands, one-byte, next-stands, parts-of, StandAt, fields-of, tabulate-elements}
 use Rattle.state_bytes.proofs.StateParts.{tagOf, atOf, ownOf, foundOf, thread-parts, setParts, set-parts, partLengths, partsOf, parts-joined}
-use Rattle.state_bytes.proofs.RoundTrip.{lists-state, lists-answers, lists-keys, lists-chutes}
+use Rattle.state_bytes.proofs.RoundTrip.{lists-state, lists-answers, lists-keys, lists-chutes, lists-image}
 use Rattle.graph.proofs.Commands.{commands-length}
 use Rattle.state_bytes.proofs.Tested.{each-passed}
 use Rattle.state_bytes.proofs.Shown.{word-again}
@@ -178,12 +178,12 @@ module _ (l : Lists) (commands : List ℕ) (bytes : Bytes (l .state)) (lengths :
   unfolding setupIn stateIn
   answers-again = tabulate-elements (length (commandsIn commands)) (l .answers) 0 (lengths .answers ∙ sym (count))
 
--- the store's lists are the caller's
-store-in : (l : Lists) → (stateIn l .service .store .keys ≡ l .keys) × (stateIn l .service .store .chutes ≡ l .chutes)
+-- the store's lists and the image are the caller's
+store-in : (l : Lists) → (stateIn l .service .store .keys ≡ l .keys) × (stateIn l .service .store .chutes ≡ l .chutes) × (stateIn l .service .image ≡ l .image)
 unfolding stateIn
-store-in l = (refl, refl)
+store-in l = (refl, refl, refl)
 
-module _ (l : Lists) (commands : List ℕ) (bytes : Bytes (l .state)) (fit : handedBackFit l commands ≡ true) (whole : stateFits l ≡ true) where
+module _ (l : Lists) (commands : List ℕ) (bytes : Bytes (l .state)) (fit : handedBackFit l commands ≡ true) (imaged : imageFits (setupIn (l .state) commands .capacity) l ≡ true) (whole : stateFits l ≡ true) where
   -- what is read lays out as the lists
   pub lists-again : listsOf (setupIn (l .state) commands) (stateIn l) ≡ l
   lists-again =
@@ -192,9 +192,9 @@ module _ (l : Lists) (commands : List ℕ) (bytes : Bytes (l .state)) (fit : han
       let lengths = lengths-passed l commands fit in
       let range = state-passed l whole in
       same-lists (listsOf o s) l (lists-state o s ∙ state-again l commands bytes lengths range) (lists-answers o s ∙ answers-again l commands bytes lengths range)
-      (lists-keys o s ∙ store-in l .0) (lists-chutes o s ∙ store-in l .1)
+      (lists-keys o s ∙ store-in l .0) (lists-chutes o s ∙ store-in l .1) (lists-image o s ∙ store-in l .2)
 
   -- so no step changes nothing
   pub empty-schedule : advanceOn l commands [] ≡ accepted l
   unfolding advanceOn allWithin steps
-  empty-schedule = rw (fit, whole) (ap accepted lists-again)
+  empty-schedule = rw (fit, imaged, whole) (ap accepted lists-again)

@@ -5,8 +5,11 @@ pub mod OneTurn
 pub mod WaitsFor
 pub mod HandedBack
 pub mod OpeningAnswer
+pub mod OpeningTests
 pub mod OpeningState
+pub mod Source
 pub mod Handed
 pub mod Performing
 pub mod Advancing
 pub mod Count
+pub mod Checkpoint

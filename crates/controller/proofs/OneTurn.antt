@@ -38,6 +38,6 @@ module _ (o : Setup) (acc : Accepted o) (commands : List ℕ) (same : o .command
       model = reads-in-one-turn o acc ts (r .0) t low high own c (sym (ap (λ (s : State). commandOf o (s .graph) (own .0)) is) ∙ command)
 
 pub reads-in-one-turn-over-calls : ReadsInOneTurnOverCalls
-reads-in-one-turn-over-calls size workers capacity commands lent l e calls proper t low high own c command =
-    let r = opening-and-calls-reach size workers capacity commands lent l e calls proper in
+reads-in-one-turn-over-calls size workers capacity commands source lent l e calls proper t low high own c command =
+    let r = opening-and-calls-reach size workers capacity commands source lent l e calls proper in
     in-turns _ (r .0 .setup) commands refl (r .0 .long) (listsAfter calls l) (schedules calls) (r .1) t low high own c command

@@ -8,14 +8,15 @@ use lib.ListN.{length}
 use lib.Dec.{eqb, leb}
 use borrow.Author.Tests.{eqb-true}
 use Rattle.model.specs.Setup.{Setup}
+use Rattle.model.specs.Image.{imageLength}
 use Rattle.model.specs.Step.{opened}
 use Rattle.model.specs.Statement.{Accepted}
 use Rattle.controller.specs.declared.«open_call».Reason.{Reason}
 use Rattle.controller.specs.declared.«open_call».Tested.{Tested}
 use Rattle.controller.specs.declared.«open_call».Tested.the-variants.{Passed, Refused}
 use Rattle.controller.specs.declared.«open_call».Opening.the-variants as opening
-use Rattle.state_bytes.specs.Layout.{Lists, stateLength, listsOf, lengthsFit}
-use Rattle.controller.specs.Calls.{accepted, refusalIn, kept, openingRefusal, openOn, setupOf}
+use Rattle.state_bytes.specs.Layout.{Lists, stateLength, listsOf, lengthsFit, imageFits}
+use Rattle.controller.specs.Calls.{accepted, refusalIn, kept, openingRefusal, Source, sourceLong, sourceChained, openOn, setupOf}
 use Rattle.controller.specs.Opened.{outcomeOf}
 use Rattle.controller.proofs.AcceptedOpening.{passed, accepted-opening}
 
@@ -39,17 +40,21 @@ opening-told o old left e is = rw e (refl, is)
 
 -- ---- the accepted opening
 
--- An accepted setup, and lent lists of its lengths.
-pub record Admitted (o : Setup) (l : Lists) : Type 0 where
+-- An accepted setup, lent lists of its lengths, and an image to open from that passed.
+pub record Admitted (o : Setup) (source : Source) (l : Lists) : Type 0 where
   pub setup : Accepted o
   pub state-long : length (l .state) ≡ 4718
   pub answers-long : length (l .answers) ≡ length (o .commands)
   pub keys-long : length (l .keys) ≡ o .capacity
   pub chutes-long : length (l .chutes) ≡ o .capacity
+  pub image-long : length (l .image) ≡ imageLength (o .capacity)
+  pub source-long : sourceLong (o .capacity) source ≡ true
+  pub source-chained : sourceChained (o .capacity) source ≡ true
 
 -- the tests that passed, of the setup and of the lengths
-module _ (size workers capacity : ℕ) (commands : List ℕ) (l : Lists) where
-  lengths-passed : {left : Lists} → openOn size workers capacity commands l ≡ accepted left → lengthsFit capacity (length commands / 16) l ≡ true
+module _ (size workers capacity : ℕ) (commands : List ℕ) (source : Source) (l : Lists) where
+  lengths-passed : {left : Lists} → openOn size workers capacity commands source l ≡ accepted left
+      → ((lengthsFit capacity (length commands / 16) l && imageFits capacity l && sourceLong capacity source) ≡ true) × (sourceChained capacity source ≡ true)
   unfolding openOn
   lengths-passed e =
       let e1 = passed (leb 1 size && leb size 150) 1 e in
@@ -57,14 +62,18 @@ module _ (size workers capacity : ℕ) (commands : List ℕ) (l : Lists) where
       let e3 = passed (leb 1 capacity && leb capacity 4096) 3 (e2 .1) in
       let e4 = passed (eqb (length commands % 16) 0) 4 (e3 .1) in
       let e5 = passed (leb (length commands / 16) 4096) 5 (e4 .1) in
-      passed (lengthsFit capacity (length commands / 16) l) 6 (e5 .1) .0
+      let e6 = passed (lengthsFit capacity (length commands / 16) l && imageFits capacity l && sourceLong capacity source) 6 (e5 .1) in
+      (e6 .0, passed (sourceChained capacity source) 15 (e6 .1) .0)
 
-  pub admitted : {r : Tested} {largest : ℕ} → openOn size workers capacity commands l ≡ outcomeOf r (setupOf size workers capacity commands) → r ≡ Passed largest
-      → Admitted (setupOf size workers capacity commands) l
-  unfolding lengthsFit stateLength
+  pub admitted : {r : Tested} {largest : ℕ} → openOn size workers capacity commands source l ≡ outcomeOf r (setupOf size workers capacity commands source) → r ≡ Passed largest
+      → Admitted (setupOf size workers capacity commands source) source l
+  unfolding lengthsFit imageFits stateLength
   admitted e opens =
-      let opening = accepted-opening size workers capacity commands l _ (rw opens at e) in
-      let all = and-eq-true-iff _ _ .0 (lengths-passed (rw opens at e)) in
+      let opening = accepted-opening size workers capacity commands source l _ (rw opens at e) in
+      let tests = lengths-passed (rw opens at e) in
+      let long = and-eq-true-iff _ _ .0 (tests .0) in
+      let both = and-eq-true-iff _ _ .0 (long .0) in
+      let all = and-eq-true-iff _ _ .0 (both .0) in
       let three = and-eq-true-iff _ _ .0 (all .0) in
       let two = and-eq-true-iff _ _ .0 (three .0) in
       record {
@@ -73,4 +82,7 @@ module _ (size workers capacity : ℕ) (commands : List ℕ) (l : Lists) where
         answers-long = eqb-true _ _ (two .1) ∙ omega (arith, opening .long);
         keys-long = eqb-true _ _ (three .1);
         chutes-long = eqb-true _ _ (all .1);
+        image-long = eqb-true _ _ (both .1);
+        source-long = long .1;
+        source-chained = tests .1;
       }

@@ -13,16 +13,20 @@ use Rattle.node_set.specs.Members.{member}
 use Rattle.node_set.proofs.Bits.{bit-of-zero}
 use Rattle.node_set.proofs.Words.{zeros, no-member-of-zeros}
 use Rattle.model.specs.declared.Thread.the-variants.{Idle}
-use Rattle.model.specs.Store.{layOut}
+use Rattle.model.specs.Store.{Store, layOut}
+use Rattle.model.specs.Image.{imageLength, emptyImage}
+use Rattle.model.specs.Serial.{Entry}
 use Rattle.model.specs.Setup.{Setup}
 use Rattle.model.specs.Graph.{noNode, firstNext, openedGraph}
 use Rattle.model.specs.Service.{openedService}
 use Rattle.model.specs.Step.{node, opened}
 use Rattle.model.specs.Proof.Tests.{eqb-cases}
 use Rattle.model.specs.declared.Counters.{Counters}
+use Rattle.store.specs.Lists.{storeOf}
 use Rattle.byte_fields.specs.Bytes.{tabulate}
-use Rattle.state_bytes.specs.Layout.{lists, stateBytes, listsOf}
+use Rattle.state_bytes.specs.Layout.{allLists, stateBytes, listsOf}
 use Rattle.state_bytes.specs.Written.{Shown}
+use Rattle.controller.specs.Calls.{Source, firstEntries}
 use Rattle.byte_fields.proofs.Bytes.{below-or-past}
 
 -- ---- lists of one value
@@ -104,14 +108,14 @@ no-members n y =
     (λ h. rw (List·getD-eq-default (replicate 151 zeros) [] {n = n} (rw (length-replicate 151 zeros) h)) (bit-of-zero (y % 64)))
 
 -- the counters at opening
-abbrev pub firstCounters : ℕ → Counters
-firstCounters workers = record { free = node 1; loaded = record { 0 = 0 }; used = 0; limit = workers }
+abbrev pub firstCounters : ℕ → ℕ → Counters
+firstCounters workers used = record { free = node 1; loaded = record { 0 = 0 }; used = used; limit = workers }
 
 -- the arrays of the opening: the first free list, and everything else 0, false or idle
-pub opened-shown : (o : Setup) (workers : ℕ) (next : List ℕ) → o .workers ≡ workers → ((n : ℕ) → getD next n 0 ≡ firstNext (o .size) n)
-    → Shown (firstCounters workers) next (replicate 151 0) (replicate 151 false) (replicate 151 false) (replicate 151 zeros) (replicate 65 Idle) (opened o)
+pub opened-shown : (o : Setup) (workers used : ℕ) (next : List ℕ) → o .workers ≡ workers → length (o .entries) ≡ used → ((n : ℕ) → getD next n 0 ≡ firstNext (o .size) n)
+    → Shown (firstCounters workers used) next (replicate 151 0) (replicate 151 false) (replicate 151 false) (replicate 151 zeros) (replicate 65 Idle) (opened o)
 unfolding opened openedGraph openedService noNode layOut
-opened-shown o workers next count is = record {
+opened-shown o workers used next count entries is = record {
   graph-is = record {
     next-is = fun-ext (λ n. sym (is n));
     seq-is = fun-ext (λ n. sym (constant-at 151 0 n));
@@ -122,18 +126,35 @@ opened-shown o workers next count is = record {
   threads-are = λ t. sym (constant-at 65 Idle t);
   free-is = refl;
   loaded-is = refl;
-  used-is = refl;
+  used-is = entries;
   limit-is = count;
 }
 
 -- lists are the same where each is
-same-lists : {s s′ k k′ c c′ a a′ : List ℕ} → s ≡ s′ → k ≡ k′ → c ≡ c′ → a ≡ a′ → lists s k c a ≡ lists s′ k′ c′ a′
-same-lists s k c a = rw (s, k, c, a)
+same-lists : {s s′ k k′ c c′ a a′ i i′ : List ℕ} → s ≡ s′ → k ≡ k′ → c ≡ c′ → a ≡ a′ → i ≡ i′ → allLists s k c a i ≡ allLists s′ k′ c′ a′ i′
+same-lists s k c a i = rw (s, k, c, a, i)
 
--- the lists of the opening: its state's bytes, and zeros
-pub opened-lists-are : (o : Setup) {state keys chutes answers : List ℕ} → state ≡ stateBytes o (opened o) → keys ≡ replicate (o .capacity) 0
-    → chutes ≡ replicate (o .capacity) 0 → answers ≡ replicate (length (o .commands)) 0 → lists state keys chutes answers ≡ listsOf o (opened o)
-unfolding listsOf opened openedService layOut
-opened-lists-are o s k ch a =
-    let whole = as-many-zeros (sym (sub-zero (o .capacity))) in
-    same-lists s (k ∙ whole) (ch ∙ whole) (a ∙ sym (tabulate-constant (length (o .commands)) 0))
+-- a store of zeros is that of no entry
+pub empty-store : (capacity : ℕ) {keys chutes : List ℕ} → keys ≡ replicate capacity 0 → chutes ≡ replicate capacity 0 → storeOf keys chutes 0 ≡ layOut capacity []
+unfolding layOut
+empty-store capacity k c = let whole = as-many-zeros (sym (sub-zero capacity)) in rw (k ∙ whole, c ∙ whole)
+
+-- the lists of the opening: its state's bytes, its entries, and zeros
+pub opened-lists-are : (o : Setup) {state keys chutes answers image : List ℕ} {used : ℕ} → state ≡ stateBytes o (opened o) → storeOf keys chutes used ≡ layOut (o .capacity) (o .entries)
+    → answers ≡ replicate (length (o .commands)) 0 → image ≡ emptyImage (o .capacity) → allLists state keys chutes answers image ≡ listsOf o (opened o)
+unfolding listsOf opened openedService
+opened-lists-are o s st a i =
+    same-lists s (ap (λ (x : Store). x .keys) st) (ap (λ (x : Store). x .chutes) st) (a ∙ sym (tabulate-constant (length (o .commands)) 0)) i
+
+-- a store laid out from the first entries is so by the capacity's own name, and tells how many there are
+pub stored-at : {st : Store} {n capacity : ℕ} (source : Source) → n ≡ capacity → st ≡ layOut n (firstEntries n source) → st ≡ layOut capacity (firstEntries capacity source)
+stored-at source e h = rw e at h
+
+pub used-is : {keys chutes : List ℕ} {used : ℕ} (capacity : ℕ) (es : List Entry) → storeOf keys chutes used ≡ layOut capacity es → length es ≡ used
+unfolding layOut
+used-is capacity es h = sym (ap (λ (st : Store). st .used) h)
+
+-- an image of zeros
+pub zeros-are : {n : ℕ} (capacity : ℕ) → n ≡ imageLength capacity → _≡_ {A = List ℕ} (replicate n 0) (emptyImage capacity)
+unfolding emptyImage
+zeros-are capacity e = as-many-zeros e

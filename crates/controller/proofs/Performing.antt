@@ -25,7 +25,7 @@ use Rattle.command.specs.Read.{commandsIn}
 use Rattle.graph.specs.Memory.{Memory, Ready, Steps, memory, shown}
 use Rattle.graph.proofs.Commands.{commands-length}
 use Rattle.state_bytes.specs.declared.Settings.{Settings}
-use Rattle.state_bytes.specs.Layout.{Lists, lists, listsOf}
+use Rattle.state_bytes.specs.Layout.{Lists, allLists, listsOf}
 use Rattle.state_bytes.specs.Written.{Shown, Lays}
 use Rattle.controller.specs.Performed.{Performed}
 use Rattle.byte_fields.proofs.Bytes.{tabulate-elements}
@@ -88,6 +88,7 @@ pub record Along (commands schedule : List ℕ) (m₀ : Memory) (threads₀ : Li
   pub keys-long : length (m .service .keys) ≡ length (m₀ .service .keys)
   pub chutes-long : length (m .service .chutes) ≡ length (m₀ .service .chutes)
   pub answers-long : length (m .service .answers) ≡ length (m₀ .service .answers)
+  pub image-long : length (m .service .image) ≡ length (m₀ .service .image)
   pub shows : (o : Setup) → o .commands ≡ commandsIn commands → o .capacity ≡ length (m₀ .service .keys)
       → shown m (threadsOf threads) ≡ steps o (take i schedule) (shown m₀ (threadsOf threads₀))
 
@@ -108,6 +109,7 @@ along-none {m} {threads} r w h = record {
   keys-long = refl;
   chutes-long = refl;
   answers-long = refl;
+  image-long = refl;
   shows = λ o _ _. sym (no-steps o (shown m (threadsOf threads)));
 }
 
@@ -117,8 +119,9 @@ pub along-more : {commands schedule : List ℕ} {m₀ : Memory} {threads₀ : Li
     → Along commands schedule m₀ threads₀ kinds itemKeys itemChutes m threads i → i < length schedule → getD schedule i 0 < 65
     → Steps commands (getD schedule i 0) (threadsOf threads (getD schedule i 0)) m kinds′ itemKeys′ itemChutes′ thread m′
     → length (m′ .service .keys) ≡ length (m .service .keys) → length (m′ .service .chutes) ≡ length (m .service .chutes) → length (m′ .service .answers) ≡ length (m .service .answers)
+    → length (m′ .service .image) ≡ length (m .service .image)
     → Along commands schedule m₀ threads₀ kinds′ itemKeys′ itemChutes′ m′ (set threads (getD schedule i 0) thread) (i + 1)
-along-more {schedule} {m₀} {threads₀} {m} {m′} {threads} {i} thread a h high stepped keys chutes answers = record {
+along-more {schedule} {m₀} {threads₀} {m} {m′} {threads} {i} thread a h high stepped keys chutes answers image = record {
   few = omega arith;
   ready = ready-for Idle tt (stepped .ready);
   within = set-within threads t thread inside (stepped .ready .within) (a .within);
@@ -126,6 +129,7 @@ along-more {schedule} {m₀} {threads₀} {m} {m′} {threads} {i} thread a h hi
   keys-long = keys ∙ a .keys-long;
   chutes-long = chutes ∙ a .chutes-long;
   answers-long = answers ∙ a .answers-long;
+  image-long = image ∙ a .image-long;
   shows = λ o cs cap.
       ap (shown m′) (set-thread threads t thread inside) ∙ stepped .step-is o (threadsOf threads) cs (cap ∙ sym (a .keys-long)) refl
       ∙ ap (step o t) (a .shows o cs cap) ∙ sym (steps-more o (take i schedule) t (shown m₀ (threadsOf threads₀)))
@@ -139,17 +143,17 @@ along-more {schedule} {m₀} {threads₀} {m} {m′} {threads} {i} thread a h hi
     inside = omega (arith, a .all)
 
 -- lists are known by their parts
-pub same-lists : (l m : Lists) → l .state ≡ m .state → l .answers ≡ m .answers → l .keys ≡ m .keys → l .chutes ≡ m .chutes → l ≡ m
-same-lists l m state answers keys chutes = λ i. record { state = state i; answers = answers i; keys = keys i; chutes = chutes i }
+pub same-lists : (l m : Lists) → l .state ≡ m .state → l .answers ≡ m .answers → l .keys ≡ m .keys → l .chutes ≡ m .chutes → l .image ≡ m .image → l ≡ m
+same-lists l m state answers keys chutes image = λ i. record { state = state i; answers = answers i; keys = keys i; chutes = chutes i; image = image i }
 
 -- after the last step, the bytes written and the lists are those of the state that the arrays show
 pub performed : {commands schedule : List ℕ} {m₀ : Memory} {threads₀ : List Thread} {kinds itemKeys itemChutes : List ℕ} {threads : List Thread} {i : ℕ} (c : Settings) (k : Counters)
-    (next seq : List ℕ) (executing locked : List Bool) (waits : List (List ℕ)) (keys chutes answers bytes : List ℕ)
-    → Along commands schedule m₀ threads₀ kinds itemKeys itemChutes (memory next seq executing locked waits keys chutes answers k) threads i → length schedule ≤ i
-    → Lays c k next seq executing locked waits threads bytes → Performed c commands schedule m₀ threads₀ (lists bytes keys chutes answers)
+    (next seq : List ℕ) (executing locked : List Bool) (waits : List (List ℕ)) (keys chutes answers image bytes : List ℕ)
+    → Along commands schedule m₀ threads₀ kinds itemKeys itemChutes (memory next seq executing locked waits keys chutes answers image k) threads i → length schedule ≤ i
+    → Lays c k next seq executing locked waits threads bytes → Performed c commands schedule m₀ threads₀ (allLists bytes keys chutes answers image)
 unfolding listsOf
-performed {commands} {schedule} {m₀} {threads₀} {threads} {i} c k next seq executing locked waits keys chutes answers bytes a h lays o sets cs cap =
-    let now = shown (memory next seq executing locked waits keys chutes answers k) (threadsOf threads) in
+performed {commands} {schedule} {m₀} {threads₀} {threads} {i} c k next seq executing locked waits keys chutes answers image bytes a h lays o sets cs cap =
+    let now = shown (memory next seq executing locked waits keys chutes answers image k) (threadsOf threads) in
     let sh : Shown k next seq executing locked waits threads now = record {
       graph-is = record { next-is = refl; seq-is = refl; executing-is = refl; locked-is = refl; waits-is = refl };
       threads-are = λ t. refl;
@@ -159,5 +163,5 @@ performed {commands} {schedule} {m₀} {threads₀} {threads} {i} c k next seq e
       limit-is = refl;
     } in
     let count : length answers ≡ length (o .commands) = sym (commands-length commands (length answers) (a .ready .whole)) ∙ ap length (sym cs) in
-    same-lists (lists bytes keys chutes answers) (listsOf o now) (lays o now sets sh) (sym (tabulate-elements (length (o .commands)) answers 0 count)) refl refl
+    same-lists (allLists bytes keys chutes answers image) (listsOf o now) (lays o now sets sh) (sym (tabulate-elements (length (o .commands)) answers 0 count)) refl refl refl
     ∙ ap (listsOf o) (a .shows o cs cap ∙ ap (λ (ts : List ℕ). steps o ts (shown m₀ (threadsOf threads₀))) (take-all i schedule h))

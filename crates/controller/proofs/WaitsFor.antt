@@ -11,9 +11,9 @@ use Rattle.controller.proofs.Demand3.{state-is, opening-and-calls-reach
 use Rattle.controller.specs.Calls.{setupOf}
 
 pub waits-only-for-dependent-over-calls : WaitsOnlyForDependentOverCalls
-waits-only-for-dependent-over-calls size workers capacity commands lent l e calls proper x y waits =
-    let o : Setup = setupOf size workers capacity commands in
-    let r = opening-and-calls-reach size workers capacity commands lent l e calls proper in
+waits-only-for-dependent-over-calls size workers capacity commands source lent l e calls proper x y waits =
+    let o : Setup = setupOf size workers capacity commands source in
+    let r = opening-and-calls-reach size workers capacity commands source lent l e calls proper in
     let is = state-is o (r .0 .setup) commands refl (r .0 .long) (listsAfter calls l) (schedules calls) (r .1) in
     subst (λ (s : State). WaitsFor o s x y) (sym is)
     (waits-only-for-dependent o (r .0 .setup) (schedules calls) (r .1 .0) x y (sym (ap (λ (s : State). s .graph .waits x y) is) ∙ waits))

@@ -12,7 +12,7 @@ use Rattle.model.specs.Step.{opened, step}
 use Rattle.model.specs.Statement.{wrote}
 use Rattle.model.specs.Count.{countOf, countBefore, nodeOf, withLimit}
 use Rattle.state_bytes.specs.Layout.{Lists, stateIn}
-use Rattle.controller.specs.Calls.{accepted, openOn, advanceOn, AfterTurn, setupOf}
+use Rattle.controller.specs.Calls.{Source, accepted, openOn, advanceOn, AfterTurn, setupOf}
 use Rattle.controller.specs.Demand3.{Call, listsAfter, Proper, schedules}
 
 -- in lists, the commands of `written` being answered
@@ -34,7 +34,7 @@ pub record CountKept (o : Setup) (commands : List ℕ) (l : Lists) (written : �
 -- every accepted opening, and every proper list of calls from what it left
 abbrev pub CountIsKeptOverCalls : Type 0
 CountIsKeptOverCalls =
-    (size workers capacity : ℕ) (commands : List ℕ) (lent l : Lists) → openOn size workers capacity commands lent ≡ accepted l →
+    (size workers capacity : ℕ) (commands : List ℕ) (source : Source) (lent l : Lists) → openOn size workers capacity commands source lent ≡ accepted l →
     (calls : List Call) → Proper commands l calls →
-    let o : Setup = setupOf size workers capacity commands in
+    let o : Setup = setupOf size workers capacity commands source in
     CountKept o commands (listsAfter calls l) (λ c. wrote o c (schedules calls) (opened o))

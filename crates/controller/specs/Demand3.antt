@@ -11,7 +11,7 @@ use Rattle.model.specs.Setup.{Setup}
 use Rattle.model.specs.Step.{opened}
 use Rattle.model.specs.Statement.{wrote, removed, EachCommand, serialAnswer}
 use Rattle.state_bytes.specs.Layout.{Lists, stateIn}
-use Rattle.controller.specs.Calls.{CallOutcome, accepted, refused, kept, openOn, advanceOn, setupOf}
+use Rattle.controller.specs.Calls.{Source, CallOutcome, accepted, refused, kept, openOn, advanceOn, setupOf}
 
 -- what is handed over: the caller's lists, commands and a schedule
 pub record Call : Type 0 where
@@ -51,7 +51,7 @@ pub record HoldsAfter (o : Setup) (commands : List ℕ) (l : Lists) (ts : List �
   pub answer : EachCommand o (λ c. getD (0 ∷ l .answers) c 0 ≡ cond (wrote o c ts (opened o)) (serialAnswer o c) 0)
   -- "When all commands are removed, every answer is given and the chute table is that run's, entry for entry."
   pub table : EachCommand o (λ c. removed o c ts (opened o) ≡ true) →
-      EachCommand o (λ c. 1 ≤ getD (0 ∷ l .answers) c 0) × (stateIn l .service .store ≡ layOut (o .capacity) (serialEntries (o .capacity) (o .commands)))
+      EachCommand o (λ c. 1 ≤ getD (0 ∷ l .answers) c 0) × (stateIn l .service .store ≡ layOut (o .capacity) (serialEntries (o .capacity) (o .entries) (o .commands)))
   -- "And some further dealing is accepted and leaves every command removed and every party idle"
   pub finish : (more : List ℕ) × (m : Lists) × (advanceOn l commands more ≡ accepted m) × EachCommand o (λ c. removed o c (ts ++ more) (opened o) ≡ true)
       × ((t : ℕ) → t ≤ o .largest → stateIn m .threads t ≡ Idle)
@@ -59,6 +59,6 @@ pub record HoldsAfter (o : Setup) (commands : List ℕ) (l : Lists) (ts : List �
 -- every accepted opening, and every proper list of calls from what it left
 abbrev pub Demand3OverCalls : Type 0
 Demand3OverCalls =
-    (size workers capacity : ℕ) (commands : List ℕ) (lent l : Lists) → openOn size workers capacity commands lent ≡ accepted l →
+    (size workers capacity : ℕ) (commands : List ℕ) (source : Source) (lent l : Lists) → openOn size workers capacity commands source lent ≡ accepted l →
     (calls : List Call) → Proper commands l calls →
-    HoldsAfter (setupOf size workers capacity commands) commands (listsAfter calls l) (schedules calls)
+    HoldsAfter (setupOf size workers capacity commands source) commands (listsAfter calls l) (schedules calls)

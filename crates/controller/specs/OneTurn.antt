@@ -12,7 +12,7 @@ use Rattle.model.specs.Setup.{Setup}
 use Rattle.model.specs.Step.{commandOf}
 use Rattle.model.specs.OneTurn.{ReadDone, OnlyLooked}
 use Rattle.state_bytes.specs.Layout.{Lists, stateIn}
-use Rattle.controller.specs.Calls.{accepted, openOn, AfterTurn, setupOf}
+use Rattle.controller.specs.Calls.{Source, accepted, openOn, AfterTurn, setupOf}
 use Rattle.controller.specs.Demand3.{Call, listsAfter, Proper}
 
 -- worker t, whose node has command c in the lists
@@ -27,7 +27,7 @@ pub record InTurns (o : Setup) (commands : List ℕ) (l : Lists) (t : ℕ) (own 
 -- every accepted opening, and every proper list of calls from what it left
 abbrev pub ReadsInOneTurnOverCalls : Type 0
 ReadsInOneTurnOverCalls =
-    (size workers capacity : ℕ) (commands : List ℕ) (lent l : Lists) → openOn size workers capacity commands lent ≡ accepted l →
+    (size workers capacity : ℕ) (commands : List ℕ) (source : Source) (lent l : Lists) → openOn size workers capacity commands source lent ≡ accepted l →
     (calls : List Call) → Proper commands l calls →
-    let o : Setup = setupOf size workers capacity commands in
+    let o : Setup = setupOf size workers capacity commands source in
     (t : ℕ) → 1 ≤ t → t ≤ o .largest → (own : Node) (c : Command) → commandOf o (stateIn (listsAfter calls l) .graph) (own .0) ≡ some c → InTurns o commands (listsAfter calls l) t own c

@@ -7,6 +7,7 @@ use lib.ListN.{length, getD}
 use Rattle.model.specs.declared.Thread.{Thread}
 use Rattle.model.specs.declared.Thread.the-variants.{Idle}
 use Rattle.model.specs.Setup.{Setup}
+use Rattle.model.specs.Image.{imageLength}
 use Rattle.model.specs.Step.{steps}
 use Rattle.model.specs.Statement.{allWithin}
 use Rattle.model.specs.declared.Counters.{Counters}
@@ -15,7 +16,7 @@ use Rattle.command.specs.Read.{commandsIn}
 use Rattle.graph.specs.Memory.{Memory, Ready, shown}
 use Rattle.state_bytes.specs.declared.Settings.{Settings}
 use Rattle.byte_fields.specs.Bytes.{numberAt}
-use Rattle.state_bytes.specs.Layout.{Lists, stateLength, listsOf, setupIn, countIn, stateFits, handedBackFit}
+use Rattle.state_bytes.specs.Layout.{Lists, stateLength, listsOf, setupIn, countIn, stateFits, handedBackFit, imageFits}
 use Rattle.state_bytes.specs.Written.{Sets}
 
 -- the counters that stand in state bytes
@@ -29,9 +30,10 @@ pub record CountersIn (b : List ℕ) (k : Counters) : Type 0 where
 abbrev pub SettingsIn : List ℕ → Settings → Type 0
 SettingsIn b c = (commands : List ℕ) → length (commandsIn commands) ≡ countIn b → Sets c (setupIn b commands)
 
--- the lists pass the three tests of a call
+-- the lists pass the tests of a call
 pub record CallPasses (l : Lists) (commands schedule : List ℕ) : Type 0 where
   pub lengths : handedBackFit l commands ≡ true
+  pub image : imageFits (setupIn (l .state) commands .capacity) l ≡ true
   pub state : stateFits l ≡ true
   pub named : allWithin (setupIn (l .state) commands .largest) schedule ≡ true
 
@@ -41,6 +43,7 @@ pub record Performs (state commands schedule kinds itemKeys itemChutes : List �
   pub ready : Ready commands kinds itemKeys itemChutes m Idle
   pub within : (t : ℕ) → NodesWithin (getD threads t Idle)
   pub named : allWithin 64 schedule ≡ true
+  pub imaged : length (m .service .image) ≡ imageLength (length (m .service .keys))
 
 -- the lists are those of the state after the schedule
 abbrev pub Performed : Settings → List ℕ → List ℕ → Memory → List Thread → Lists → Type 0

@@ -7,14 +7,14 @@ use mathlib.Core.List.{List}
 use Rattle.model.specs.Setup.{Setup}
 use Rattle.model.specs.WaitsFor.{WaitsFor}
 use Rattle.state_bytes.specs.Layout.{Lists, stateIn}
-use Rattle.controller.specs.Calls.{accepted, openOn, setupOf}
+use Rattle.controller.specs.Calls.{Source, accepted, openOn, setupOf}
 use Rattle.controller.specs.Demand3.{Call, listsAfter, Proper}
 
 -- every accepted opening, and every proper list of calls from what it left: a node in another's set is of a command delivered before, and
 -- both insert or delete, or both are for one key and no two reads, or one of them is for no item
 abbrev pub WaitsOnlyForDependentOverCalls : Type 0
 WaitsOnlyForDependentOverCalls =
-    (size workers capacity : ℕ) (commands : List ℕ) (lent l : Lists) → openOn size workers capacity commands lent ≡ accepted l →
+    (size workers capacity : ℕ) (commands : List ℕ) (source : Source) (lent l : Lists) → openOn size workers capacity commands source lent ≡ accepted l →
     (calls : List Call) → Proper commands l calls → (x y : ℕ) →
-    let o : Setup = setupOf size workers capacity commands in
+    let o : Setup = setupOf size workers capacity commands source in
     stateIn (listsAfter calls l) .graph .waits x y ≡ true → WaitsFor o (stateIn (listsAfter calls l)) x y

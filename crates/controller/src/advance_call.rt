@@ -4,7 +4,7 @@ ghost use Prim.Native.Nat.{_≤_};
 ghost use lib.ListN.{length};
 ghost use Rattle.model.specs.Step.{steps};
 ghost use Rattle.graph.specs.Memory.{memory};
-ghost use Rattle.state_bytes.specs.Layout.{lists, atEntry, atExit, listsOf, setupIn, stateIn, stateLength};
+ghost use Rattle.state_bytes.specs.Layout.{allLists, allAtEntry, allAtExit, listsOf, setupIn, stateIn, stateLength};
 ghost use Rattle.controller.specs.Calls.{refusalIn, kept, advanceRefusal, advanceOn};
 ghost use Rattle.controller.specs.Performed.{CountersIn, SettingsIn, CallPasses, Performs, Performed};
 use byte_fields::number_at;
@@ -26,6 +26,7 @@ use state_bytes::SIZE;
 use state_bytes::Settings;
 use state_bytes::USED;
 use state_bytes::WORKERS;
+use state_bytes::image_fits;
 use state_bytes::lengths_fit;
 use state_bytes::read_bytes;
 use state_bytes::read_flags;
@@ -64,11 +65,12 @@ pub fn advance(
     keys: &mut [u64],
     chutes: &mut [u16],
     answers: &mut [u16],
+    image: &mut [u8],
     commands: &[u8],
     schedule: &[u8],
 ) -> Advancing
-    ensures refusal { λ r. ⌜ advanceRefusal r ≡ refusalIn (advanceOn (atEntry state keys chutes answers) (now (commands .entry)) (now (schedule .entry))) ⌝ }
-    ensures left { λ r. ⌜ atExit state keys chutes answers ≡ kept (advanceOn (atEntry state keys chutes answers) (now (commands .entry)) (now (schedule .entry))) (atEntry state keys chutes answers) ⌝ }
+    ensures refusal { λ r. ⌜ advanceRefusal r ≡ refusalIn (advanceOn (allAtEntry state keys chutes answers image) (now (commands .entry)) (now (schedule .entry))) ⌝ }
+    ensures left { λ r. ⌜ allAtExit state keys chutes answers image ≡ kept (advanceOn (allAtEntry state keys chutes answers image) (now (commands .entry)) (now (schedule .entry))) (allAtEntry state keys chutes answers image) ⌝ }
 {
     if !lengths_fit(
         state,
@@ -79,13 +81,16 @@ pub fn advance(
     ) {
         return Advancing::WrongLength;
     }
+    if !image_fits(state, image.len()) {
+        return Advancing::WrongLength;
+    }
     if !state_fits(state, keys) {
         return Advancing::WrongState;
     }
     if !threads_named(schedule, state[LARGEST]) {
         return Advancing::UnknownThread;
     }
-    run(state, keys, chutes, answers, commands, schedule);
+    run(state, keys, chutes, answers, image, commands, schedule);
     Advancing::Advanced
 }
 
@@ -131,11 +136,12 @@ fn run(
     keys: &mut [u64],
     chutes: &mut [u16],
     answers: &mut [u16],
+    image: &mut [u8],
     commands: &[u8],
     schedule: &[u8],
 )
-    requires { ⌜ CallPasses (lists (now state) (now keys) (now chutes) (now answers)) (now commands) (now schedule) ⌝ }
-    ensures { λ _. ⌜ atExit state keys chutes answers ≡ listsOf (setupIn (now (state .entry)) (now (commands .entry))) (steps (setupIn (now (state .entry)) (now (commands .entry))) (now (schedule .entry)) (stateIn (atEntry state keys chutes answers))) ⌝ }
+    requires { ⌜ CallPasses (allLists (now state) (now keys) (now chutes) (now answers) (now image)) (now commands) (now schedule) ⌝ }
+    ensures { λ _. ⌜ allAtExit state keys chutes answers image ≡ listsOf (setupIn (now (state .entry)) (now (commands .entry))) (steps (setupIn (now (state .entry)) (now (commands .entry))) (now (schedule .entry)) (stateIn (allAtEntry state keys chutes answers image))) ⌝ }
 {
     let settings = settings_in(state);
     let counters = counters_in(state);
@@ -159,6 +165,7 @@ fn run(
         keys,
         chutes,
         answers,
+        image,
         commands,
         schedule,
         settings,
@@ -181,6 +188,7 @@ fn perform(
     keys: &mut [u64],
     chutes: &mut [u16],
     answers: &mut [u16],
+    image: &mut [u8],
     commands: &[u8],
     schedule: &[u8],
     settings: Settings,
@@ -195,8 +203,8 @@ fn perform(
     mut item_chutes: [u16; 151],
     mut threads: [Thread; 65],
 )
-    requires { ⌜ Performs (now state) (now commands) (now schedule) kinds «item_keys» «item_chutes» (memory next seq executing locked waits (now keys) (now chutes) (now answers) counters) threads ⌝ }
-    ensures { λ _. ⌜ Performed settings (now (commands .entry)) (now (schedule .entry)) (memory next seq executing locked waits (now (keys .entry)) (now (chutes .entry)) (now (answers .entry)) counters) threads (atExit state keys chutes answers) ⌝ }
+    requires { ⌜ Performs (now state) (now commands) (now schedule) kinds «item_keys» «item_chutes» (memory next seq executing locked waits (now keys) (now chutes) (now answers) (now image) counters) threads ⌝ }
+    ensures { λ _. ⌜ Performed settings (now (commands .entry)) (now (schedule .entry)) (memory next seq executing locked waits (now (keys .entry)) (now (chutes .entry)) (now (answers .entry)) (now (image .entry)) counters) threads (allAtExit state keys chutes answers image) ⌝ }
 {
     let mut i = 0;
     while i < schedule.len() {
@@ -215,6 +223,7 @@ fn perform(
             keys,
             chutes,
             answers,
+            image,
             commands,
             t,
             thread,

@@ -7,3 +7,5 @@ pub use advance_call::advance;
 pub use open_call::Opening;
 pub use open_call::Reason;
 pub use open_call::open;
+pub use open_call::open_from;
+pub use open_call::open_with;

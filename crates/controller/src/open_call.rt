@@ -1,20 +1,29 @@
-// Opening: the tests in order, then the opening state and lists of zeros.
+// Opening: the tests in order, then the opening state, the store empty or with an image's entries, and lists of zeros.
 ghost use mathlib.Core.Path.{_≡_};
-ghost use mathlib.Core.Bool.{_&&_};
+ghost use mathlib.Core.Bool.{true, _&&_};
 ghost use Prim.Native.Nat.{ℕ, _≤_, max};
 ghost use lib.ListN.{length, getD, replicate};
-ghost use lib.Dec.{leb};
-ghost use Rattle.command.specs.Read.{listOutcome};
+ghost use lib.Dec.{eqb, leb};
+ghost use Rattle.command.specs.Count.{largestCount};
+ghost use Rattle.command.specs.Read.{commandsIn, listOutcome};
 ghost use Rattle.command.specs.declared.ListReading.the-variants.{AllRead};
 ghost use Rattle.model.specs.Setup.{Setup};
+ghost use Rattle.model.specs.Store.{layOut};
+ghost use Rattle.model.specs.Image.{imageLength};
 ghost use Rattle.model.specs.Graph.{firstNext};
-ghost use Rattle.state_bytes.specs.Layout.{atExit, atEntry, stateLength, lengthsFit};
+ghost use Rattle.store.specs.Lists.{storeOf};
+ghost use Rattle.state_bytes.specs.Layout.{allAtExit, allAtEntry, stateLength, lengthsFit, imageFits};
 ghost use Rattle.controller.specs.declared.«open_call».Tested.the-variants.{Passed};
 ghost use Rattle.controller.specs.Calls.{refusalIn, kept, refusalFor, openingRefusal, openedWith, openOn, setupOf};
-ghost use Rattle.controller.specs.Opened.{outcomeOf, LaysOpened};
+ghost use Rattle.controller.specs.Calls.{nothing, imageFrom, sourceLong, sourceChained, sourceFits, firstEntries};
+ghost use Rattle.controller.specs.Opened.{outcomeOf, LaysOpened, sourceOf};
 use command::Command;
 use command::ListReading;
 use command::Seq;
+use image::SLOT;
+use image::chain_fits;
+use image::read_image;
+use image::slots_fit;
 use model::Counters;
 use model::Thread;
 use node_set::Node;
@@ -30,6 +39,8 @@ pub enum Reason {
     WrongListLength,
     TooManyCommands,
     WrongLength,
+    WrongChain,
+    WrongSlot,
     WrongCommand(Seq, command::Reason),
 }
 
@@ -49,7 +60,7 @@ enum Tested {
 impl Reason {
     // The refusal's number.
     fn number(self) -> u64
-        ensures { λ r. ⌜ (r ≡ refusalFor self .number) × (r ≤ 14) ⌝ }
+        ensures { λ r. ⌜ (r ≡ refusalFor self .number) × (r ≤ 16) ⌝ }
     {
         match self {
             Reason::WrongGraphSize => 1,
@@ -58,6 +69,8 @@ impl Reason {
             Reason::WrongListLength => 4,
             Reason::TooManyCommands => 5,
             Reason::WrongLength => 6,
+            Reason::WrongChain => 15,
+            Reason::WrongSlot => 16,
             Reason::WrongCommand(_, reason) => reason.number(),
         }
     }
@@ -73,6 +86,8 @@ impl Reason {
             Reason::WrongListLength => 0,
             Reason::TooManyCommands => 0,
             Reason::WrongLength => 0,
+            Reason::WrongChain => 0,
+            Reason::WrongSlot => 0,
             Reason::WrongCommand(seq, _) => seq.0,
         }
     }
@@ -88,6 +103,8 @@ impl Reason {
             Reason::WrongListLength => 0,
             Reason::TooManyCommands => 0,
             Reason::WrongLength => 0,
+            Reason::WrongChain => 0,
+            Reason::WrongSlot => 0,
             Reason::WrongCommand(_, reason) => reason.character(),
         }
     }
@@ -96,7 +113,7 @@ impl Reason {
 impl Opening {
     // The answer's number, 0 for opened.
     pub fn number(self) -> u64
-        ensures { λ r. ⌜ (r ≡ openingRefusal self .number) × (r ≤ 14) ⌝ }
+        ensures { λ r. ⌜ (r ≡ openingRefusal self .number) × (r ≤ 16) ⌝ }
     {
         match self {
             Opening::Opened => 0,
@@ -134,26 +151,94 @@ const LARGEST_CAPACITY: u64 = 4096;
 
 const MOST_COMMANDS: usize = 4096;
 
-// Opens a list of commands. A refusal leaves every list as it was.
+// Opens a list of commands, with an empty store. A refusal leaves every list as it was.
 pub fn open(
     state: &mut [u8],
     keys: &mut [u64],
     chutes: &mut [u16],
     answers: &mut [u16],
+    image: &mut [u8],
     commands: &[u8],
     size: u64,
     workers: u64,
     capacity: u64,
 ) -> Opening
-    ensures refusal { λ r. ⌜ openingRefusal r ≡ refusalIn (openOn size workers capacity (now (commands .entry)) (atEntry state keys chutes answers)) ⌝ }
-    ensures left { λ r. ⌜ atExit state keys chutes answers ≡ kept (openOn size workers capacity (now (commands .entry)) (atEntry state keys chutes answers)) (atEntry state keys chutes answers) ⌝ }
+    ensures refusal { λ r. ⌜ openingRefusal r ≡ refusalIn (openOn size workers capacity (now (commands .entry)) nothing (allAtEntry state keys chutes answers image)) ⌝ }
+    ensures left { λ r. ⌜ allAtExit state keys chutes answers image ≡ kept (openOn size workers capacity (now (commands .entry)) nothing (allAtEntry state keys chutes answers image)) (allAtEntry state keys chutes answers image) ⌝ }
+{
+    // No image is read: any bytes may stand in its place.
+    open_with(
+        state,
+        keys,
+        chutes,
+        answers,
+        image,
+        commands,
+        false,
+        commands,
+        size,
+        workers,
+        capacity,
+    )
+}
+
+// Opens a list of commands, with the store that an image holds. A refusal leaves every list as it was.
+pub fn open_from(
+    state: &mut [u8],
+    keys: &mut [u64],
+    chutes: &mut [u16],
+    answers: &mut [u16],
+    image: &mut [u8],
+    commands: &[u8],
+    source: &[u8],
+    size: u64,
+    workers: u64,
+    capacity: u64,
+) -> Opening
+    ensures refusal { λ r. ⌜ openingRefusal r ≡ refusalIn (openOn size workers capacity (now (commands .entry)) (imageFrom (now (source .entry))) (allAtEntry state keys chutes answers image)) ⌝ }
+    ensures left { λ r. ⌜ allAtExit state keys chutes answers image ≡ kept (openOn size workers capacity (now (commands .entry)) (imageFrom (now (source .entry))) (allAtEntry state keys chutes answers image)) (allAtEntry state keys chutes answers image) ⌝ }
+{
+    open_with(
+        state,
+        keys,
+        chutes,
+        answers,
+        image,
+        commands,
+        true,
+        source,
+        size,
+        workers,
+        capacity,
+    )
+}
+
+// Opens a list of commands, with the store of an image if there is one. A refusal leaves every list as it was.
+pub fn open_with(
+    state: &mut [u8],
+    keys: &mut [u64],
+    chutes: &mut [u16],
+    answers: &mut [u16],
+    image: &mut [u8],
+    commands: &[u8],
+    from: bool,
+    source: &[u8],
+    size: u64,
+    workers: u64,
+    capacity: u64,
+) -> Opening
+    ensures refusal { λ r. ⌜ openingRefusal r ≡ refusalIn (openOn size workers capacity (now (commands .entry)) (sourceOf from (now (source .entry))) (allAtEntry state keys chutes answers image)) ⌝ }
+    ensures left { λ r. ⌜ allAtExit state keys chutes answers image ≡ kept (openOn size workers capacity (now (commands .entry)) (sourceOf from (now (source .entry))) (allAtEntry state keys chutes answers image)) (allAtEntry state keys chutes answers image) ⌝ }
 {
     let tested = answer_for(
         state,
         keys,
         chutes,
         answers,
+        image,
         commands,
+        from,
+        source,
         size,
         workers,
         capacity,
@@ -167,29 +252,33 @@ pub fn open(
                 capacity: capacity as u16,
                 count: answers.len() as u16,
             };
-            write_opened(state, settings);
-            clear_keys(keys);
-            clear_numbers(chutes);
+            let used = fill_store(from, source, keys, chutes);
+            write_opened(state, settings, used);
             clear_numbers(answers);
+            clear_bytes(image);
             Opening::Opened
         }
         Tested::Refused(reason) => Opening::Refused(reason),
     }
 }
 
-// Tests 1 to 6 in the order of document 01, then each command for 7, 8 or 13, 9 and 10 or 14.
+// Tests 1 to 6 in the order of document 01, 15 and 16 of an image to open from, then each command for 7, 8 or 13, 9 and 10
+// or 14.
 fn answer_for(
     state: &[u8],
     keys: &[u64],
     chutes: &[u16],
     answers: &[u16],
+    image: &[u8],
     commands: &[u8],
+    from: bool,
+    source: &[u8],
     size: u64,
     workers: u64,
     capacity: u64,
 ) -> Tested
-    ensures outcome { λ r. ⌜ openOn size workers capacity (now (commands .entry)) (atEntry state keys chutes answers) ≡ outcomeOf r (setupOf size workers capacity (now (commands .entry))) ⌝ }
-    ensures largest { λ r. ⌜ ((n : ℕ) → r ≡ Passed n → n ≡ setupOf size workers capacity (now (commands .entry)) .largest) ⌝ }
+    ensures outcome { λ r. ⌜ openOn size workers capacity (now (commands .entry)) (sourceOf from (now (source .entry))) (allAtEntry state keys chutes answers image) ≡ outcomeOf r (setupOf size workers capacity (now (commands .entry)) (sourceOf from (now (source .entry)))) ⌝ }
+    ensures largest { λ r. ⌜ ((n : ℕ) → r ≡ Passed n → n ≡ largestCount workers (commandsIn (now (commands .entry)))) ⌝ }
 {
     let count = commands.len() / Command::LENGTH;
     if !is_within(size, LARGEST_SIZE) {
@@ -207,8 +296,17 @@ fn answer_for(
     if count > MOST_COMMANDS {
         return Tested::Refused(Reason::TooManyCommands);
     }
-    if !lengths_fit(state, keys, chutes, answers, capacity, count) {
+    if !lengths_fit(state, keys, chutes, answers, image, capacity, count) {
         return Tested::Refused(Reason::WrongLength);
+    }
+    if !source_long(from, source, capacity) {
+        return Tested::Refused(Reason::WrongLength);
+    }
+    if !source_chained(from, source, capacity) {
+        return Tested::Refused(Reason::WrongChain);
+    }
+    if !source_fits(from, source, capacity) {
+        return Tested::Refused(Reason::WrongSlot);
     }
     let reading = command::read_list(commands);
     answer_of(reading, workers)
@@ -227,14 +325,67 @@ fn lengths_fit(
     keys: &[u64],
     chutes: &[u16],
     answers: &[u16],
+    image: &[u8],
     capacity: u64,
     count: usize,
 ) -> bool
-    ensures { λ r. ⌜ r ≡ lengthsFit capacity count (atEntry state keys chutes answers) ⌝ }
+    requires { ⌜ capacity ≤ 4096 ⌝ }
+    ensures { λ r. ⌜ r ≡ (lengthsFit capacity count (allAtEntry state keys chutes answers image) && imageFits capacity (allAtEntry state keys chutes answers image)) ⌝ }
 {
-    state.len() == STATE_LENGTH
-        && (answers.len() == count
-            && (keys.len() as u64 == capacity && chutes.len() as u64 == capacity))
+    if state.len() != STATE_LENGTH {
+        return false;
+    }
+    if answers.len() != count {
+        return false;
+    }
+    if keys.len() as u64 != capacity {
+        return false;
+    }
+    if chutes.len() as u64 != capacity {
+        return false;
+    }
+    is_image_long(image, capacity)
+}
+
+// Whether an image is as long as a store of the capacity asks.
+fn is_image_long(image: &[u8], capacity: u64) -> bool
+    requires { ⌜ capacity ≤ 4096 ⌝ }
+    ensures { λ r. ⌜ r ≡ eqb (length (now (image .entry))) (imageLength capacity) ⌝ }
+{
+    image.len() == SLOT * (capacity as usize + 1)
+}
+
+// Refusal 6 of an image to open from.
+fn source_long(from: bool, source: &[u8], capacity: u64) -> bool
+    requires { ⌜ capacity ≤ 4096 ⌝ }
+    ensures { λ r. ⌜ r ≡ sourceLong capacity (sourceOf from (now (source .entry))) ⌝ }
+{
+    if !from {
+        return true;
+    }
+    is_image_long(source, capacity)
+}
+
+// Refusal 15, of an image of that length.
+fn source_chained(from: bool, source: &[u8], capacity: u64) -> bool
+    requires { ⌜ (capacity ≤ 4096) × (sourceLong capacity (sourceOf from (now source)) ≡ true) ⌝ }
+    ensures { λ r. ⌜ r ≡ sourceChained capacity (sourceOf from (now (source .entry))) ⌝ }
+{
+    if !from {
+        return true;
+    }
+    chain_fits(source, capacity as usize)
+}
+
+// Refusal 16, of an image whose chain fits.
+fn source_fits(from: bool, source: &[u8], capacity: u64) -> bool
+    requires { ⌜ (capacity ≤ 4096) × (sourceLong capacity (sourceOf from (now source)) ≡ true) × (sourceChained capacity (sourceOf from (now source)) ≡ true) ⌝ }
+    ensures { λ r. ⌜ r ≡ sourceFits capacity (sourceOf from (now (source .entry))) ⌝ }
+{
+    if !from {
+        return true;
+    }
+    slots_fit(source, capacity as usize)
 }
 
 // The larger of two worker counts.
@@ -277,6 +428,30 @@ fn clear_numbers(numbers: &mut [u16])
     }
 }
 
+// Sets every byte to 0.
+fn clear_bytes(bytes: &mut [u8])
+    ensures { λ _. ⌜ now (bytes .exit) ≡ replicate (length (now (bytes .entry))) 0 ⌝ }
+{
+    let mut i = 0;
+    while i < bytes.len() {
+        bytes[i] = 0;
+        i += 1;
+    }
+}
+
+// The store at opening: the entries of an image whose chain fits, or none. Returns how many there are.
+fn fill_store(from: bool, source: &[u8], keys: &mut [u64], chutes: &mut [u16]) -> usize
+    requires { ⌜ (length (now chutes) ≡ length (now keys)) × (sourceLong (length (now keys)) (sourceOf from (now source)) ≡ true) × (sourceChained (length (now keys)) (sourceOf from (now source)) ≡ true) ⌝ }
+    ensures { λ r. ⌜ storeOf (now (keys .exit)) (now (chutes .exit)) r ≡ layOut (length (now (keys .entry))) (firstEntries (length (now (keys .entry))) (sourceOf from (now (source .entry)))) ⌝ }
+{
+    if from {
+        return read_image(source, keys, chutes);
+    }
+    clear_keys(keys);
+    clear_numbers(chutes);
+    0
+}
+
 // The next indexes at opening: the free list is 1, 2 and so on up to the graph size, and the chain is empty.
 fn first_next(size: u8) -> [u8; 151]
     requires { ⌜ (1 ≤ size) × (size ≤ 150) ⌝ }
@@ -291,10 +466,10 @@ fn first_next(size: u8) -> [u8; 151]
     next
 }
 
-// Writes the opening state.
-fn write_opened(state: &mut [u8], settings: Settings)
+// Writes the opening state, with a number of entries in the store.
+fn write_opened(state: &mut [u8], settings: Settings, used: usize)
     requires { ⌜ (length (now state) ≡ stateLength) × (1 ≤ settings .size) × (settings .size ≤ 150) ⌝ }
-    ensures { λ _. ⌜ LaysOpened settings (now (state .exit)) ⌝ }
+    ensures { λ _. ⌜ LaysOpened settings used (now (state .exit)) ⌝ }
 {
     let next = first_next(settings.size);
     let seq = [0u16; 151];
@@ -305,7 +480,7 @@ fn write_opened(state: &mut [u8], settings: Settings)
     let counters = Counters {
         free: Node(1),
         loaded: Seq(0),
-        used: 0,
+        used,
         limit: settings.workers as usize,
     };
     write_state(

@@ -2,32 +2,34 @@
 -- Assumes nothing.
 use Prim.Native.Nat.{_+_, _-_, _^_, _<_}
 use native.Mathlib.Omega.{arith}
+use mathlib.Core.Path.{sym, ap, _∙_}
 use borrow.Author.Needs.{needs}
 use lib.ListN.{length, getD}
+use Rattle.model.specs.Image.{imageLength}
 use Rattle.graph.specs.Memory.{memory}
 use Rattle.controller.proofs.Performing.{Along, along-none, along-more, performed, each-within, ready-for}
 use Rattle.controller.proofs.advance_call.perform.Statement.{statement}
 use Rattle.controller.proofs.advance_call.perform.Tie as tie
 
 abbrev Inv-loop : tie.InvT-loop
-Inv-loop state keys₀ chutes₀ answers₀ commands schedule settings counters₀ next₀ seq₀ executing₀ locked₀ waits₀ kinds₀ item-keys₀ item-chutes₀ threads₀ i₀ keys chutes answers counters next seq executing locked waits kinds item-keys item-chutes threads i =
-    Along commands schedule (memory next₀ seq₀ executing₀ locked₀ waits₀ keys₀ chutes₀ answers₀ counters₀) threads₀ kinds item-keys item-chutes (memory next seq executing locked waits keys chutes answers counters) threads i
+Inv-loop state keys₀ chutes₀ answers₀ image₀ commands schedule settings counters₀ next₀ seq₀ executing₀ locked₀ waits₀ kinds₀ item-keys₀ item-chutes₀ threads₀ i₀ keys chutes answers image counters next seq executing locked waits kinds item-keys item-chutes threads i =
+    Along commands schedule (memory next₀ seq₀ executing₀ locked₀ waits₀ keys₀ chutes₀ answers₀ image₀ counters₀) threads₀ kinds item-keys item-chutes (memory next seq executing locked waits keys chutes answers image counters) threads i
 
 abbrev μ-loop : tie.MeasureT-loop
-μ-loop state keys₀ chutes₀ answers₀ commands schedule settings counters₀ next₀ seq₀ executing₀ locked₀ waits₀ kinds₀ item-keys₀ item-chutes₀ threads₀ i₀ keys chutes answers counters next seq executing locked waits kinds item-keys item-chutes threads i =
+μ-loop state keys₀ chutes₀ answers₀ image₀ commands schedule settings counters₀ next₀ seq₀ executing₀ locked₀ waits₀ kinds₀ item-keys₀ item-chutes₀ threads₀ i₀ keys chutes answers image counters next seq executing locked waits kinds item-keys item-chutes threads i =
     length schedule - i
 
 -- the function's entry, from where the loop begins
 abbrev entry : tie.After-shared-slice-known2 Inv-loop μ-loop → tie.Start Inv-loop μ-loop
-entry c = c .before .before .before .before .before .before
+entry c = c .before .before .before .before .before .before .before
 
 -- a turn's beginning, from where its step is made
-abbrev stepping : tie.After-step-arg3 Inv-loop μ-loop → tie.In-loop Inv-loop μ-loop
-stepping c = c .before .before .before .before .before .before .before .before .before .before .before .before .before
+abbrev stepping : tie.After-step-arg4 Inv-loop μ-loop → tie.In-loop Inv-loop μ-loop
+stepping c = c .before .before .before .before .before .before .before .before .before .before .before .before .before .before
 
 -- a turn's step, from where the thread is stored
-abbrev stepped : tie.After-slice-known7 Inv-loop μ-loop → tie.After-step Inv-loop μ-loop
-stepped c = c .before .before .before .before .before .before
+abbrev stepped : tie.After-slice-known9 Inv-loop μ-loop → tie.After-step Inv-loop μ-loop
+stepped c = c .before .before .before .before .before .before .before .before
 
 -- the loop's end, from where the state is written
 abbrev ended : tie.After-waits2 Inv-loop μ-loop → tie.After-loop Inv-loop μ-loop
@@ -48,7 +50,7 @@ next-fits : (c : tie.In-loop Inv-loop μ-loop) → c .before .loop .i + 1 < 2 ^ 
 next-fits c = omega arith
 
 loop-holds : tie.Need-loop-holds Inv-loop μ-loop
-loop-holds c = along-none (entry c .pre .ready) (entry c .pre .within) (search needs)
+loop-holds c = along-none (entry c .pre .ready) (entry c .pre .within) (search (needs, entry c .good .1 .1 .1 .1 .1 .1 .1 .1 .1 .1 .1 .1 .1 .1 .1 .1 .1))
 
 shared-slice-read-t : tie.Need-shared-slice-read-t Inv-loop μ-loop
 shared-slice-read-t c = omega arith
@@ -63,7 +65,10 @@ array-copy-out-thread : tie.Need-array-copy-out-thread Inv-loop μ-loop
 array-copy-out-thread c = named (c .before)
 
 step-requires : tie.Need-step-requires Inv-loop μ-loop
-step-requires c κs = let pass = stepping c .before .loop in ready-for _ (pass .inv .within _) (pass .inv .ready)
+step-requires c κs =
+    let pass = stepping c .before .loop in
+    let begin = start (stepping c .before) in
+    (ready-for _ (pass .inv .within _) (pass .inv .ready), pass .inv .image-long ∙ begin .pre .imaged ∙ ap imageLength (sym (pass .inv .keys-long)))
 
 mul-threads : tie.Need-mul-threads Inv-loop μ-loop
 mul-threads c = omega (arith, named (turn (stepped c)))
@@ -82,7 +87,7 @@ loop-again c =
     let after = stepped (c .before) in
     let called = after .step in
     let pass = turn after in
-    along-more (called .result .thread) (pass .before .loop .inv) (pass .loop-test .taken) (named pass) (called .ensures) (called .kept .1 .1 .1 .1 .1 .1 .1 .1 .0) (called .kept .1 .1 .1 .1 .1 .1 .1 .1 .1 .0) (called .kept .1 .1 .1 .1 .1 .1 .1 .1 .1 .1 .0)
+    along-more (called .result .thread) (pass .before .loop .inv) (pass .loop-test .taken) (named pass) (called .ensures) (called .kept .1 .1 .1 .1 .1 .1 .1 .1 .0) (called .kept .1 .1 .1 .1 .1 .1 .1 .1 .1 .0) (called .kept .1 .1 .1 .1 .1 .1 .1 .1 .1 .1 .0) (called .kept .1 .1 .1 .1 .1 .1 .1 .1 .1 .1 .1 .0)
 
 write-state-requires : tie.Need-write-state-requires Inv-loop μ-loop
 write-state-requires c κs = start (ended c .before) .pre .long
@@ -99,11 +104,14 @@ same-length-3 c = ended (c .before .before .before) .before .loop .inv .chutes-l
 same-length-4 : tie.Need-same-length-4 Inv-loop μ-loop
 same-length-4 c = ended (c .before .before .before) .before .loop .inv .answers-long
 
+same-length-5 : tie.Need-same-length-5 Inv-loop μ-loop
+same-length-5 c = ended (c .before .before .before) .before .loop .inv .image-long
+
 returns : tie.Need-returns Inv-loop μ-loop
 returns c =
     let after = ended (c .before .before .before) in
     let pass = after .before .loop in
-    performed (start (after .before) .args .settings) (pass .counters) (pass .next) (pass .seq) (pass .executing) (pass .locked) (pass .waits) (pass .keys) (pass .chutes) (pass .answers) _
+    performed (start (after .before) .args .settings) (pass .counters) (pass .next) (pass .seq) (pass .executing) (pass .locked) (pass .waits) (pass .keys) (pass .chutes) (pass .answers) (pass .image) _
     (pass .inv) (after .loop-test .left) (c .before .before .write-state .ensures)
 
 pub perform-spec : {M : Type 1} → statement M
@@ -128,4 +136,5 @@ perform-spec =
     same-length-2
     same-length-3
     same-length-4
+    same-length-5
     returns)

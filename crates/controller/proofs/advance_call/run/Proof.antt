@@ -7,16 +7,16 @@ use mathlib.Core.List.{List}
 use lib.ListN.{length}
 use Rattle.model.specs.Step.{State, steps}
 use Rattle.model.specs.declared.Counters.{Counters}
-use Rattle.state_bytes.specs.Layout.{Lists, lists, listsOf, setupIn, stateLength}
+use Rattle.state_bytes.specs.Layout.{Lists, allLists, listsOf, setupIn, stateLength}
 use Rattle.state_bytes.proofs.Passed.{Long, InRange, lengths-passed, state-passed}
-use Rattle.controller.proofs.Handed.{ReadOut, fit-count, fit-named, fit-capacity, fit-commands, read-shows, read-placed, read-ready, read-within, zeros}
+use Rattle.controller.proofs.Handed.{ReadOut, fit-count, fit-named, fit-capacity, fit-image, fit-commands, read-shows, read-placed, read-ready, read-within, zeros}
 use borrow.Author.Needs.{needs}
 use Rattle.controller.proofs.advance_call.run.Statement.{statement}
 use Rattle.controller.proofs.advance_call.run.Tie as tie
 
 -- the function's entry, from where the settings are read
 abbrev start0 : tie.After-settings-in-arg → tie.Start
-start0 c = c .before .before .before .before .before .before .before
+start0 c = c .before .before .before .before .before .before .before .before
 
 -- the calls that read, each from the next
 abbrev bytes-read : tie.After-read-numbers → tie.After-read-bytes
@@ -36,16 +36,16 @@ abbrev threads-read : tie.After-item-chutes → tie.After-read-threads
 threads-read c = c .before .before .before .before
 
 -- the call that keeps the commands, from where the turns are performed
-abbrev kept : tie.After-perform-arg4 → tie.After-keep-all
-kept c = c .before .before .before .before
+abbrev kept : tie.After-perform-arg5 → tie.After-keep-all
+kept c = c .before .before .before .before .before
 
 -- the call that performs the turns, from the return
-abbrev performed : tie.After-slice-known8 → tie.After-perform
-performed c = c .before .before .before .before .before .before .before .before
+abbrev performed : tie.After-slice-known10 → tie.After-perform
+performed c = c .before .before .before .before .before .before .before .before .before .before
 
 -- the lists that the call gets, and what their tests say
 abbrev given : tie.Start → Lists
-given c = lists (c .args .state .now) (c .args .keys .now) (c .args .chutes .now) (c .args .answers .now)
+given c = allLists (c .args .state .now) (c .args .keys .now) (c .args .chutes .now) (c .args .answers .now) (c .args .image .now)
 
 lengths : (c : tie.Start) → Long (given c) (c .args .commands .now)
 lengths c = lengths-passed (given c) (c .args .commands .now) (c .pre .lengths)
@@ -193,6 +193,7 @@ perform-requires c κs =
       ready = read-ready (given start) (read-out at) commands (lengths start) (range start) (kept c .keep-all .ensures);
       within = read-within (given start) (read-out at) commands (lengths start) (range start);
       named = fit-named (given start) commands (range start) (start .args .schedule .now) (start .pre .named);
+      imaged = fit-image (given start) commands (lengths start) (start .pre .image);
     }
 
 same-length : tie.Need-same-length
@@ -206,6 +207,9 @@ same-length-3 c = search needs
 
 same-length-4 : tie.Need-same-length-4
 same-length-4 c = search needs
+
+same-length-5 : tie.Need-same-length-5
+same-length-5 c = search needs
 
 returns : tie.Need-returns
 returns c =
@@ -241,4 +245,5 @@ run-spec =
     same-length-2
     same-length-3
     same-length-4
+    same-length-5
     returns)

@@ -15,8 +15,8 @@ numbered c = c .before .before .before .before .before .before .before .before
 first-next-requires : tie.Need-first-next-requires
 first-next-requires c κs = search needs
 
-cast-t15 : tie.Need-cast-t15
-cast-t15 c = search needs
+cast-t16 : tie.Need-cast-t16
+cast-t16 c = search needs
 
 write-state-requires : tie.Need-write-state-requires
 write-state-requires c κs = search needs
@@ -25,12 +25,12 @@ same-length : tie.Need-same-length
 same-length c = search needs
 
 returns : tie.Need-returns
-returns c o sets =
+returns c o sets entries =
     let w = c .before .before in
     let f = numbered w in
     let next = f .first-next in
-    w .write-state .ensures o (opened o) sets (opened-shown o _ (next .result) (sets .workers) (λ n. next .ensures n ∙ ap (λ (size : ℕ). firstNext size n) (sym (sets .size))))
+    w .write-state .ensures o (opened o) sets (opened-shown o _ _ (next .result) (sets .workers) entries (λ n. next .ensures n ∙ ap (λ (size : ℕ). firstNext size n) (sym (sets .size))))
 
 pub write-opened-spec : {M : Type 1} → statement M
 write-opened-spec =
-    tie.close (tie.spec first-next-requires cast-t15 write-state-requires same-length returns)
+    tie.close (tie.spec first-next-requires cast-t16 write-state-requires same-length returns)

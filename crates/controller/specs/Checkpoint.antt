@@ -1,0 +1,47 @@
+-- Checkpoints (02, A.3) over calls: what the lent image holds after any calls, and that a run opened from it with the rest of the list is
+-- accepted and gives the answers and the table of the unbroken run. Proved in proofs/Checkpoint. Assumes nothing.
+use Prim.Native.Nat.{ℕ, _+_, _*_, _/_, _≤_}
+use mathlib.Core.Path.{_≡_}
+use mathlib.Core.Bool.{true, cond}
+use mathlib.Core.List.{List, _∷_}
+use lib.ListN.{length, getD, drop}
+use Rattle.model.specs.Serial.{serialEntries}
+use Rattle.model.specs.Store.{layOut}
+use Rattle.model.specs.Setup.{Setup}
+use Rattle.model.specs.Step.{opened}
+use Rattle.model.specs.Image.{seqIn}
+use Rattle.model.specs.Statement.{wrote, removed, EachCommand, serialAnswer}
+use Rattle.model.specs.Checkpoint.{lastCheckpoint, imageAt}
+use Rattle.state_bytes.specs.Layout.{Lists, stateIn, lengthsFit, imageFits}
+use Rattle.controller.specs.Calls.{accepted, Source, imageFrom, openOn, setupOf}
+use Rattle.controller.specs.Demand3.{Call, listsAfter, Proper, schedules}
+
+-- "at its writing turn puts the store into a lent image; the last one stands": the image is that of the last kind 6 written, with what the
+-- commands delivered before it leave and its place, and all zeros where there is none
+abbrev pub CheckpointsAreKeptOverCalls : Type 0
+CheckpointsAreKeptOverCalls =
+    (size workers capacity : ℕ) (commands : List ℕ) (source : Source) (lent l : Lists) → openOn size workers capacity commands source lent ≡ accepted l →
+    (calls : List Call) → Proper commands l calls →
+    let o : Setup = setupOf size workers capacity commands source in
+    listsAfter calls l .image ≡ imageAt o (lastCheckpoint o (λ c. wrote o c (schedules calls) (opened o)))
+
+-- "A run opened from an image with the rest of the list must give the answers and table of the unbroken run": the run r, opened with the
+-- commands after place p of the run o, whatever calls deal it; "its delivery places begin again at 1"
+pub record GoesOn (o : Setup) (p : ℕ) (r : Setup) (calls : List Call) (l : Lists) : Type 0 where
+  pub answer : EachCommand r (λ c. getD (0 ∷ l .answers) c 0 ≡ cond (wrote r c (schedules calls) (opened r)) (serialAnswer o (p + c)) 0)
+  pub table : EachCommand r (λ c. removed r c (schedules calls) (opened r) ≡ true)
+      → stateIn l .service .store ≡ layOut (o .capacity) (serialEntries (o .capacity) (o .entries) (o .commands))
+
+-- From the image of every state that calls reach and that has a checkpoint, with any size and worker count and any lent lists of the right
+-- lengths, opening with the commands after the image's place is accepted, and the run goes on.
+abbrev pub RestartOverCalls : Type 0
+RestartOverCalls =
+    (size workers capacity : ℕ) (commands : List ℕ) (source : Source) (lent l : Lists) → openOn size workers capacity commands source lent ≡ accepted l →
+    (calls : List Call) → Proper commands l calls →
+    let image : List ℕ = listsAfter calls l .image in
+    let p : ℕ = seqIn image in
+    let rest : List ℕ = drop (16 * p) commands in
+    1 ≤ p → (size′ workers′ : ℕ) → (1 ≤ size′) × (size′ ≤ 150) → (1 ≤ workers′) × (workers′ ≤ 64) →
+    (fresh : Lists) → lengthsFit capacity (length rest / 16) fresh ≡ true → imageFits capacity fresh ≡ true →
+    (m : Lists) × (openOn size′ workers′ capacity rest (imageFrom image) fresh ≡ accepted m) × ((more : List Call) → Proper rest m more
+    → GoesOn (setupOf size workers capacity commands source) p (setupOf size′ workers′ capacity rest (imageFrom image)) more (listsAfter more m))
