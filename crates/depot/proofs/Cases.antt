@@ -14,12 +14,13 @@ use Rattle.model.specs.Upd.{upd}
 use Rattle.model.specs.Graph.{chainFrom}
 use Rattle.model.specs.Serial.{serve}
 use Rattle.model.specs.Store.{layOut, lookUp, insert}
+use Rattle.model.specs.Image.{imageLength, emptyImage}
 use Rattle.model.specs.Service.{writeKind}
 use Rattle.model.specs.Step.{opened, steps}
 use Rattle.model.specs.Statement.{allWithin}
 use Rattle.byte_fields.specs.Bytes.{numberAt, tabulate, fields}
-use Rattle.state_bytes.specs.Layout.{listsOf, stateLength, lengthsFit}
-use Rattle.controller.specs.Calls.{accepted, openedWith, openOn}
+use Rattle.state_bytes.specs.Layout.{listsOf, stateLength, lengthsFit, imageFits}
+use Rattle.controller.specs.Calls.{accepted, sourceLong, sourceChained, sourceFits, firstEntries, openedWith, openOn}
 use Rattle.depot.specs.Cases.{command, full, corrected, writtenInFull, input, stopped, Marked}
 use Rattle.depot.specs.Program.{decimalWithin, decimal, zeros, commandLine, commandLines, totals, scheduleOf, opening}
 use Rattle.depot.specs.Reached.{inputSetup, InputPasses}
@@ -31,11 +32,11 @@ abbrev Accepts : List ℕ → Type 0
 Accepts i = (opening i ≡ accepted (listsOf (inputSetup i) (opened (inputSetup i)))) × (allWithin (inputSetup i .largest) (scheduleOf i) ≡ true)
 
 accepts-19 : Accepts (stopped 19)
-unfolding input numberAt openOn openedWith firstRefusal readings readText firstFault checkDigit keyOf zeros lengthsFit stateLength allWithin largestCount commandsIn commandFrom
+unfolding input numberAt openOn openedWith firstRefusal readings readText firstFault checkDigit keyOf zeros emptyImage imageLength lengthsFit imageFits sourceLong sourceChained sourceFits stateLength allWithin largestCount commandsIn commandFrom
 accepts-19 = (refl, refl)
 
 accepts-9 : Accepts (stopped 9)
-unfolding input numberAt openOn openedWith firstRefusal readings readText firstFault checkDigit keyOf zeros lengthsFit stateLength allWithin largestCount commandsIn commandFrom
+unfolding input numberAt openOn openedWith firstRefusal readings readText firstFault checkDigit keyOf zeros emptyImage imageLength lengthsFit imageFits sourceLong sourceChained sourceFits stateLength allWithin largestCount commandsIn commandFrom
 accepts-9 = (refl, refl)
 
 -- and the others
@@ -48,7 +49,7 @@ unfolding input numberAt
 stopped-passes = record { short = omega arith; whole = omega arith; lists = _; opens = accepts-9 .0; named = accepts-9 .1 }
 
 pub marked : Marked
-unfolding checkDigit digits readText firstFault keyOf largestKey areDependent command serve full corrected writtenInFull writeKind layOut input numberAt steps opened upd noneBelow lookUp insert readings commandsIn commandFrom tabulate fields commandLines commandLine decimal decimalWithin totals chainFrom
+unfolding firstEntries checkDigit digits readText firstFault keyOf largestKey areDependent command serve full corrected writtenInFull writeKind layOut input numberAt steps opened upd noneBelow lookUp insert readings commandsIn commandFrom tabulate fields commandLines commandLine decimal decimalWithin totals chainFrom
 marked = record {
   a = refl;
   b = refl;

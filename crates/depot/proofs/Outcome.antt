@@ -14,14 +14,15 @@ use Rattle.s10.specs.Text.{asksDigit, firstFault, serialDigits, checkDigit}
 use Rattle.s10.specs.Outcome.{faultAt, readText}
 use Rattle.s10.specs.Outcome as Identifier
 use Rattle.command.specs.declared.Kind.{Kind}
-use Rattle.command.specs.declared.Kind.the-variants.{Insert, Delete, Read, Update, Workers}
+use Rattle.command.specs.declared.Kind.the-variants.{Insert, Delete, Read, Update, Workers, Checkpoint}
 use Rattle.command.specs.Dependent.{hasItem}
 use Rattle.command.specs.Read.{firstRefusal, partsOf, readings, readCommand, withKind, withChute, kindOf, chuteFits, chuteRefusal, chuteOf, firstNotZero, readZeros, readIdentifier}
 use Rattle.command.specs.Read as Command
 use Rattle.model.specs.Setup.{Setup}
+use Rattle.model.specs.Image.{imageLength, emptyImage}
 use Rattle.model.specs.Statement.{allWithin}
-use Rattle.state_bytes.specs.Layout.{Lists, stateLength, setupIn, stateFits, lengthsFit, handedBackFit}
-use Rattle.controller.specs.Calls.{CallOutcome, accepted, refused, refusalIn, kept, openedWith, openOn, advanceOn}
+use Rattle.state_bytes.specs.Layout.{Lists, stateLength, setupIn, stateFits, lengthsFit, handedBackFit, imageFits}
+use Rattle.controller.specs.Calls.{CallOutcome, accepted, refused, refusalIn, kept, Source, sourceLong, sourceChained, sourceFits, openedWith, openOn, advanceOn}
 use Rattle.byte_fields.proofs.Bytes.{below-or-past}
 use Rattle.depot.specs.Program.{refusal, printed, zeros}
 
@@ -66,6 +67,7 @@ chute-positive Delete = omega arith
 chute-positive Read = omega arith
 chute-positive Update = omega arith
 chute-positive Workers = omega arith
+chute-positive Checkpoint = omega arith
 
 chute-numbered : (kind : Kind) (o : Identifier.TextOutcome) (bytes : List ℕ) → IdentifierNumbered o → CommandNumbered (withChute kind o bytes)
 unfolding withChute
@@ -95,15 +97,19 @@ unfolding firstRefusal openedWith
 first-numbered place [] setup = call-accepted _
 first-numbered place (part ∷ parts) setup = first-of place (readCommand part) (map readCommand parts) setup (command-numbered part) (λ p. first-numbered p parts setup)
 
-pub open-numbered : (size workers capacity : ℕ) (commands : List ℕ) (l : Lists) → Numbered (openOn size workers capacity commands l)
+pub open-numbered : (size workers capacity : ℕ) (commands : List ℕ) (source : Source) (l : Lists) → Numbered (openOn size workers capacity commands source l)
 unfolding openOn readings
-open-numbered size workers capacity commands l =
+open-numbered size workers capacity commands source l =
     tested Numbered (leb 1 size && leb size 150) _ _
     (tested Numbered (leb 1 workers && leb workers 64) _ _
     (tested Numbered (leb 1 capacity && leb capacity 4096) _ _
     (tested Numbered (eqb (length commands % 16) 0) _ _
     (tested Numbered (leb (length commands / 16) 4096) _ _
-    (tested Numbered (lengthsFit capacity (length commands / 16) l) _ _ (first-numbered 1 (partsOf commands) _) (call-refused _ (omega arith)))
+    (tested Numbered (lengthsFit capacity (length commands / 16) l && imageFits capacity l && sourceLong capacity source) _ _
+    (tested Numbered (sourceChained capacity source) _ _
+    (tested Numbered (sourceFits capacity source) _ _ (first-numbered 1 (partsOf commands) _) (call-refused _ (omega arith)))
+    (call-refused _ (omega arith)))
+    (call-refused _ (omega arith)))
     (call-refused _ (omega arith)))
     (call-refused _ (omega arith)))
     (call-refused _ (omega arith)))
@@ -113,7 +119,7 @@ open-numbered size workers capacity commands l =
 pub advance-numbered : (l : Lists) (commands schedule : List ℕ) → Numbered (advanceOn l commands schedule)
 unfolding advanceOn
 advance-numbered l commands schedule =
-    tested Numbered (handedBackFit l commands) _ _
+    tested Numbered (handedBackFit l commands && imageFits (setupIn (l .state) commands .capacity) l) _ _
     (tested Numbered (stateFits l) _ _
     (tested Numbered (allWithin (setupIn (l .state) commands .largest) schedule) _ _ (call-accepted _) (call-refused _ (omega arith)))
     (call-refused _ (omega arith)))
@@ -134,32 +140,36 @@ printed-accepted text _ l left (call-refused r positive) e k = absurd (omega ari
 -- ---- what is lent
 
 -- an opening looks at the lengths of the lent lists alone
-open-by-lengths : (size workers capacity : ℕ) (commands : List ℕ) (l m : Lists) → length (l .state) ≡ length (m .state) → length (l .answers) ≡ length (m .answers)
-    → length (l .keys) ≡ length (m .keys) → length (l .chutes) ≡ length (m .chutes) → openOn size workers capacity commands l ≡ openOn size workers capacity commands m
-unfolding openOn lengthsFit
-open-by-lengths size workers capacity commands l m state answers keys chutes = rw (state, answers, keys, chutes)
+open-by-lengths : (size workers capacity : ℕ) (commands : List ℕ) (source : Source) (l m : Lists) → length (l .state) ≡ length (m .state) → length (l .answers) ≡ length (m .answers)
+    → length (l .keys) ≡ length (m .keys) → length (l .chutes) ≡ length (m .chutes) → length (l .image) ≡ length (m .image)
+    → openOn size workers capacity commands source l ≡ openOn size workers capacity commands source m
+unfolding openOn lengthsFit imageFits
+open-by-lengths size workers capacity commands source l m state answers keys chutes image = rw (state, answers, keys, chutes, image)
 
 -- and not even at these where the capacity is above 4,096
-open-past : (size workers capacity : ℕ) (commands : List ℕ) (l m : Lists) → 4096 < capacity → openOn size workers capacity commands l ≡ openOn size workers capacity commands m
+open-past : (size workers capacity : ℕ) (commands : List ℕ) (source : Source) (l m : Lists) → 4096 < capacity
+    → openOn size workers capacity commands source l ≡ openOn size workers capacity commands source m
 unfolding openOn
-open-past size workers capacity commands l m past = rw (le-leb 1 capacity (omega arith), lt-leb capacity 4096 past)
+open-past size workers capacity commands source l m past = rw (le-leb 1 capacity (omega arith), lt-leb capacity 4096 past)
 
 state-length : stateLength ≡ 4718
 unfolding stateLength
 state-length = refl
 
 -- so lists of zeros that are as long as asked may stand for those that are lent
-pub lent-as-zeros : (size workers capacity count : ℕ) (commands : List ℕ) (l : Lists) → length (l .state) ≡ 4718 → length (l .answers) ≡ count
-    → length (l .keys) ≡ min capacity 4096 → length (l .chutes) ≡ min capacity 4096
-    → openOn size workers capacity commands l ≡ openOn size workers capacity commands (zeros capacity count)
-unfolding zeros
-lent-as-zeros size workers capacity count commands l state answers keys chutes =
+pub lent-as-zeros : (size workers capacity count : ℕ) (commands : List ℕ) (source : Source) (l : Lists) → length (l .state) ≡ 4718 → length (l .answers) ≡ count
+    → length (l .keys) ≡ min capacity 4096 → length (l .chutes) ≡ min capacity 4096 → length (l .image) ≡ imageLength (min capacity 4096)
+    → openOn size workers capacity commands source l ≡ openOn size workers capacity commands source (zeros capacity count)
+unfolding zeros emptyImage
+lent-as-zeros size workers capacity count commands source l state answers keys chutes image =
     below-or-past 4096 capacity
-    (λ past. open-past size workers capacity commands l _ past)
+    (λ past. open-past size workers capacity commands source l _ past)
     (λ within.
     let room = length-replicate {A = ℕ} capacity 0 in
-    open-by-lengths size workers capacity commands l _
+    let small : min capacity 4096 ≡ capacity = omega arith in
+    open-by-lengths size workers capacity commands source l _
     (state ∙ sym state-length ∙ sym (length-replicate stateLength 0))
     (answers ∙ sym (length-replicate count 0))
     (omega arith)
-    (omega arith))
+    (omega arith)
+    (image ∙ ap imageLength small ∙ sym (length-replicate (imageLength capacity) 0)))

@@ -3,7 +3,7 @@
 use Prim.Native.Nat.{ℕ, suc, _+_}
 use native.Mathlib.Omega.{arith}
 use mathlib.Core.Path.{_≡_, refl, ap, ap₂, _∙_}
-use mathlib.Core.List.{List, _++_, append-assoc}
+use mathlib.Core.List.{List, [], _++_, append-assoc}
 use lib.ListN.{length, getD}
 use Rattle.model.specs.Store.{Store, layOut}
 use Rattle.model.specs.Serial.{Entry, serialAnswers}
@@ -14,7 +14,7 @@ use Rattle.model.specs.Setup.{Setup}
 use Rattle.model.specs.Step.{State}
 use Rattle.byte_fields.specs.Bytes.{tabulate}
 use Rattle.state_bytes.specs.Layout.{listsOf, stateIn}
-use Rattle.controller.specs.Calls.{accepted}
+use Rattle.controller.specs.Calls.{accepted, nothing, firstEntries}
 use Rattle.state_bytes.proofs.RoundTrip.{lists-answers}
 use Rattle.byte_fields.proofs.Bytes.{tabulate-is}
 use Rattle.controller.proofs.AcceptedOpening.{accepted-opening}
@@ -35,7 +35,7 @@ report-of commands o s e = ap (λ (t : State). commandLines commands (listsOf o 
 pub prints-reached : PrintsReached
 unfolding performed advanced printed
 prints-reached input p =
-    let left = opening-performs (sizeOf input) (workersOf input) (capacityOf input) (commandsOf input) _ (p .lists) (p .opens) (scheduleOf input) (p .named) in
+    let left = opening-performs (sizeOf input) (workersOf input) (capacityOf input) (commandsOf input) nothing _ (p .lists) (p .opens) (scheduleOf input) (p .named) in
     output-performed input (p .short) (omega (arith, p .whole)) (p .whole) ∙ rw (p .opens, left .0) (report-of (commandsOf input) (inputSetup input) (reached input) (left .1))
 
 -- ---- the serial run's lines
@@ -52,7 +52,7 @@ empty-chain s n none used =
     (append-assoc (ascii "store " ++ decimal n) (ascii " chain ") (ascii "0\n"))
 
 -- the serial run's answer at a place
-serial-at : (o : Setup) (i : ℕ) → serialAnswer o (suc i) ≡ getD (serialAnswers (o .capacity) (o .commands)) i 0
+serial-at : (o : Setup) (i : ℕ) → serialAnswer o (suc i) ≡ getD (serialAnswers (o .capacity) (o .entries) (o .commands)) i 0
 unfolding serialAnswer
 serial-at o i = refl
 
@@ -63,11 +63,12 @@ laid-used capacity es = refl
 
 -- where every command is removed, the model's theorem gives the answers, the table and the empty chain
 pub prints-serial : PrintsSerial
+unfolding firstEntries
 prints-serial input p all =
     let o = inputSetup input in
-    let accepted = accepted-opening (sizeOf input) (workersOf input) (capacityOf input) (commandsOf input) _ (p .lists) (p .opens) .setup in
-    let answers = tabulate-is (length (o .commands)) (λ i. reached input .service .answers (suc i)) (serialAnswers (o .capacity) (o .commands)) 0
-    (serial-length (o .capacity) (o .commands)) (λ i h. all-serial o accepted (scheduleOf input) (p .named) all (suc i) (omega arith) (omega arith) ∙ serial-at o i) in
+    let accepted = accepted-opening (sizeOf input) (workersOf input) (capacityOf input) (commandsOf input) nothing _ (p .lists) (p .opens) .setup in
+    let answers = tabulate-is (length (o .commands)) (λ i. reached input .service .answers (suc i)) (serialAnswers (o .capacity) [] (o .commands)) 0
+    (serial-length (o .capacity) [] (o .commands)) (λ i h. all-serial o accepted (scheduleOf input) (p .named) all (suc i) (omega arith) (omega arith) ∙ serial-at o i) in
     let table = demand-3 o accepted (scheduleOf input) (p .named) .table all .1 in
     prints-reached input p ∙ ap₂ (λ (a t : List ℕ). commandLines (commandsOf input) a ++ t) answers
     (empty-chain (reached input) _ (none-linked o accepted (scheduleOf input) (p .named) all) (ap (λ (st : Store). st .used) table ∙ laid-used _ _))

@@ -6,13 +6,14 @@ use mathlib.Core.Option.{Option, none, some}
 use lib.ListN.{length, getD, take, drop, replicate}
 use lib.Dec.{ltb}
 use Rattle.command.specs.declared.Kind.{Kind}
-use Rattle.command.specs.declared.Kind.the-variants.{Insert, Delete, Read, Update, Workers}
+use Rattle.command.specs.declared.Kind.the-variants.{Insert, Delete, Read, Update, Workers, Checkpoint}
 use Rattle.command.specs.Read.{kindOf}
 use Rattle.model.specs.Graph.{chainFrom}
+use Rattle.model.specs.Image.{emptyImage}
 use Rattle.model.specs.Step.{State}
 use Rattle.byte_fields.specs.Bytes.{numberAt, fields}
-use Rattle.state_bytes.specs.Layout.{Lists, lists, stateLength, stateIn}
-use Rattle.controller.specs.Calls.{CallOutcome, accepted, refused, openOn, advanceOn}
+use Rattle.state_bytes.specs.Layout.{Lists, allLists, stateLength, stateIn}
+use Rattle.controller.specs.Calls.{CallOutcome, accepted, refused, nothing, openOn, advanceOn}
 use Rattle.depot.specs.Text.{ascii}
 
 -- ---- words
@@ -37,6 +38,7 @@ kindName Delete = ascii "delete"
 kindName Read = ascii "read"
 kindName Update = ascii "update"
 kindName Workers = ascii "workers"
+kindName Checkpoint = ascii "checkpoint"
 
 -- nothing for none, which no command of an accepted list has
 abbrev pub nameOf : Option Kind → List ℕ
@@ -50,7 +52,7 @@ unfoldable pub refusal : ℕ → List ℕ
 refusal n = ascii "refused " ++ decimal n ++ newline
 
 -- "Else one line a command: place, kind, identifier, answer": the identifier's 13 characters stand as in the input; "The program prints
--- `workers` for the kind" (02, A.2)
+-- `workers` for the kind" (02, A.2) and "prints `checkpoint`" (A.3)
 unfoldable pub commandLine : ℕ → List ℕ → ℕ → List ℕ
 commandLine place command answer =
     decimal place ++ space ++ nameOf (kindOf (getD command 0 0)) ++ space ++ take 13 (drop 1 command) ++ space ++ decimal answer ++ newline
@@ -81,7 +83,7 @@ advanced commands schedule l = printed (report commands) (advanceOn l commands s
 
 -- lent lists of zeros, as long as the layout, the room and the command count ask
 unfoldable pub zeros : ℕ → ℕ → Lists
-zeros capacity count = lists (replicate stateLength 0) (replicate capacity 0) (replicate capacity 0) (replicate count 0)
+zeros capacity count = allLists (replicate stateLength 0) (replicate capacity 0) (replicate capacity 0) (replicate count 0) (emptyImage capacity)
 
 -- ---- the program
 
@@ -104,9 +106,9 @@ commandsOf input = take (16 * countOf input) (drop 6 input)
 abbrev pub scheduleOf : List ℕ → List ℕ
 scheduleOf input = drop (6 + 16 * countOf input) input
 
--- what opening answers, in lists of its own
+-- what opening answers, in lists of its own and from no image
 abbrev pub opening : List ℕ → CallOutcome
-opening input = openOn (sizeOf input) (workersOf input) (capacityOf input) (commandsOf input) (zeros (capacityOf input) (countOf input))
+opening input = openOn (sizeOf input) (workersOf input) (capacityOf input) (commandsOf input) nothing (zeros (capacityOf input) (countOf input))
 
 unfoldable pub performed : List ℕ → List ℕ
 performed input = printed (advanced (commandsOf input) (scheduleOf input)) (opening input)

@@ -4,7 +4,7 @@
 use Prim.Native.Nat.{ℕ, suc, _+_, _*_, _≤_}
 use mathlib.Core.Path.{_≡_}
 use mathlib.Core.Bool.{true}
-use mathlib.Core.List.{List, _++_}
+use mathlib.Core.List.{List, [], _++_}
 use lib.ListN.{length}
 use Rattle.command.specs.Read.{commandsIn}
 use Rattle.model.specs.Setup.{Setup}
@@ -13,13 +13,13 @@ use Rattle.model.specs.Serial.{serialAnswers, serialEntries}
 use Rattle.model.specs.Statement.{allWithin, removed, EachCommand}
 use Rattle.byte_fields.specs.Bytes.{tabulate}
 use Rattle.state_bytes.specs.Layout.{Lists}
-use Rattle.controller.specs.Calls.{accepted, setupOf}
+use Rattle.controller.specs.Calls.{accepted, nothing, setupOf}
 use Rattle.depot.specs.Text.{ascii}
 use Rattle.depot.specs.Program.{decimal, commandLines, totals, sizeOf, workersOf, capacityOf, countOf, commandsOf, scheduleOf, opening, output}
 
 -- the setup of an input
 abbrev pub inputSetup : List ℕ → Setup
-inputSetup input = setupOf (sizeOf input) (workersOf input) (capacityOf input) (commandsOf input)
+inputSetup input = setupOf (sizeOf input) (workersOf input) (capacityOf input) (commandsOf input) nothing
 
 -- the state that the schedule reaches from the opening
 abbrev pub reached : List ℕ → State
@@ -44,5 +44,5 @@ PrintsReached =
 abbrev pub PrintsSerial : Type 0
 PrintsSerial =
     (input : List ℕ) → InputPasses input → EachCommand (inputSetup input) (λ c. removed (inputSetup input) c (scheduleOf input) (opened (inputSetup input)) ≡ true)
-    → output input ≡ commandLines (commandsOf input) (serialAnswers (capacityOf input) (commandsIn (commandsOf input)))
-    ++ (ascii "store " ++ decimal (length (serialEntries (capacityOf input) (commandsIn (commandsOf input)))) ++ ascii " chain 0\n")
+    → output input ≡ commandLines (commandsOf input) (serialAnswers (capacityOf input) [] (commandsIn (commandsOf input)))
+    ++ (ascii "store " ++ decimal (length (serialEntries (capacityOf input) [] (commandsIn (commandsOf input)))) ++ ascii " chain 0\n")

@@ -23,7 +23,7 @@ const HEAD: usize = 6;
 
 // Writes what the program says to an input, and answers how many bytes that is.
 fn run(input: &[u8], out: &mut [u8]) -> usize
-    requires { ⌜ 135168 ≤ length (now out) ⌝ }
+    requires { ⌜ 147456 ≤ length (now out) ⌝ }
     ensures { λ r. ⌜ take r (now (out .exit)) ≡ output (now (input .entry)) ⌝ }
     ensures { λ r. ⌜ Counts r (now (out .exit)) ⌝ }
 {
@@ -54,7 +54,7 @@ fn run(input: &[u8], out: &mut [u8]) -> usize
 // Reads at most one byte more than the longest input: that one tells a longer input.
 fn main() {
     let mut input = [0u8; 65537];
-    let mut out = [0u8; 135168];
+    let mut out = [0u8; 147456];
     let length = io::read_full(STDIN_FILENO, &mut input);
     let written = run(&input[..length], &mut out);
     io::write_all(STDOUT_FILENO, &out[..written]);

@@ -38,9 +38,9 @@ pub fn put_refusal(out: &mut [u8], number: u64) -> usize
 
 // The name of a kind; nothing for an unknown one.
 fn put_kind(out: &mut [u8], at: usize, kind: AnyKind) -> usize
-    requires { ⌜ at + 7 ≤ length (now out) ⌝ }
+    requires { ⌜ at + 10 ≤ length (now out) ⌝ }
     ensures { λ r. ⌜ Wrote (nameOf (knownKind kind)) at (now (out .entry)) (now (out .exit)) r ⌝ }
-    ensures { λ r. ⌜ r ≤ at + 7 ⌝ }
+    ensures { λ r. ⌜ r ≤ at + 10 ⌝ }
 {
     let AnyKind::Known(known) = kind else {
         return at;
@@ -51,14 +51,15 @@ fn put_kind(out: &mut [u8], at: usize, kind: AnyKind) -> usize
         Kind::Read => put_text(out, at, b"read"),
         Kind::Update => put_text(out, at, b"update"),
         Kind::Workers => put_text(out, at, b"workers"),
+        Kind::Checkpoint => put_text(out, at, b"checkpoint"),
     }
 }
 
 // A line's first two words, each with a space behind it.
 fn put_start(out: &mut [u8], at: usize, place: Seq, kind: AnyKind) -> usize
-    requires { ⌜ (at + 13 ≤ length (now out)) × (place .0 < 10000) ⌝ }
+    requires { ⌜ (at + 16 ≤ length (now out)) × (place .0 < 10000) ⌝ }
     ensures { λ r. ⌜ Wrote (decimal (place .0) ++ space ++ nameOf (knownKind kind) ++ space) at (now (out .entry)) (now (out .exit)) r ⌝ }
-    ensures { λ r. ⌜ r ≤ at + 13 ⌝ }
+    ensures { λ r. ⌜ r ≤ at + 16 ⌝ }
 {
     let at = put_number(out, at, place.0 as u64);
     let at = put_byte(out, at, SPACE);
@@ -68,9 +69,9 @@ fn put_start(out: &mut [u8], at: usize, place: Seq, kind: AnyKind) -> usize
 
 // The line of a command: its place, kind, identifier and answer.
 fn put_line(out: &mut [u8], at: usize, place: Seq, command: &[u8], answer: u16) -> usize
-    requires { ⌜ (at + 33 ≤ length (now out)) × (place .0 < 10000) × (length (now command) ≡ 16) ⌝ }
+    requires { ⌜ (at + 36 ≤ length (now out)) × (place .0 < 10000) × (length (now command) ≡ 16) ⌝ }
     ensures { λ r. ⌜ Wrote (commandLine (place .0) (now (command .entry)) answer) at (now (out .entry)) (now (out .exit)) r ⌝ }
-    ensures { λ r. ⌜ r ≤ at + 33 ⌝ }
+    ensures { λ r. ⌜ r ≤ at + 36 ⌝ }
 {
     let at = put_start(out, at, place, Kind::of(command[0]));
     let at = put_text(out, at, &command[1..14]);
@@ -81,9 +82,9 @@ fn put_line(out: &mut [u8], at: usize, place: Seq, command: &[u8], answer: u16) 
 
 // The lines of all commands. A command's answer is the first of those from its place on.
 fn put_lines(out: &mut [u8], commands: &[u8], answers: &[u16]) -> usize
-    requires { ⌜ (length (now commands) ≡ 16 * length (now answers)) × (length (now answers) < 4096) × (135168 ≤ length (now out)) ⌝ }
+    requires { ⌜ (length (now commands) ≡ 16 * length (now answers)) × (length (now answers) < 4096) × (147456 ≤ length (now out)) ⌝ }
     ensures { λ r. ⌜ Wrote (commandLines (now (commands .entry)) (now (answers .entry))) 0 (now (out .entry)) (now (out .exit)) r ⌝ }
-    ensures { λ r. ⌜ r ≤ 33 * length (now (answers .entry)) ⌝ }
+    ensures { λ r. ⌜ r ≤ 36 * length (now (answers .entry)) ⌝ }
 {
     let mut at = 0;
     let mut i = 0;
@@ -130,7 +131,7 @@ fn put_totals(out: &mut [u8], at: usize, state: &[u8]) -> usize
 
 // The lines of all commands, then the last.
 pub fn put_report(out: &mut [u8], state: &[u8], answers: &[u16], commands: &[u8]) -> usize
-    requires { ⌜ (length (now commands) ≡ 16 * length (now answers)) × (length (now answers) < 4096) × (135168 ≤ length (now out)) ⌝ }
+    requires { ⌜ (length (now commands) ≡ 16 * length (now answers)) × (length (now answers) < 4096) × (147456 ≤ length (now out)) ⌝ }
     requires { ⌜ length (now state) ≡ 4718 ⌝ }
     ensures { λ r. ⌜ Wrote (report (now (commands .entry)) (lists (now (state .entry)) [] [] (now (answers .entry)))) 0 (now (out .entry)) (now (out .exit)) r ⌝ }
 {

@@ -12,8 +12,8 @@ use Rattle.command.specs.Read as Command
 use Rattle.model.specs.Setup.{Setup}
 use Rattle.model.specs.Statement.{allWithin}
 use Rattle.model.specs.Proof.Tests.{cond-cases}
-use Rattle.state_bytes.specs.Layout.{Lists, lengthsFit, stateFits, handedBackFit}
-use Rattle.controller.specs.Calls.{CallOutcome, accepted, refused, refusalIn, openedWith, openOn, advanceOn, setupOf}
+use Rattle.state_bytes.specs.Layout.{Lists, setupIn, lengthsFit, stateFits, handedBackFit, imageFits}
+use Rattle.controller.specs.Calls.{CallOutcome, accepted, refused, refusalIn, Source, sourceLong, sourceChained, sourceFits, openedWith, openOn, advanceOn, setupOf}
 use Rattle.depot_c.specs.Boundary.{answerOf}
 
 -- an accepted call answers 0
@@ -38,23 +38,25 @@ refused-place place (Command.accepted command ∷ rs) o some e = refused-place (
 refused-place place (Command.refused r ∷ rs) o some e = absurd (omega arith)
 
 -- test by test
-pub opening-accepted : (size workers capacity : ℕ) (commands : List ℕ) (l : Lists) → IsAccepted (openOn size workers capacity commands l)
+pub opening-accepted : (size workers capacity : ℕ) (commands : List ℕ) (source : Source) (l : Lists) → IsAccepted (openOn size workers capacity commands source l)
 unfolding openOn
-opening-accepted size workers capacity commands l =
+opening-accepted size workers capacity commands source l =
     cond-cases IsAccepted (leb 1 size && leb size 150) (λ _.
     cond-cases IsAccepted (leb 1 workers && leb workers 64) (λ _.
     cond-cases IsAccepted (leb 1 capacity && leb capacity 4096) (λ _.
     cond-cases IsAccepted (eqb (length commands % 16) 0) (λ _.
     cond-cases IsAccepted (leb (length commands / 16) 4096) (λ _.
-    cond-cases IsAccepted (lengthsFit capacity (length commands / 16) l)
-    (λ _. refused-place 1 (readings commands) (setupOf size workers capacity commands) (omega arith))
-    (λ _. refused-number 6 (omega arith))) (λ _. refused-number 5 (omega arith))) (λ _. refused-number 4 (omega arith)))
+    cond-cases IsAccepted (lengthsFit capacity (length commands / 16) l && imageFits capacity l && sourceLong capacity source) (λ _.
+    cond-cases IsAccepted (sourceChained capacity source) (λ _.
+    cond-cases IsAccepted (sourceFits capacity source)
+    (λ _. refused-place 1 (readings commands) (setupOf size workers capacity commands source) (omega arith))
+    (λ _. refused-number 16 (omega arith))) (λ _. refused-number 15 (omega arith))) (λ _. refused-number 6 (omega arith))) (λ _. refused-number 5 (omega arith))) (λ _. refused-number 4 (omega arith)))
     (λ _. refused-number 3 (omega arith))) (λ _. refused-number 2 (omega arith))) (λ _. refused-number 1 (omega arith))
 
 pub advance-accepted : (l : Lists) (commands schedule : List ℕ) → IsAccepted (advanceOn l commands schedule)
 unfolding advanceOn
 advance-accepted l commands schedule =
-    cond-cases IsAccepted (handedBackFit l commands) (λ _.
+    cond-cases IsAccepted (handedBackFit l commands && imageFits (setupIn (l .state) commands .capacity) l) (λ _.
     cond-cases IsAccepted (stateFits l) (λ _.
     cond-cases IsAccepted (allWithin _ schedule) (λ _ _. (_, refl))
     (λ _. refused-number 11 (omega arith))) (λ _. refused-number 12 (omega arith))) (λ _. refused-number 6 (omega arith))

@@ -5,20 +5,16 @@ use native.Mathlib.Omega.{arith}
 use mathlib.Core.Path.{_≡_, refl, sym, ap, _∙_}
 use mathlib.Core.Bool.{Bool, true, false, cond}
 use mathlib.Core.List.{List, [], _∷_, _++_, append-assoc, append-nil}
-use mathlib.Core.Option.{none, some}
 use lib.ListN.{length, getD}
 use lib.Dec.{eqb}
 use borrow.Author.Tests.{eq-eqb, eqb-true}
 use Rattle.s10.specs.Text.{largestKey}
-use Rattle.command.specs.declared.Command.{Command}
 use Rattle.command.specs.Read.{commandsIn}
-use Rattle.command.proofs.Laws.{list-key-is-at-most-largest}
 use Rattle.model.specs.declared.Thread.the-variants.{Idle}
 use Rattle.model.specs.Store.{Store}
-use Rattle.model.specs.Setup.{Setup, commandAt}
+use Rattle.model.specs.Setup.{Setup}
 use Rattle.model.specs.Step.{State, opened, steps}
 use Rattle.model.specs.Statement.{Accepted, allWithin, EachCommand}
-use Rattle.model.specs.Proof.Tests.{none-some}
 use Rattle.model.specs.Proof.Bounds.{reached-keys, reached-answers}
 use Rattle.state_bytes.specs.Layout.{Lists, threadBytes, listsOf, stateIn}
 use Rattle.byte_fields.proofs.Bytes.{below-or-past, lies-taken, lies-field, tabulate-length, tabulate-at, tabulate-past}
@@ -62,20 +58,15 @@ encoded-read-back l fit =
 
 -- ---- what calls reach
 
--- a command's key fits eight bytes
-key-fits : (commands : List ℕ) (k : ℕ) (c : Command) → commandAt (commandsIn commands) k ≡ some c → c .key < 256 ^ 8
-unfolding commandAt largestKey
-key-fits commands zero c at = absurd (none-some none refl at)
-key-fits commands (suc i) c at = omega (arith, list-key-is-at-most-largest commands i c at)
-
 module _ (o : Setup) (acc : Accepted o) (commands : List ℕ) (same : o .commands ≡ commandsIn commands) (long : length commands ≡ 16 * length (o .commands)) where
-  -- the numbers of a reached state's lists fit: each key is a command's or 0, and an answer is a number of two bytes
+  -- the numbers of a reached state's lists fit: each key is a command's, a first entry's or 0, and an answer is a number of two bytes
   state-bounded : (ts : List ℕ) → allWithin (o .largest) ts ≡ true → Bounded (listsOf o (steps o ts (opened o)))
+  unfolding largestKey
   state-bounded ts within =
       let s : State = steps o ts (opened o) in
       let given : ℕ → ℕ = λ j. s .service .answers (suc j) in
       record {
-        keys = λ i. rw (lists-keys o s) (reached-keys o acc ts within (λ n. n < 256 ^ 8) (omega arith) (λ k c at. key-fits commands k c (rw same at at)) i);
+        keys = λ i. rw (lists-keys o s) (omega (arith, reached-keys o acc ts within (λ n. n ≤ largestKey) (omega arith) (acc .keys) (acc .entries .keys) i));
         chutes = λ i. rw (lists-chutes o s) (omega (arith, formed o acc ts within .service .store .chutes-fit i));
         answers = λ i. rw (lists-answers o s)
             (below-or-past i (length (o .commands))
@@ -188,10 +179,10 @@ module _ (o : Setup) (acc : Accepted o) (commands : List ℕ) (same : o .command
 -- the opening's byte lists are those of the lists that no step has left, and every proper list of calls goes on from there
 pub demand-3-over-byte-calls : Demand3OverBytes
 unfolding left
-demand-3-over-byte-calls size workers capacity commands lent b answer is calls proper =
-    let o : Setup = setupOf size workers capacity commands in
-    let a = opening-accepted size workers capacity commands (decoded lent) answer in
-    let opening : IsOpened o commands (a .0) = accepted-opening size workers capacity commands (decoded lent) (a .0) (a .1) in
+demand-3-over-byte-calls size workers capacity commands source lent b answer is calls proper =
+    let o : Setup = setupOf size workers capacity commands source in
+    let a = opening-accepted size workers capacity commands source (decoded lent) answer in
+    let opening : IsOpened o commands (a .0) = accepted-opening size workers capacity commands source (decoded lent) (a .0) (a .1) in
     let first : BytesReach o (opening .setup) commands refl (opening .long) b [] = record {
       lists = a .0;
       bytes = sym is ∙ ap (λ (x : CallOutcome). left x lent) (a .1);

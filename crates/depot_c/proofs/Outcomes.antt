@@ -15,8 +15,8 @@ use Rattle.command.proofs.Laws.{length-readings}
 use Rattle.model.specs.Setup.{Setup}
 use Rattle.model.specs.Proof.Tests.{fails}
 use Rattle.byte_fields.specs.Bytes.{numberAt}
-use Rattle.state_bytes.specs.Layout.{Lists, lists, stateLength, setupIn, countIn, stateFits, lengthsFit, handedBackFit}
-use Rattle.controller.specs.Calls.{CallOutcome, accepted, refused, refusalIn, kept, openedWith, openOn, advanceRefusal, advanceOn, setupOf}
+use Rattle.state_bytes.specs.Layout.{Lists, allLists, lists, stateLength, setupIn, countIn, stateFits, lengthsFit, handedBackFit, imageFits}
+use Rattle.controller.specs.Calls.{CallOutcome, accepted, refused, refusalIn, kept, Source, sourceLong, sourceChained, sourceFits, openedWith, openOn, advanceRefusal, advanceOn, setupOf}
 use Rattle.controller.specs.declared.«advance_call».Advancing.{Advancing}
 use Rattle.controller.specs.declared.«advance_call».Advancing.the-variants.{Advanced, WrongLength, UnknownThread, WrongState}
 use Rattle.depot_c.specs.Numbers.{numbersIn, bytesIn}
@@ -48,9 +48,9 @@ place-below place (Command.accepted command ∷ rs) o h = omega (arith, place-be
 place-below place (Command.refused r ∷ rs) o h = omega arith
 
 -- so an opening's place is at most the most commands
-pub opening-place-below : (size workers capacity : ℕ) (commands : List ℕ) (l : Lists) → refusalIn (openOn size workers capacity commands l) .place ≤ 4096
+pub opening-place-below : (size workers capacity : ℕ) (commands : List ℕ) (source : Source) (l : Lists) → refusalIn (openOn size workers capacity commands source l) .place ≤ 4096
 unfolding openOn refusalIn
-opening-place-below size workers capacity commands l =
+opening-place-below size workers capacity commands source l =
     let P : CallOutcome → Type 0 = λ o. refusalIn o .place ≤ 4096 in
     let none : (n : ℕ) → P (refused (plain n)) = λ n. omega arith in
     chosen P (leb 1 size && leb size 150) (λ _.
@@ -58,30 +58,37 @@ opening-place-below size workers capacity commands l =
     chosen P (leb 1 capacity && leb capacity 4096) (λ _.
     chosen P (eqb (length commands % 16) 0) (λ whole.
     chosen P (leb (length commands / 16) 4096) (λ few.
-    chosen P (lengthsFit capacity (length commands / 16) l)
-    (λ _. omega (arith, place-below 1 (readings commands) (setupOf size workers capacity commands) (omega arith), length-readings commands, eqb-true (length commands % 16) 0 whole, leb-true (length commands / 16) 4096 few))
-    (λ _. none 6)) (λ _. none 5)) (λ _. none 4)) (λ _. none 3)) (λ _. none 2)) (λ _. none 1)
+    chosen P (lengthsFit capacity (length commands / 16) l && imageFits capacity l && sourceLong capacity source) (λ _.
+    chosen P (sourceChained capacity source) (λ _.
+    chosen P (sourceFits capacity source)
+    (λ _. omega (arith, place-below 1 (readings commands) (setupOf size workers capacity commands source) (omega arith), length-readings commands, eqb-true (length commands % 16) 0 whole, leb-true (length commands / 16) 4096 few))
+    (λ _. none 16)) (λ _. none 15)) (λ _. none 6)) (λ _. none 5)) (λ _. none 4)) (λ _. none 3)) (λ _. none 2)) (λ _. none 1)
 
 -- ---- lists of a wrong length
 
--- Two openings differ only by whether the lists are as long as they have to be.
-pub opening-same : (size workers capacity : ℕ) (commands : List ℕ) (l m : Lists)
-    → (capacity ≤ 4096 → length commands / 16 ≤ 4096 → lengthsFit capacity (length commands / 16) l ≡ lengthsFit capacity (length commands / 16) m)
-    → openOn size workers capacity commands l ≡ openOn size workers capacity commands m
-unfolding openOn
-opening-same size workers capacity commands l m same =
+-- An opening with lists of a wrong length is one with none, from whatever image.
+pub short-opened : (size workers capacity : ℕ) (commands : List ℕ) (source other : Source) (l : Lists)
+    → (capacity ≤ 4096 → length commands / 16 ≤ 4096 → lengthsFit capacity (length commands / 16) l ≡ false)
+    → openOn size workers capacity commands source l ≡ openOn size workers capacity commands other (lists [] [] [] [])
+unfolding openOn lengthsFit stateLength
+short-opened size workers capacity commands source other l short =
     under (leb 1 size && leb size 150) 1 (λ _.
     under (leb 1 workers && leb workers 64) 2 (λ _.
     under (leb 1 capacity && leb capacity 4096) 3 (λ small.
     under (eqb (length commands % 16) 0) 4 (λ _.
     under (leb (length commands / 16) 4096) 5 (λ few.
-    ap (λ (t : Bool). cond t (openedWith (firstRefusal 1 (readings commands)) (setupOf size workers capacity commands)) (refused (plain 6)))
-    (same (leb-true capacity 4096 (and-eq-true-iff (leb 1 capacity) (leb capacity 4096) .0 small .1)) (leb-true (length commands / 16) 4096 few)))))))
+    rw (short (leb-true capacity 4096 (and-eq-true-iff (leb 1 capacity) (leb capacity 4096) .0 small .1)) (leb-true (length commands / 16) 4096 few)))))))
+
+-- with no lists it does not matter what image
+pub no-list-opened : (size workers capacity : ℕ) (commands : List ℕ) (source other : Source)
+    → openOn size workers capacity commands source (lists [] [] [] []) ≡ openOn size workers capacity commands other (lists [] [] [] [])
+unfolding lengthsFit stateLength
+no-list-opened size workers capacity commands source other = short-opened size workers capacity commands source other (lists [] [] [] []) (λ _ _. refl)
 
 -- no lists are refused, and nothing is left but what was there
-pub nothing-opened : (size workers capacity : ℕ) (commands : List ℕ) (b : Lists) → left (openOn size workers capacity commands (lists [] [] [] [])) b ≡ b
+pub nothing-opened : (size workers capacity : ℕ) (commands : List ℕ) (source : Source) (b : Lists) → left (openOn size workers capacity commands source (lists [] [] [] [])) b ≡ b
 unfolding openOn lengthsFit stateLength left
-nothing-opened size workers capacity commands b =
+nothing-opened size workers capacity commands source b =
     let P : CallOutcome → Type 0 = λ o. left o b ≡ b in
     chosen P (leb 1 size && leb size 150) (λ _.
     chosen P (leb 1 workers && leb workers 64) (λ _.
@@ -105,11 +112,10 @@ fits-room capacity count b small few fit =
     rw (keys, chutes, answers)
 
 -- so a longer list is none that an opening asks for, and the opening is refused as one of no lists
-pub long-opened : (size workers capacity : ℕ) (commands : List ℕ) (b : Lists) → room b ≡ false
-    → openOn size workers capacity commands (numberLists b) ≡ openOn size workers capacity commands (lists [] [] [] [])
-unfolding lengthsFit stateLength
-long-opened size workers capacity commands b long =
-    opening-same size workers capacity commands (numberLists b) (lists [] [] [] [])
+pub long-opened : (size workers capacity : ℕ) (commands : List ℕ) (source : Source) (b : Lists) → room b ≡ false
+    → openOn size workers capacity commands source (numberLists b) ≡ openOn size workers capacity commands source (lists [] [] [] [])
+long-opened size workers capacity commands source b long =
+    short-opened size workers capacity commands source source (numberLists b)
     (λ small few. fails _ (λ fit. false≢true (sym long ∙ fits-room capacity (length commands / 16) b small few fit)))
 
 -- no lists are refused 6 when handed back
@@ -130,11 +136,16 @@ pub long-unfit : (b : Lists) (commands : List ℕ) → room b ≡ false → hand
 long-unfit b commands long fit =
     fails (stateFits (numberLists b)) (λ whole. false≢true (sym long ∙ lent-room b commands fit (state-passed (numberLists b) whole)))
 
+-- whether all lists, the image among them, are as long as the state's settings ask
+abbrev pub allFit : Lists → List ℕ → Bool
+allFit l commands = handedBackFit l commands && imageFits (setupIn (l .state) commands .capacity) l
+
 -- a handed-back list of more than 4,096 entries is refused: 12 where the state asks for so many, else 6
 pub long-advanced : (b : Lists) (commands schedule : List ℕ) → room b ≡ false
-    → advanceOn (numberLists b) commands schedule ≡ cond (handedBackFit (numberLists b) commands) (refused (plain 12)) (refused (plain 6))
+    → advanceOn (numberLists b) commands schedule ≡ cond (allFit (numberLists b) commands) (refused (plain 12)) (refused (plain 6))
 unfolding advanceOn
-long-advanced b commands schedule long = under (handedBackFit (numberLists b) commands) 6 (λ fit. rw (long-unfit b commands long fit))
+long-advanced b commands schedule long =
+    under (allFit (numberLists b) commands) 6 (λ fit. rw (long-unfit b commands long (and-eq-true-iff (handedBackFit (numberLists b) commands) _ .0 fit .0)))
 
 -- an advance names no command
 pub advance-packed : (r : Advancing) → advanceRefusal r .number ≡ packed (advanceRefusal r)
@@ -155,18 +166,18 @@ either-left true b = refl
 either-left false b = refl
 
 -- what is said of lists of that many entries is said of those that bytes write
-pub of-entries : (s k c a commands : List ℕ) {P : Lists → List ℕ → Type 0}
+pub of-entries : (s k c a i commands : List ℕ) {P : Lists → List ℕ → Type 0}
     → ((l : Lists) (list : List ℕ) → l .state ≡ s → length (l .answers) ≡ length a / 2 → length (l .keys) ≡ length k / 8 → length (l .chutes) ≡ length c / 2
-    → length list ≡ length commands → P l list) → P (numberLists (lists s k c a)) commands
+    → length list ≡ length commands → length (l .image) ≡ length i → P l list) → P (numberLists (allLists s k c a i)) commands
 unfolding numberLists
-of-entries s k c a commands said = said (numberLists (lists s k c a)) commands refl (numbers-length 2 a) (numbers-length 8 k) (numbers-length 2 c) refl
+of-entries s k c a i commands said = said (numberLists (allLists s k c a i)) commands refl (numbers-length 2 a) (numbers-length 8 k) (numbers-length 2 c) refl refl
 
 -- what a handed-back list of more than 4,096 entries answers and leaves
 pub long-answered : (b : Lists) (commands schedule : List ℕ) → room b ≡ false
-    → (cond (handedBackFit (numberLists b) commands) 12 6 ≡ answerOf (advanceOn (numberLists b) commands schedule))
+    → (cond (allFit (numberLists b) commands) 12 6 ≡ answerOf (advanceOn (numberLists b) commands schedule))
     × (b ≡ left (advanceOn (numberLists b) commands schedule) b)
 long-answered b commands schedule long =
-    let t = handedBackFit (numberLists b) commands in
+    let t = allFit (numberLists b) commands in
     let is = long-advanced b commands schedule long in
     (sym (either-answer t) ∙ ap answerOf (sym is), sym (either-left t b) ∙ ap (λ (o : CallOutcome). left o b) (sym is))
 
@@ -196,9 +207,9 @@ room-bounds k c a e =
 
 -- ---- from bytes to numbers and back
 
-module _ (state keys chutes answers : List ℕ) where
+module _ (state keys chutes answers image : List ℕ) where
   abbrev bytes : Lists
-  bytes = lists state keys chutes answers
+  bytes = allLists state keys chutes answers image
 
   -- bytes that are whole numbers are those of the numbers
   pub entries-read-back : (k c a : ℕ) → length keys ≡ 8 * k → length chutes ≡ 2 * c → length answers ≡ 2 * a → Bytes keys → Bytes chutes → Bytes answers
@@ -211,24 +222,24 @@ module _ (state keys chutes answers : List ℕ) where
       rw (first, second, third)
 
   -- the numbers that were read are the entries
-  pub read-entries : {K C A : List ℕ} → (K ≡ numbersIn 8 keys) × (C ≡ numbersIn 2 chutes) × (A ≡ numbersIn 2 answers) → lists state K C A ≡ numberLists bytes
+  pub read-entries : {K C A : List ℕ} → (K ≡ numbersIn 8 keys) × (C ≡ numbersIn 2 chutes) × (A ≡ numbersIn 2 answers) → allLists state K C A image ≡ numberLists bytes
   unfolding numberLists
   read-entries read = rw (read .0, read .1, read .2)
 
   -- A call f on the numbers that were read.
   module _ (f : Lists → CallOutcome) {K C A : List ℕ} (read : (K ≡ numbersIn 8 keys) × (C ≡ numbersIn 2 chutes) × (A ≡ numbersIn 2 answers)) where
     -- its answer is that on the entries
-    pub answer-on : {r : Refusal} → r ≡ refusalIn (f (lists state K C A)) → packed r ≡ answerOf (f (numberLists bytes))
+    pub answer-on : {r : Refusal} → r ≡ refusalIn (f (allLists state K C A image)) → packed r ≡ answerOf (f (numberLists bytes))
     unfolding answerOf
     answer-on e = rw (e, read-entries read)
 
     -- the bytes of the numbers that it leaves
-    pub written-on : {s K′ C′ A′ x y z : List ℕ} → encoded (numberLists bytes) ≡ bytes
-        → lists s K′ C′ A′ ≡ kept (f (lists state K C A)) (lists state K C A) → (x ≡ bytesIn 8 K′) × (y ≡ bytesIn 2 C′) × (z ≡ bytesIn 2 A′)
-        → lists s x y z ≡ left (f (numberLists bytes)) bytes
+    pub written-on : {s K′ C′ A′ i x y z : List ℕ} → encoded (numberLists bytes) ≡ bytes
+        → allLists s K′ C′ A′ i ≡ kept (f (allLists state K C A image)) (allLists state K C A image) → (x ≡ bytesIn 8 K′) × (y ≡ bytesIn 2 C′) × (z ≡ bytesIn 2 A′)
+        → allLists s x y z i ≡ left (f (numberLists bytes)) bytes
     unfolding encoded left kept
-    written-on {s} {K′} {C′} {A′} whole is wrote =
-        let e : lists s K′ C′ A′ ≡ kept (f (numberLists bytes)) (numberLists bytes) = is ∙ rw (read-entries read) in
+    written-on {s} {K′} {C′} {A′} {i} whole is wrote =
+        let e : allLists s K′ C′ A′ i ≡ kept (f (numberLists bytes)) (numberLists bytes) = is ∙ rw (read-entries read) in
         rw (wrote .0, wrote .1, wrote .2) (ap encoded e ∙ by (f (numberLists bytes)))
       where
         by : (o : CallOutcome) → encoded (kept o (numberLists bytes)) ≡ left o bytes
@@ -236,13 +247,13 @@ module _ (state keys chutes answers : List ℕ) where
         by (refused r) = whole
 
     -- a refusal leaves the bytes
-    pub refused-on : {s K′ C′ A′ : List ℕ} → lists s K′ C′ A′ ≡ kept (f (lists state K C A)) (lists state K C A) → (answerOf (f (numberLists bytes)) ≡ 0 → ⊥)
-        → lists s keys chutes answers ≡ left (f (numberLists bytes)) bytes
+    pub refused-on : {s K′ C′ A′ i : List ℕ} → allLists s K′ C′ A′ i ≡ kept (f (allLists state K C A image)) (allLists state K C A image)
+        → (answerOf (f (numberLists bytes)) ≡ 0 → ⊥) → allLists s keys chutes answers i ≡ left (f (numberLists bytes)) bytes
     unfolding left kept answerOf refusalIn numberLists
-    refused-on {s} {K′} {C′} {A′} is nonzero =
-        let e : lists s K′ C′ A′ ≡ kept (f (numberLists bytes)) (numberLists bytes) = is ∙ rw (read-entries read) in
+    refused-on {s} {K′} {C′} {A′} {i} is nonzero =
+        let e : allLists s K′ C′ A′ i ≡ kept (f (numberLists bytes)) (numberLists bytes) = is ∙ rw (read-entries read) in
         by (f (numberLists bytes)) e nonzero
       where
-        by : (o : CallOutcome) → lists s K′ C′ A′ ≡ kept o (numberLists bytes) → (answerOf o ≡ 0 → ⊥) → lists s keys chutes answers ≡ left o bytes
+        by : (o : CallOutcome) → allLists s K′ C′ A′ i ≡ kept o (numberLists bytes) → (answerOf o ≡ 0 → ⊥) → allLists s keys chutes answers i ≡ left o bytes
         by (accepted l) e nonzero = absurd (nonzero refl)
-        by (refused r) e nonzero = ap (λ (l : Lists). lists (l .state) keys chutes answers) e
+        by (refused r) e nonzero = ap (λ (l : Lists). allLists (l .state) keys chutes answers (l .image)) e

@@ -59,4 +59,4 @@ pub report-on : (wanted : Wanted) (s k c a commands old : List ℕ) {K C A new :
     → (m ≡ reportNumber (lists s K C A) commands (length old) (reportLength wanted)) × (new ≡ reportLeft m (reportIn wanted s (lists s K C A)) old)
     → (n ≡ reportNumber (numberLists (lists s k c a)) commands (length old) (reportLength wanted))
     × (new ≡ reportLeft n (reportIn wanted s (numberLists (lists s k c a))) old)
-report-on wanted s k c a commands old read same told = rw (same, ← read-entries s k c a read) told
+report-on wanted s k c a commands old read same told = rw (same, ← read-entries s k c a [] read) told

@@ -9,8 +9,8 @@ use Rattle.s10.specs.Refusal.{Refusal}
 use Rattle.s10.specs.Outcome.{readText, refusalRead}
 use Rattle.s10.specs.Outcome as Identifier
 use Rattle.byte_fields.specs.Bytes.{bytesOf}
-use Rattle.state_bytes.specs.Layout.{Lists, lists, stateIn}
-use Rattle.controller.specs.Calls.{CallOutcome, accepted, refused, refusalIn, openOn, advanceOn}
+use Rattle.state_bytes.specs.Layout.{Lists, allLists, lists, stateIn}
+use Rattle.controller.specs.Calls.{CallOutcome, accepted, refused, refusalIn, Source, openOn, advanceOn}
 use Rattle.panel.specs.Reports.{pendingCounts, workerStatusBytes, largestIn}
 use Rattle.depot_c.specs.Numbers.{numbersIn, bytesIn}
 use Rattle.depot_c.specs.declared.Wanted.{Wanted}
@@ -22,9 +22,9 @@ use Rattle.depot_c.specs.declared.Wanted.the-variants.{PendingCounts, Wo
 unfoldable pub areWhole : ℕ → ℕ → ℕ → Bool
 areWhole keys chutes answers = eqb (keys % 8) 0 && eqb (chutes % 2) 0 && eqb (answers % 2) 0
 
--- the lists of numbers that lists of bytes write
+-- the lists of numbers that lists of bytes write; an image is bytes as it stands
 unfoldable pub numberLists : Lists → Lists
-numberLists b = lists (b .state) (numbersIn 8 (b .keys)) (numbersIn 2 (b .chutes)) (numbersIn 2 (b .answers))
+numberLists b = allLists (b .state) (numbersIn 8 (b .keys)) (numbersIn 2 (b .chutes)) (numbersIn 2 (b .answers)) (b .image)
 
 -- the same, or no lists where the bytes end within a number: lists of a wrong length, which is refusal 6
 unfoldable pub decoded : Lists → Lists
@@ -32,7 +32,7 @@ decoded b = cond (areWhole (length (b .keys)) (length (b .chutes)) (length (b .a
 
 -- the lists of bytes of lists of numbers
 unfoldable pub encoded : Lists → Lists
-encoded l = lists (l .state) (bytesIn 8 (l .keys)) (bytesIn 2 (l .chutes)) (bytesIn 2 (l .answers))
+encoded l = allLists (l .state) (bytesIn 8 (l .keys)) (bytesIn 2 (l .chutes)) (bytesIn 2 (l .answers)) (l .image)
 
 -- ---- answers
 
@@ -51,12 +51,12 @@ left (refused r) old = old
 
 -- ---- opening and advancing
 
--- what `depot_open` answers on the caller's byte lists, and the byte lists that it leaves
-abbrev pub openAnswer : ℕ → ℕ → ℕ → List ℕ → Lists → ℕ
-openAnswer size workers capacity commands b = answerOf (openOn size workers capacity commands (decoded b))
+-- what `depot_open`, with no source, and `depot_open_from`, with an image, answer on the caller's byte lists, and the byte lists that they leave
+abbrev pub openAnswer : ℕ → ℕ → ℕ → List ℕ → Source → Lists → ℕ
+openAnswer size workers capacity commands source b = answerOf (openOn size workers capacity commands source (decoded b))
 
-abbrev pub openLeft : ℕ → ℕ → ℕ → List ℕ → Lists → Lists
-openLeft size workers capacity commands b = left (openOn size workers capacity commands (decoded b)) b
+abbrev pub openLeft : ℕ → ℕ → ℕ → List ℕ → Source → Lists → Lists
+openLeft size workers capacity commands source b = left (openOn size workers capacity commands source (decoded b)) b
 
 -- and `depot_advance`
 abbrev pub advanceAnswer : Lists → List ℕ → List ℕ → ℕ

@@ -1,6 +1,6 @@
 -- Demand 3 over the calls of a host in C: "a single claim about the whole list of dealing calls, and not one for each call", said of the
--- byte lists that it lends and the numbers that it is answered. What `depot_open` and `depot_advance` answer and leave is what their contracts
--- say: `openAnswer`, `openLeft`, `advanceAnswer` and `advanceLeft`. A call is accepted if it answers 0, and refused if not. Assumes nothing.
+-- byte lists that it lends and the numbers that it is answered. What `depot_open`, `depot_open_from` and `depot_advance` answer and leave is what
+-- their contracts say: `openAnswer`, `openLeft`, `advanceAnswer` and `advanceLeft`. A call is accepted if it answers 0, and refused if not. Assumes nothing.
 use Prim.Native.Nat.{ℕ, _+_, _-_, _*_, _≤_}
 use mathlib.Core.Path.{_≡_}
 use mathlib.Core.Bool.{true, cond}
@@ -18,7 +18,7 @@ use Rattle.state_bytes.specs.Layout.{Lists, threadBytes}
 use Rattle.controller.specs.Demand3.{Call}
 use Rattle.depot_c.specs.Numbers.{bytesIn}
 use Rattle.depot_c.specs.Boundary.{openAnswer, openLeft, advanceAnswer, advanceLeft}
-use Rattle.controller.specs.Calls.{setupOf}
+use Rattle.controller.specs.Calls.{Source, setupOf}
 
 -- ---- lists of calls
 
@@ -70,15 +70,15 @@ pub record BytesHoldAfter (o : Setup) (commands : List ℕ) (b : Lists) (ts : Li
   pub answer : EachCommand o (λ c. answerAt c b ≡ cond (wrote o c ts (opened o)) (serialAnswer o c) 0)
   -- "When all commands are removed, every answer is given and the chute table is that run's, entry for entry."
   pub table : EachCommand o (λ c. removed o c ts (opened o) ≡ true) →
-      EachCommand o (λ c. 1 ≤ answerAt c b) × TableIs (layOut (o .capacity) (serialEntries (o .capacity) (o .commands))) b
+      EachCommand o (λ c. 1 ≤ answerAt c b) × TableIs (layOut (o .capacity) (serialEntries (o .capacity) (o .entries) (o .commands))) b
   -- "And some further dealing is accepted and leaves every command removed and every party idle"
   pub finish : (more : List ℕ) × (advanceAnswer b commands more ≡ 0) × EachCommand o (λ c. removed o c (ts ++ more) (opened o) ≡ true)
       × ((t : ℕ) → t ≤ o .largest → IsIdle t (advanceLeft b commands more))
 
--- every opening that `depot_open` answers 0, leaving b, and every proper list of calls from there
+-- every opening, from an image or not, that is answered 0 and leaves b, and every proper list of calls from there
 abbrev pub Demand3OverBytes : Type 0
 Demand3OverBytes =
-    (size workers capacity : ℕ) (commands : List ℕ) (lent b : Lists) →
-    openAnswer size workers capacity commands lent ≡ 0 → openLeft size workers capacity commands lent ≡ b →
+    (size workers capacity : ℕ) (commands : List ℕ) (source : Source) (lent b : Lists) →
+    openAnswer size workers capacity commands source lent ≡ 0 → openLeft size workers capacity commands source lent ≡ b →
     (calls : List Call) → ProperBytes commands b calls →
-    BytesHoldAfter (setupOf size workers capacity commands) commands (bytesAfter calls b) (bytesSchedules calls)
+    BytesHoldAfter (setupOf size workers capacity commands source) commands (bytesAfter calls b) (bytesSchedules calls)

@@ -5,13 +5,14 @@ ghost use mathlib.Core.List.{List};
 ghost use Prim.Native.Nat.{ℕ};
 ghost use lib.Dec.{leb};
 ghost use lib.ListN.{length};
-ghost use Rattle.state_bytes.specs.Layout.{Lists, handedBackFit};
+ghost use Rattle.state_bytes.specs.Layout.{Lists, setupIn, handedBackFit, imageFits};
 ghost use Rattle.depot_c.specs.Numbers.{numbersIn, bytesIn};
 ghost use Rattle.depot_c.specs.Boundary.{areWhole, Rooms};
 use crate::numbers::read_keys;
 use crate::numbers::read_shorts;
 use crate::numbers::write_keys;
 use crate::numbers::write_shorts;
+use state_bytes::image_fits;
 use state_bytes::lengths_fit;
 
 // The most entries that a list of an accepted call has.
@@ -52,6 +53,23 @@ pub fn long_answer(state: &[u8], keys: usize, chutes: usize, answers: usize, com
     } else {
         6
     }
+}
+
+// The same of a call that is lent the image too.
+pub fn long_image_answer(
+    state: &[u8],
+    keys: usize,
+    chutes: usize,
+    answers: usize,
+    image: usize,
+    commands: usize,
+) -> u64
+    ensures { λ r. ⌜ ((l : Lists) (list : List ℕ) → l .state ≡ now (state .entry) → length (l .answers) ≡ answers → length (l .keys) ≡ keys → length (l .chutes) ≡ chutes → length list ≡ commands → length (l .image) ≡ image → r ≡ cond (handedBackFit l list && imageFits (setupIn (l .state) list .capacity) l) 12 6) ⌝ }
+{
+    if !lengths_fit(state, answers, keys, chutes, commands) {
+        return 6;
+    }
+    if image_fits(state, image) { 12 } else { 6 }
 }
 
 // Fills rooms with the numbers that byte lists write.

@@ -2,8 +2,9 @@
 ghost use mathlib.Core.Path.{_≡_};
 ghost use mathlib.Core.List.{[]};
 ghost use Prim.Native.Nat.{_≤_};
-ghost use Rattle.state_bytes.specs.Layout.{lists, atExit, atEntry};
-ghost use Rattle.controller.specs.Calls.{openOn, openingRefusal};
+ghost use Rattle.state_bytes.specs.Layout.{lists, allAtExit, allAtEntry};
+ghost use Rattle.controller.specs.Calls.{Source, nothing, imageFrom, openOn, openingRefusal};
+ghost use Rattle.controller.specs.Opened.{sourceOf};
 ghost use Rattle.depot_c.specs.Boundary.{numberLists, packed, answerOf, left, openAnswer, openLeft, Rooms};
 use crate::answer::packed;
 use crate::lists::MOST;
@@ -13,6 +14,7 @@ use crate::lists::read_lists;
 use crate::lists::write_lists;
 use controller::Opening;
 use controller::open;
+use controller::open_with;
 
 // The answer to an opening.
 fn opening_answer(opening: Opening) -> u64
@@ -22,19 +24,21 @@ fn opening_answer(opening: Opening) -> u64
     packed(opening.number(), opening.place(), opening.character())
 }
 
-// The answer where the lists cannot be those of an accepted opening.
+// The answer where the lists cannot be those of an accepted opening, from an image or not.
 fn open_without(commands: &[u8], size: u64, workers: u64, capacity: u64) -> u64
-    ensures { λ r. ⌜ r ≡ answerOf (openOn size workers capacity (now (commands .entry)) (lists [] [] [] [])) ⌝ }
+    ensures { λ r. ⌜ ((source : Source) → r ≡ answerOf (openOn size workers capacity (now (commands .entry)) source (lists [] [] [] []))) ⌝ }
 {
     let mut state = [0u8; 1];
     let mut keys = [0u64; 1];
     let mut chutes = [0u16; 1];
     let mut answers = [0u16; 1];
+    let mut image = [0u8; 1];
     let opening = open(
         &mut state[..0],
         &mut keys[..0],
         &mut chutes[..0],
         &mut answers[..0],
+        &mut image[..0],
         commands,
         size,
         workers,
@@ -49,7 +53,10 @@ fn open_within(
     keys: &mut [u8],
     chutes: &mut [u8],
     answers: &mut [u8],
+    image: &mut [u8],
     commands: &[u8],
+    from: bool,
+    source: &[u8],
     size: u64,
     workers: u64,
     capacity: u64,
@@ -58,16 +65,19 @@ fn open_within(
     answer_room: &mut [u16],
 ) -> u64
     requires { ⌜ Rooms (now keys) (now chutes) (now answers) (now «key_room») (now «chute_room») (now «answer_room») ⌝ }
-    ensures number { λ r. ⌜ r ≡ answerOf (openOn size workers capacity (now (commands .entry)) (numberLists (atEntry state keys chutes answers))) ⌝ }
-    ensures left { λ r. ⌜ atExit state keys chutes answers ≡ left (openOn size workers capacity (now (commands .entry)) (numberLists (atEntry state keys chutes answers))) (atEntry state keys chutes answers) ⌝ }
+    ensures number { λ r. ⌜ r ≡ answerOf (openOn size workers capacity (now (commands .entry)) (sourceOf from (now (source .entry))) (numberLists (allAtEntry state keys chutes answers image))) ⌝ }
+    ensures left { λ r. ⌜ allAtExit state keys chutes answers image ≡ left (openOn size workers capacity (now (commands .entry)) (sourceOf from (now (source .entry))) (numberLists (allAtEntry state keys chutes answers image))) (allAtEntry state keys chutes answers image) ⌝ }
 {
     read_lists(keys, chutes, answers, key_room, chute_room, answer_room);
-    let opening = open(
+    let opening = open_with(
         state,
         key_room,
         chute_room,
         answer_room,
+        image,
         commands,
+        from,
+        source,
         size,
         workers,
         capacity,
@@ -79,20 +89,22 @@ fn open_within(
     answer
 }
 
-// Opens a list of commands. A refusal leaves every list as it was.
-#[no_mangle]
-pub extern "C" fn depot_open(
+// Opens a list of commands, with the store of an image if there is one.
+fn opened(
     state: &mut [u8],
     keys: &mut [u8],
     chutes: &mut [u8],
     answers: &mut [u8],
+    image: &mut [u8],
     commands: &[u8],
+    from: bool,
+    source: &[u8],
     size: u64,
     workers: u64,
     capacity: u64,
 ) -> u64
-    ensures number { λ r. ⌜ r ≡ openAnswer size workers capacity (now (commands .entry)) (atEntry state keys chutes answers) ⌝ }
-    ensures left { λ r. ⌜ atExit state keys chutes answers ≡ openLeft size workers capacity (now (commands .entry)) (atEntry state keys chutes answers) ⌝ }
+    ensures number { λ r. ⌜ r ≡ openAnswer size workers capacity (now (commands .entry)) (sourceOf from (now (source .entry))) (allAtEntry state keys chutes answers image) ⌝ }
+    ensures left { λ r. ⌜ allAtExit state keys chutes answers image ≡ openLeft size workers capacity (now (commands .entry)) (sourceOf from (now (source .entry))) (allAtEntry state keys chutes answers image) ⌝ }
 {
     let key_count = keys.len() / 8;
     let chute_count = chutes.len() / 2;
@@ -111,12 +123,79 @@ pub extern "C" fn depot_open(
         keys,
         chutes,
         answers,
+        image,
         commands,
+        from,
+        source,
         size,
         workers,
         capacity,
         &mut key_room[..key_count],
         &mut chute_room[..chute_count],
         &mut answer_room[..answer_count],
+    )
+}
+
+// Opens a list of commands, with an empty store. A refusal leaves every list as it was.
+#[no_mangle]
+pub extern "C" fn depot_open(
+    state: &mut [u8],
+    keys: &mut [u8],
+    chutes: &mut [u8],
+    answers: &mut [u8],
+    image: &mut [u8],
+    commands: &[u8],
+    size: u64,
+    workers: u64,
+    capacity: u64,
+) -> u64
+    ensures number { λ r. ⌜ r ≡ openAnswer size workers capacity (now (commands .entry)) nothing (allAtEntry state keys chutes answers image) ⌝ }
+    ensures left { λ r. ⌜ allAtExit state keys chutes answers image ≡ openLeft size workers capacity (now (commands .entry)) nothing (allAtEntry state keys chutes answers image) ⌝ }
+{
+    // No image is read: any bytes may stand in its place.
+    opened(
+        state,
+        keys,
+        chutes,
+        answers,
+        image,
+        commands,
+        false,
+        commands,
+        size,
+        workers,
+        capacity,
+    )
+}
+
+// Opens a list of commands, with the store that an image holds. A refusal leaves every list as it was.
+#[no_mangle]
+pub extern "C" fn depot_open_from(
+    state: &mut [u8],
+    keys: &mut [u8],
+    chutes: &mut [u8],
+    answers: &mut [u8],
+    image: &mut [u8],
+    commands: &[u8],
+    source: &[u8],
+    size: u64,
+    workers: u64,
+    capacity: u64,
+) -> u64
+    ensures number { λ r. ⌜ r ≡ openAnswer size workers capacity (now (commands .entry)) (imageFrom (now (source .entry))) (allAtEntry state keys chutes answers image) ⌝ }
+    ensures left { λ r. ⌜ allAtExit state keys chutes answers image ≡ openLeft size workers capacity (now (commands .entry)) (imageFrom (now (source .entry))) (allAtEntry state keys chutes answers image) ⌝ }
+{
+    opened(
+        state,
+        keys,
+        chutes,
+        answers,
+        image,
+        commands,
+        true,
+        source,
+        size,
+        workers,
+        capacity,
     )
 }

@@ -2,7 +2,7 @@
 use mathlib.Core.Path.{refl, sym, ap, _∙_}
 use mathlib.Core.List.{[]}
 use borrow.Author.Needs.{needs}
-use Rattle.state_bytes.specs.Layout.{lists}
+use Rattle.state_bytes.specs.Layout.{allLists, lists}
 use Rattle.controller.specs.Calls.{advanceOn}
 use Rattle.depot.specs.Program.{report, advanced}
 use Rattle.depot.proofs.Chain.{report-by-bytes}
@@ -13,11 +13,11 @@ use Rattle.depot.proofs.perform.advance_and_report.Tie as tie
 
 -- the proved call, from the call that numbers its answer
 abbrev called : tie.After-number → tie.After-advance
-called c = c .before .before .before .before .before .before .before .before .before
+called c = c .before .before .before .before .before .before .before .before .before .before .before
 
 -- the function's entry, from the proved call
 abbrev entry : tie.After-advance → tie.Start
-entry c = c .before .before .before .before .before .before .before .before .before .before .before .before
+entry c = c .before .before .before .before .before .before .before .before .before .before .before .before .before .before
 
 -- where the call is accepted, from the call that writes the report
 abbrev accepted : tie.After-put-report → tie.Else1
@@ -47,6 +47,9 @@ same-length-4 c = search needs
 same-length-5 : tie.Need-same-length-5
 same-length-5 c = search needs
 
+same-length-6 : tie.Need-same-length-6
+same-length-6 c = search needs
+
 returns : tie.Need-returns
 unfolding advanced
 returns c =
@@ -57,16 +60,13 @@ returns c =
     let a = entry call .args in
     let commands = a .commands .now in
     let schedule = a .schedule .now in
-    let lent = lists (a .state .now) (a .keys .now) (a .chutes .now) (a .answers .now) in
+    let lent = allLists (a .state .now) (a .keys .now) (a .chutes .now) (a .answers .now) (a .image .now) in
     let refusing = printed-refused (report commands) (advanceOn lent commands schedule) (answer .number .result)
     (answer .number .ensures .0 ∙ ap (λ (r : Refusal). r .number) (call .advance .ensures .0)) (test .if1 .taken) in
     rw refusing (last .put-refusal .ensures)
 
 put-report-requires : tie.Need-put-report-requires
 put-report-requires c κs = search needs
-
-same-length-6 : tie.Need-same-length-6
-same-length-6 c = search needs
 
 same-length-7 : tie.Need-same-length-7
 same-length-7 c = search needs
@@ -80,6 +80,12 @@ same-length-9 c = search needs
 same-length-10 : tie.Need-same-length-10
 same-length-10 c = search needs
 
+same-length-11 : tie.Need-same-length-11
+same-length-11 c = search needs
+
+same-length-12 : tie.Need-same-length-12
+same-length-12 c = search needs
+
 returns-2 : tie.Need-returns-2
 unfolding advanced
 returns-2 c =
@@ -90,10 +96,10 @@ returns-2 c =
     let a = entry call .args in
     let commands = a .commands .now in
     let schedule = a .schedule .now in
-    let lent = lists (a .state .now) (a .keys .now) (a .chutes .now) (a .answers .now) in
+    let lent = allLists (a .state .now) (a .keys .now) (a .chutes .now) (a .answers .now) (a .image .now) in
     let state = call .advance .last .0 in
     let answers = call .advance .last .1 .1 .1 .0 in
-    let left = lists state (call .advance .last .1 .0) (call .advance .last .1 .1 .0) answers in
+    let left = allLists state (call .advance .last .1 .0) (call .advance .last .1 .1 .0) answers (call .advance .last .1 .1 .1 .1 .0) in
     let none = sym (answer .number .ensures .0 ∙ ap (λ (r : Refusal). r .number) (call .advance .ensures .0)) ∙ test .if1 .left in
     let accepting = printed-accepted (report commands) (advanceOn lent commands schedule) lent left (advance-numbered lent commands schedule) none (call .advance .ensures .1) in
     rw (accepting, report-by-bytes commands left (lists state [] [] answers) refl refl) (last .put-report .ensures)
@@ -110,11 +116,13 @@ advance-and-report-spec =
     same-length-3
     same-length-4
     same-length-5
+    same-length-6
     returns
     put-report-requires
-    same-length-6
     same-length-7
     same-length-8
     same-length-9
     same-length-10
+    same-length-11
+    same-length-12
     returns-2)

@@ -1,8 +1,8 @@
 -- `depot::perform::open_and_advance` meets its contract: a number that is not 0 is printed, and else what the opened lists give. Assumes nothing.
 use mathlib.Core.Path.{sym, ap, _∙_}
 use borrow.Author.Needs.{needs}
-use Rattle.state_bytes.specs.Layout.{lists}
-use Rattle.controller.specs.Calls.{openOn}
+use Rattle.state_bytes.specs.Layout.{allLists}
+use Rattle.controller.specs.Calls.{nothing, openOn}
 use Rattle.depot.specs.Program.{advanced}
 use Rattle.s10.specs.Refusal.{Refusal}
 use Rattle.depot.proofs.Outcome.{printed-refused, printed-accepted, open-numbered}
@@ -11,19 +11,19 @@ use Rattle.depot.proofs.perform.open_and_advance.Tie as tie
 
 -- the proved call, from the call that numbers its answer
 abbrev called : tie.After-number → tie.After-open
-called c = c .before .before .before .before .before .before .before .before .before
+called c = c .before .before .before .before .before .before .before .before .before .before .before
 
 -- the function's entry, from the proved call
 abbrev entry : tie.After-open → tie.Start
-entry c = c .before .before .before .before .before .before .before .before .before .before .before .before
+entry c = c .before .before .before .before .before .before .before .before .before .before .before .before .before .before
 
 -- where the call is accepted, from the call that goes on
 abbrev accepted : tie.After-advance-and-report → tie.Else1
-accepted c = c .before .before .before .before .before .before
+accepted c = c .before .before .before .before .before .before .before
 
 -- the call that goes on, from the return
-abbrev went-on : tie.After-slice-known15 → tie.After-advance-and-report
-went-on c = c .before .before .before .before .before .before .before .before .before .before
+abbrev went-on : tie.After-slice-known18 → tie.After-advance-and-report
+went-on c = c .before .before .before .before .before .before .before .before .before .before .before .before
 
 open-requires : tie.Need-open-requires
 open-requires c κs = search needs
@@ -49,6 +49,9 @@ same-length-4 c = search needs
 same-length-5 : tie.Need-same-length-5
 same-length-5 c = search needs
 
+same-length-6 : tie.Need-same-length-6
+same-length-6 c = search needs
+
 returns : tie.Need-returns
 returns c =
     let last = c .before .before in
@@ -58,16 +61,13 @@ returns c =
     let a = entry call .args in
     let commands = a .commands .now in
     let schedule = a .schedule .now in
-    let lent = lists (a .state .now) (a .keys .now) (a .chutes .now) (a .answers .now) in
-    let refusing = printed-refused (advanced commands schedule) (openOn (a .size) (a .workers) (a .capacity) commands lent) (answer .number .result)
+    let lent = allLists (a .state .now) (a .keys .now) (a .chutes .now) (a .answers .now) (a .image .now) in
+    let refusing = printed-refused (advanced commands schedule) (openOn (a .size) (a .workers) (a .capacity) commands nothing lent) (answer .number .result)
     (answer .number .ensures .0 ∙ ap (λ (r : Refusal). r .number) (call .«open» .ensures .0)) (test .if1 .taken) in
     rw refusing (last .put-refusal .ensures)
 
 advance-and-report-requires : tie.Need-advance-and-report-requires
 advance-and-report-requires c κs = search needs
-
-same-length-6 : tie.Need-same-length-6
-same-length-6 c = search needs
 
 same-length-7 : tie.Need-same-length-7
 same-length-7 c = search needs
@@ -81,6 +81,12 @@ same-length-9 c = search needs
 same-length-10 : tie.Need-same-length-10
 same-length-10 c = search needs
 
+same-length-11 : tie.Need-same-length-11
+same-length-11 c = search needs
+
+same-length-12 : tie.Need-same-length-12
+same-length-12 c = search needs
+
 returns-2 : tie.Need-returns-2
 returns-2 c =
     let last = went-on c in
@@ -90,11 +96,11 @@ returns-2 c =
     let a = entry call .args in
     let commands = a .commands .now in
     let schedule = a .schedule .now in
-    let lent = lists (a .state .now) (a .keys .now) (a .chutes .now) (a .answers .now) in
-    let left = lists (call .«open» .last .0) (call .«open» .last .1 .0) (call .«open» .last .1 .1 .0) (call .«open» .last .1 .1 .1 .0) in
+    let lent = allLists (a .state .now) (a .keys .now) (a .chutes .now) (a .answers .now) (a .image .now) in
+    let left = allLists (call .«open» .last .0) (call .«open» .last .1 .0) (call .«open» .last .1 .1 .0) (call .«open» .last .1 .1 .1 .0) (call .«open» .last .1 .1 .1 .1 .0) in
     let none = sym (answer .number .ensures .0 ∙ ap (λ (r : Refusal). r .number) (call .«open» .ensures .0)) ∙ test .if1 .left in
-    let accepting = printed-accepted (advanced commands schedule) (openOn (a .size) (a .workers) (a .capacity) commands lent) lent left
-    (open-numbered (a .size) (a .workers) (a .capacity) commands lent) none (call .«open» .ensures .1) in
+    let accepting = printed-accepted (advanced commands schedule) (openOn (a .size) (a .workers) (a .capacity) commands nothing lent) lent left
+    (open-numbered (a .size) (a .workers) (a .capacity) commands nothing lent) none (call .«open» .ensures .1) in
     rw accepting (last .advance-and-report .ensures)
 
 pub open-and-advance-spec : {M : Type 1} → statement M
@@ -109,11 +115,13 @@ open-and-advance-spec =
     same-length-3
     same-length-4
     same-length-5
+    same-length-6
     returns
     advance-and-report-requires
-    same-length-6
     same-length-7
     same-length-8
     same-length-9
     same-length-10
+    same-length-11
+    same-length-12
     returns-2)

@@ -60,6 +60,15 @@ slice-aggregate-put-text-5 c = search needs
 put-text-requires-5 : tie.Need-put-text-requires-5
 put-text-requires-5 c κs = search needs
 
+enum-told-7 : tie.Need-enum-told-7
+enum-told-7 c = search needs
+
+slice-aggregate-put-text-6 : tie.Need-slice-aggregate-put-text-6
+slice-aggregate-put-text-6 c = search needs
+
+put-text-requires-6 : tie.Need-put-text-requires-6
+put-text-requires-6 c κs = search needs
+
 same-length : tie.Need-same-length
 same-length c = search needs
 
@@ -105,6 +114,15 @@ returns-6 c =
     let told = wrote .before .before .before in
     (rw (told .before .before .before .kind .given .1, told .enum-told6 .given .1) (wrote .put-text5 .ensures), omega arith)
 
+same-length-6 : tie.Need-same-length-6
+same-length-6 c = search needs
+
+returns-7 : tie.Need-returns-7
+returns-7 c =
+    let wrote = c .before .before in
+    let told = wrote .before .before .before in
+    (rw (told .before .before .before .kind .given .1, told .enum-told7 .given .1) (wrote .put-text6 .ensures), omega arith)
+
 pub put-kind-spec : {M : Type 1} → statement M
 put-kind-spec =
     tie.close
@@ -127,6 +145,9 @@ put-kind-spec =
     enum-told-6
     slice-aggregate-put-text-5
     put-text-requires-5
+    enum-told-7
+    slice-aggregate-put-text-6
+    put-text-requires-6
     same-length
     returns-2
     same-length-2
@@ -136,4 +157,6 @@ put-kind-spec =
     same-length-4
     returns-5
     same-length-5
-    returns-6)
+    returns-6
+    same-length-6
+    returns-7)

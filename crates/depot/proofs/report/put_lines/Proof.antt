@@ -20,7 +20,7 @@ abbrev lineOf : List ℕ → List ℕ → ℕ → List ℕ
 lineOf commands answers i = commandLine (suc i) (take 16 (drop (16 * i) commands)) (getD answers i 0)
 
 abbrev Inv-loop : tie.InvT-loop
-Inv-loop out₀ commands answers at₀ i₀ out at i = (i ≤ length answers) × (at ≤ 33 * i) × (length out ≡ length out₀) × Wrote (fields i (lineOf commands answers)) 0 out₀ out at
+Inv-loop out₀ commands answers at₀ i₀ out at i = (i ≤ length answers) × (at ≤ 36 * i) × (length out ≡ length out₀) × Wrote (fields i (lineOf commands answers)) 0 out₀ out at
 
 abbrev μ-loop : tie.MeasureT-loop
 μ-loop out₀ commands answers at₀ i₀ out at i = length answers - i

@@ -3,7 +3,7 @@ use native.Mathlib.Omega.{arith}
 use borrow.Author.Needs.{needs}
 use mathlib.Core.Path.{_≡_, _∙_}
 use lib.ListN.{length}
-use Rattle.state_bytes.specs.Layout.{Lists, lists}
+use Rattle.state_bytes.specs.Layout.{Lists, allLists}
 use Rattle.controller.specs.Calls.{CallOutcome, advanceOn}
 use Rattle.depot_c.specs.Boundary.{numberLists, answerOf}
 use Rattle.depot_c.proofs.Outcomes.{advance-packed, entries-read-back, answer-on, written-on, refused-on}
@@ -15,19 +15,19 @@ abbrev answered : tie.After-write-lists-arg6 → tie.After-number
 answered c = c .before .before .before .before .before .before .before
 
 -- the call that writes them, from the return
-abbrev written : tie.After-slice-known17 → tie.After-write-lists
+abbrev written : tie.After-slice-known19 → tie.After-write-lists
 written c = c .before .before .before .before .before .before
 
 -- where the entries are known to be bytes, from the call that reads the numbers
 abbrev known : tie.After-read-lists → tie.After-slice-known4
-known c = c .before .before .before .before .before .before .before .before .before .before .before .before
+known c = c .before .before .before .before .before .before .before .before .before .before .before .before .before
 
 -- the places after the calls, from the answer back to the function's entry
 abbrev called : tie.After-number → tie.After-advance
-called c = c .before .before .before .before .before .before .before .before .before
+called c = c .before .before .before .before .before .before .before .before .before .before .before
 
 abbrev read : tie.After-advance → tie.After-read-lists
-read c = c .before .before .before .before .before .before .before .before .before .before .before
+read c = c .before .before .before .before .before .before .before .before .before .before .before .before
 
 abbrev start : tie.After-read-lists → tie.Start
 start c = known c .before .before .before .before
@@ -41,10 +41,10 @@ outcome c l = advanceOn l (c .args .commands .now) (c .args .schedule .now)
 
 -- its answer is the one on the entries
 answer-is : (c : tie.After-number)
-    → c .number .result ≡ answerOf (outcome (entry c) (numberLists (lists (entry c .args .state .now) (entry c .args .keys .now) (entry c .args .chutes .now) (entry c .args .answers .now))))
+    → c .number .result ≡ answerOf (outcome (entry c) (numberLists (allLists (entry c .args .state .now) (entry c .args .keys .now) (entry c .args .chutes .now) (entry c .args .answers .now) (entry c .args .image .now))))
 answer-is c =
     let args = entry c .args in
-    c .number .ensures .0 ∙ advance-packed (called c .advance .result) ∙ answer-on (args .state .now) (args .keys .now) (args .chutes .now) (args .answers .now) (outcome (entry c)) (read (called c) .read-lists .ensures)
+    c .number .ensures .0 ∙ advance-packed (called c .advance .result) ∙ answer-on (args .state .now) (args .keys .now) (args .chutes .now) (args .answers .now) (args .image .now) (outcome (entry c)) (read (called c) .read-lists .ensures)
     (called c .advance .ensures .0)
 
 read-lists-requires : tie.Need-read-lists-requires
@@ -89,24 +89,24 @@ same-length-6 c = search needs
 same-length-7 : tie.Need-same-length-7
 same-length-7 c = search needs
 
+same-length-8 : tie.Need-same-length-8
+same-length-8 c = search needs
+
 returns : tie.Need-returns
 returns c =
     let answer = answered (written c .before) in
     let before = read (called answer) in
     let begin = entry answer in
     let args = begin .args in
-    let whole = entries-read-back (args .state .now) (args .keys .now) (args .chutes .now) (args .answers .now) (length (args .key-room .now)) (length (args .chute-room .now))
+    let whole = entries-read-back (args .state .now) (args .keys .now) (args .chutes .now) (args .answers .now) (args .image .now) (length (args .key-room .now)) (length (args .chute-room .now))
     (length (args .answer-room .now)) (begin .pre .keys-fit) (begin .pre .chutes-fit) (begin .pre .answers-fit)
     (λ i. omega (arith, known before .before .before .slice-known2 .given i))
     (λ i. omega (arith, known before .before .slice-known3 .given i))
     (λ i. omega (arith, known before .slice-known4 .given i)) in (
       answer-is answer,
-      written-on (args .state .now) (args .keys .now) (args .chutes .now) (args .answers .now) (outcome begin) (before .read-lists .ensures) whole
+      written-on (args .state .now) (args .keys .now) (args .chutes .now) (args .answers .now) (args .image .now) (outcome begin) (before .read-lists .ensures) whole
           (called answer .advance .ensures .1) (written c .write-lists .ensures),
     )
-
-same-length-8 : tie.Need-same-length-8
-same-length-8 c = search needs
 
 same-length-9 : tie.Need-same-length-9
 same-length-9 c = search needs
@@ -126,12 +126,18 @@ same-length-13 c = search needs
 same-length-14 : tie.Need-same-length-14
 same-length-14 c = search needs
 
+same-length-15 : tie.Need-same-length-15
+same-length-15 c = search needs
+
+same-length-16 : tie.Need-same-length-16
+same-length-16 c = search needs
+
 returns-2 : tie.Need-returns-2
 returns-2 c =
     let answer = c .before in
     let args = entry answer .args in (
       answer-is answer,
-      refused-on (args .state .now) (args .keys .now) (args .chutes .now) (args .answers .now) (outcome (entry answer)) (read (called answer) .read-lists .ensures)
+      refused-on (args .state .now) (args .keys .now) (args .chutes .now) (args .answers .now) (args .image .now) (outcome (entry answer)) (read (called answer) .read-lists .ensures)
           (called answer .advance .ensures .1) (λ z. c .if1 .left (answer-is answer ∙ z)),
     )
 
@@ -150,12 +156,14 @@ advance-within-spec =
     same-length-5
     same-length-6
     same-length-7
-    returns
     same-length-8
+    returns
     same-length-9
     same-length-10
     same-length-11
     same-length-12
     same-length-13
     same-length-14
+    same-length-15
+    same-length-16
     returns-2)

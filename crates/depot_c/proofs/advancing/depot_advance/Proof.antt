@@ -5,25 +5,25 @@ use mathlib.Core.Bool.{cond}
 use lib.ListN.{length}
 use lib.Seq.{length-take-le}
 use borrow.Author.Tests.{not-true, not-false}
-use Rattle.state_bytes.specs.Layout.{lists, handedBackFit}
+use Rattle.state_bytes.specs.Layout.{allLists}
 use Rattle.controller.specs.Calls.{refusalIn}
 use Rattle.depot_c.specs.Boundary.{answerOf, left}
-use Rattle.depot_c.proofs.Outcomes.{nothing-advanced, of-entries, long-answered, decoded-none, decoded-whole, whole-lengths, room-bounds}
+use Rattle.depot_c.proofs.Outcomes.{nothing-advanced, allFit, of-entries, long-answered, decoded-none, decoded-whole, whole-lengths, room-bounds}
 use borrow.Author.Needs.{needs}
 use Rattle.depot_c.proofs.advancing.depot_advance.Statement.{statement}
 use Rattle.depot_c.proofs.advancing.depot_advance.Tie as tie
 
 -- the function's entry, from the test whether the lists end with a number
 abbrev entry : tie.After-are-whole → tie.Start
-entry c = c .before .before .before .before .before .before .before
+entry c = c .before .before .before .before .before .before .before .before
 
 -- where they do, from the answer on lists that are too long
-abbrev whole-long : tie.After-long-answer → tie.Else1
+abbrev whole-long : tie.After-long-image-answer → tie.Else1
 whole-long c = c .before .before .before .before
 
 -- where the lists have room, from where rooms are lent
-abbrev with-room : tie.After-advance-within-arg4 → tie.Else2
-with-room c = c .before .before .before .before
+abbrev with-room : tie.After-advance-within-arg5 → tie.Else2
+with-room c = c .before .before .before .before .before
 
 -- where they end with a number, from the call on rooms
 abbrev whole-lent : tie.After-answer-room → tie.Else1
@@ -31,7 +31,7 @@ whole-lent c = with-room (c .before .before .before) .before .before
 
 -- the call on rooms, from the return
 abbrev called : tie.After-answer-room2 → tie.After-advance-within
-called c = c .before .before .before .before .before .before .before .before .before .before .before
+called c = c .before .before .before .before .before .before .before .before .before .before .before .before .before
 
 are-whole-requires : tie.Need-are-whole-requires
 are-whole-requires c κs = search needs
@@ -40,7 +40,7 @@ returns : tie.Need-returns
 unfolding answerOf refusalIn left
 returns c =
     let args = entry (c .before) .args in
-    let b = lists (args .state .now) (args .keys .now) (args .chutes .now) (args .answers .now) in
+    let b = allLists (args .state .now) (args .keys .now) (args .chutes .now) (args .answers .now) (args .image .now) in
     let none = decoded-none b (sym (c .before .are-whole .ensures) ∙ not-true _ (c .if1 .taken)) in
     let six = nothing-advanced (args .commands .now) (args .schedule .now) in
     (rw (none, six), rw (none, six))
@@ -48,8 +48,8 @@ returns c =
 have-room-requires : tie.Need-have-room-requires
 have-room-requires c κs = search needs
 
-long-answer-requires : tie.Need-long-answer-requires
-long-answer-requires c κs = search needs
+long-image-answer-requires : tie.Need-long-image-answer-requires
+long-image-answer-requires c κs = search needs
 
 same-length : tie.Need-same-length
 same-length c = search needs
@@ -57,15 +57,15 @@ same-length c = search needs
 returns-2 : tie.Need-returns-2
 returns-2 c =
     let args = entry (whole-long c .before) .args in
-    let b = lists (args .state .now) (args .keys .now) (args .chutes .now) (args .answers .now) in
+    let b = allLists (args .state .now) (args .keys .now) (args .chutes .now) (args .answers .now) (args .image .now) in
     let whole = decoded-whole b (sym (whole-long c .before .are-whole .ensures) ∙ not-false _ (whole-long c .if1 .left)) in
     let long = long-answered b (args .commands .now) (args .schedule .now) (sym (c .before .before .before .have-room .ensures) ∙ not-true _ (c .before .before .if2 .taken)) in
-    let answer = of-entries (args .state .now) (args .keys .now) (args .chutes .now) (args .answers .now) (args .commands .now)
-    {P = λ l list. c .long-answer .result ≡ cond (handedBackFit l list) 12 6} (c .long-answer .ensures) in
+    let answer = of-entries (args .state .now) (args .keys .now) (args .chutes .now) (args .answers .now) (args .image .now) (args .commands .now)
+    {P = λ l list. c .long-image-answer .result ≡ cond (allFit l list) 12 6} (c .long-image-answer .ensures) in
     (rw whole (answer ∙ long .0), rw whole (long .1))
 
 -- each list fits its room
-bounds : (c : tie.After-advance-within-arg4) →
+bounds : (c : tie.After-advance-within-arg5) →
     let args = entry (with-room c .before .before .before) .args in
     (length (args .keys .now) / 8 ≤ 4096) × (length (args .chutes .now) / 2 ≤ 4096) × (length (args .answers .now) / 2 ≤ 4096)
 bounds c = room-bounds _ _ _ (sym (with-room c .before .have-room .ensures) ∙ not-false _ (with-room c .if2 .left))
@@ -111,10 +111,13 @@ same-length-4 c = search needs
 same-length-5 : tie.Need-same-length-5
 same-length-5 c = search needs
 
+same-length-6 : tie.Need-same-length-6
+same-length-6 c = search needs
+
 returns-3 : tie.Need-returns-3
 returns-3 c =
     let args = entry (whole-lent (called c .before) .before) .args in
-    let b = lists (args .state .now) (args .keys .now) (args .chutes .now) (args .answers .now) in
+    let b = allLists (args .state .now) (args .keys .now) (args .chutes .now) (args .answers .now) (args .image .now) in
     let call = called c in
     let first = whole-lent (call .before) in
     let whole = decoded-whole b (sym (first .before .are-whole .ensures) ∙ not-false _ (first .if1 .left)) in
@@ -127,7 +130,7 @@ depot-advance-spec =
     are-whole-requires
     returns
     have-room-requires
-    long-answer-requires
+    long-image-answer-requires
     same-length
     returns-2
     array-borrow-prefix-key-room
@@ -141,4 +144,5 @@ depot-advance-spec =
     same-length-3
     same-length-4
     same-length-5
+    same-length-6
     returns-3)

@@ -1,14 +1,15 @@
 -- `depot_c::opening::open_without` meets its contract: the call is made on empty lists. Assumes nothing.
 use mathlib.Core.Path.{_∙_}
 use Rattle.depot_c.specs.Boundary.{answerOf}
-use Rattle.depot_c.proofs.Outcomes.{opening-place-below}
+use Rattle.depot_c.proofs.Outcomes.{opening-place-below, no-list-opened}
+use Rattle.controller.specs.Calls.{nothing}
 use borrow.Author.Needs.{needs}
 use Rattle.depot_c.proofs.opening.open_without.Statement.{statement}
 use Rattle.depot_c.proofs.opening.open_without.Tie as tie
 
 -- the proved call, from where its answer is put together
-abbrev called : tie.After-answers2 → tie.After-open
-called c = c .before .before .before .before
+abbrev called : tie.After-image2 → tie.After-open
+called c = c .before .before .before .before .before
 
 array-borrow-prefix-state : tie.Need-array-borrow-prefix-state
 array-borrow-prefix-state c = search needs
@@ -34,19 +35,25 @@ array-borrow-prefix-answers c = search needs
 slice-aggregate-open-4 : tie.Need-slice-aggregate-open-4
 slice-aggregate-open-4 c = search needs
 
+array-borrow-prefix-image : tie.Need-array-borrow-prefix-image
+array-borrow-prefix-image c = search needs
+
+slice-aggregate-open-5 : tie.Need-slice-aggregate-open-5
+slice-aggregate-open-5 c = search needs
+
 open-requires : tie.Need-open-requires
 open-requires c κs = search needs
 
 opening-answer-requires : tie.Need-opening-answer-requires
 opening-answer-requires c κs =
     let call = called c in
-    rw (call .«open» .ensures .0) (opening-place-below _ _ _ _ _)
+    rw (call .«open» .ensures .0) (opening-place-below _ _ _ _ _ _)
 
 returns : tie.Need-returns
 unfolding answerOf
-returns c =
+returns c source =
     let call = called (c .before) in
-    c .opening-answer .ensures ∙ rw (call .«open» .ensures .0)
+    c .opening-answer .ensures ∙ rw (call .«open» .ensures .0, no-list-opened _ _ _ _ nothing source)
 
 pub open-without-spec : {M : Type 1} → statement M
 open-without-spec =
@@ -60,6 +67,8 @@ open-without-spec =
     slice-aggregate-open-3
     array-borrow-prefix-answers
     slice-aggregate-open-4
+    array-borrow-prefix-image
+    slice-aggregate-open-5
     open-requires
     opening-answer-requires
     returns)

@@ -1,5 +1,6 @@
 -- `depot_c::panel_calls::reported` meets its contract: lists that end within a number or are too long are refused, others are lent rooms. Assumes nothing.
 use Prim.Native.Nat.{ℕ, _*_, _/_, _≤_}
+use mathlib.Core.List.{[]}
 use mathlib.Core.Path.{_≡_, refl, sym, ap, _∙_}
 use mathlib.Core.Bool.{true, false, cond, and-eq-true-iff}
 use lib.Dec.{eqb}
@@ -58,8 +59,8 @@ returns-2 c =
     let args = entry (first .before) .args in
     let b = lists (args .state .now) (args .keys .now) (args .chutes .now) (args .answers .now) in
     let whole = decoded-whole b (lent first .0) in
-    let answer = of-entries (args .state .now) (args .keys .now) (args .chutes .now) (args .answers .now) (args .commands .now)
-    {P = λ l list. c .long-answer .result ≡ cond (handedBackFit l list) 12 6} (c .long-answer .ensures) in
+    let answer = of-entries (args .state .now) (args .keys .now) (args .chutes .now) (args .answers .now) [] (args .commands .now)
+    {P = λ l list. c .long-answer .result ≡ cond (handedBackFit l list) 12 6} (λ l list s a k h n _. c .long-answer .ensures l list s a k h n) in
     let long = long-reported b (args .commands .now) _ _ _ (sym (c .before .before .have-room .ensures) ∙ not-true _ (c .before .if2 .taken)) (lent first .1) answer in
     (rw whole (long .0), long .1 _ _)
 
