@@ -21,7 +21,7 @@ static const struct labelled labelled[COMMANDS] = {
     {DEPOT_INSERT, "CP100000017DE", 41}, {DEPOT_READ, "CP100000017DE", 0},     {DEPOT_DELETE, "EE200000023FR", 0},
 };
 
-static const char *const kinds[] = {"", "insert", "delete", "read", "update", "workers"};
+static const char *const kinds[] = {"", "insert", "delete", "read", "update", "workers", "checkpoint"};
 static const char *const states[] = {"idle", "loading", "searching", "holding", "looked-up", "written", "walking", "clearing"};
 
 /* The lists that the host keeps between calls. */
@@ -29,6 +29,7 @@ static uint8_t state[DEPOT_STATE_LENGTH];
 static uint8_t keys[DEPOT_KEY_LENGTH * CAPACITY];
 static uint8_t chutes[DEPOT_CHUTE_LENGTH * CAPACITY];
 static uint8_t answers[DEPOT_ANSWER_LENGTH * COMMANDS];
+static uint8_t image[DEPOT_RECORD_LENGTH * (CAPACITY + 1)]; /* examples/swap.c makes use of it */
 static uint8_t commands[DEPOT_COMMAND_LENGTH * COMMANDS];
 
 /* Ends the host where a call was refused. */
@@ -51,13 +52,14 @@ static void open_list(void)
         command[15] = (uint8_t)(labelled[i].chute % 256);
     }
     must_accept("depot_open", depot_open(state, sizeof state, keys, sizeof keys, chutes, sizeof chutes, answers, sizeof answers,
-                                         commands, sizeof commands, SIZE, WORKERS, CAPACITY));
+                                         image, sizeof image, commands, sizeof commands, SIZE, WORKERS, CAPACITY));
 }
 
 static void deal(const uint8_t *schedule, size_t length)
 {
-    must_accept("depot_advance", depot_advance(state, sizeof state, keys, sizeof keys, chutes, sizeof chutes, answers,
-                                               sizeof answers, commands, sizeof commands, schedule, length));
+    must_accept("depot_advance",
+                depot_advance(state, sizeof state, keys, sizeof keys, chutes, sizeof chutes, answers, sizeof answers, image,
+                              sizeof image, commands, sizeof commands, schedule, length));
 }
 
 static void read_counts(uint8_t *counts)

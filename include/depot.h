@@ -1,4 +1,5 @@
-/* The depot controller for C: opening a list of commands, dealing turns, the panel's two reports and identifiers.
+/* The depot controller for C: opening a list of commands, from an image of a store too, dealing turns, the panel's two reports,
+ * and identifiers.
  * Every call is proved to answer and to leave what is said here, whatever the lists hold, to end, and to stay inside its lists. */
 #ifndef DEPOT_H
 #define DEPOT_H
@@ -34,22 +35,24 @@ extern "C" {
  *     keys       8 bytes for each place of the room
  *     chutes     2 bytes for each place of the room
  *     answers    2 bytes for each command
+ *     image      DEPOT_RECORD_LENGTH bytes for each place of the room and once more (layout: docs/IMAGE-LAYOUT.md)
  *     commands   16 bytes for each command: kind (1), identifier (13), chute (2); of a worker change (DEPOT_WORKERS) the
- *                identifier is thirteen characters '0' and the chute the new worker count
+ *                identifier is thirteen characters '0' and the chute the new worker count, of a checkpoint (DEPOT_CHECKPOINT)
+ *                the identifier is the same and the chute 0
  *
- * The caller keeps these five between calls and hands them to each call as the last accepted call left them. Keys stand
+ * The caller keeps these six between calls and hands them to each call as the last accepted call left them. Keys stand
  * ascending in the places in use, each with its chute in the same place of chutes; the places after them hold 0 in both. Key 0
  * is a real item, so a place is in use if its chute is not 0.
  *
  * Answers and refusals
  *
  * Each call returns 0 for accepted, else the number of a refusal (bits 0 to 7), the place of the command refused (from bit 8 on;
- * 0 for none, and only depot_open names one) and the first faulty character of its identifier (bits 32 to 39). Take an answer
+ * 0 for none, and only the openings name one) and the first faulty character of its identifier (bits 32 to 39). Take an answer
  * apart by depot_number, depot_place and depot_character; the bits from 40 on are kept free. A refusal leaves every byte of every
  * list as it was.
  * The character counts from 1 at the left, up to 13. With refusals 8 and 13 it is the first that is no letter or no digit where
- * one must stand, in a worker change the first that is not '0', and 0 where the identifier's length is wrong; with 9 it is 11, the
- * check digit; with any other refusal 0.
+ * one must stand, in a worker change or checkpoint the first that is not '0', and 0 where the identifier's length is wrong; with 9
+ * it is 11, the check digit; with any other refusal 0.
  *
  * Threads of the host, and stack
  *
@@ -70,6 +73,7 @@ enum {
     DEPOT_CHUTE_LENGTH = 2,
     DEPOT_ANSWER_LENGTH = 2,
     DEPOT_COMMAND_LENGTH = 16,
+    DEPOT_RECORD_LENGTH = 16, /* a record of an image */
     DEPOT_IDENTIFIER_LENGTH = 13,
     DEPOT_MOST_NODES = 150,     /* graph size: 1 to 150 */
     DEPOT_MOST_WORKERS = 64,    /* workers, of an opening and of a worker change: 1 to 64 */
@@ -90,20 +94,30 @@ enum depot_refusal {
     DEPOT_WRONG_LIST_LENGTH = 4, /* length of the commands no multiple of 16 */
     DEPOT_TOO_MANY_COMMANDS = 5, /* over 4,096 */
     DEPOT_WRONG_LENGTH = 6,      /* another list of a wrong length */
-    DEPOT_UNKNOWN_KIND = 7,      /* kind not 1 to 5 */
+    DEPOT_UNKNOWN_KIND = 7,      /* kind not 1 to 6 */
     DEPOT_MALFORMED = 8,         /* identifier: length wrong, or the first faulty character is at 1, 2, 12 or 13: no letter;
-                                    of a worker change: a character, 1 to 13, that is not '0' */
+                                    of a worker change or checkpoint: a character, 1 to 13, that is not '0' */
     DEPOT_WRONG_CHECK_DIGIT = 9, /* identifier: every letter and digit in order, check digit wrong */
-    DEPOT_WRONG_CHUTE = 10,      /* insert, update: not 1 to 512; delete, read: not 0 */
+    DEPOT_WRONG_CHUTE = 10,      /* insert, update: not 1 to 512; delete, read, checkpoint: not 0 */
     DEPOT_UNKNOWN_THREAD = 11,   /* party above the largest worker count of the opening and the list */
     DEPOT_WRONG_STATE = 12,      /* a handed-back run that breaks its layout, docs/STATE-LAYOUT.md, its worker counts too */
     DEPOT_KEY_TOO_LARGE = 12,    /* the same number, of depot_write_identifier: key above DEPOT_LARGEST_KEY */
     DEPOT_WRONG_DIGIT = 13,      /* identifier: the first faulty character is at 3 to 11: no digit; tested in 8's place */
-    DEPOT_WRONG_COUNT = 14       /* worker change: count not 1 to 64; tested in 10's place */
+    DEPOT_WRONG_COUNT = 14,      /* worker change: count not 1 to 64; tested in 10's place */
+    DEPOT_WRONG_CHAIN = 15,      /* image to open from: an index above the room, or keys that do not strictly ascend */
+    DEPOT_WRONG_RECORD = 16      /* image to open from: record 0 or a record on the chain out of range */
 };
 
-/* Kinds of command. DEPOT_WORKERS is a worker change: it names no item, sets the worker count and is answered DEPOT_DONE. */
-enum depot_kind { DEPOT_INSERT = 1, DEPOT_DELETE = 2, DEPOT_READ = 3, DEPOT_UPDATE = 4, DEPOT_WORKERS = 5 };
+/* Kinds of command. DEPOT_WORKERS is a worker change: it sets the worker count. DEPOT_CHECKPOINT puts the store into the image.
+ * Both name no item and are answered DEPOT_DONE. */
+enum depot_kind {
+    DEPOT_INSERT = 1,
+    DEPOT_DELETE = 2,
+    DEPOT_READ = 3,
+    DEPOT_UPDATE = 4,
+    DEPOT_WORKERS = 5,
+    DEPOT_CHECKPOINT = 6
+};
 
 /* Answers to a command; 1 to 512 is the chute that a read found. */
 enum depot_answer {
@@ -161,31 +175,61 @@ static inline uint64_t depot_key_at(const uint8_t *keys, size_t entry)
     return key;
 }
 
-/* Opens a list of commands: the state's bytes are those of a run with an empty chain and all parties idle; keys, chutes and
- * answers are set to 0. Their contents before do not matter.
+/* The length in bytes of the image of a store with a room. */
+static inline size_t depot_image_length(size_t capacity)
+{
+    return DEPOT_RECORD_LENGTH * (capacity + 1);
+}
+
+/* The place of the checkpoint that an image is of, 0 for none: an image that only an opening wrote. */
+static inline uint64_t depot_image_place(const uint8_t *image)
+{
+    return depot_key_at(image + 4, 0);
+}
+
+/* Opens a list of commands: the state's bytes are those of a run with an empty chain and all parties idle; keys, chutes, answers
+ * and image are set to 0. Their contents before do not matter.
  *
- * Writes state, keys, chutes, answers; reads commands. size is the graph size, workers the worker count until a worker change is
- * written, capacity the room.
+ * Writes state, keys, chutes, answers, image; reads commands. size is the graph size, workers the worker count until a worker
+ * change is written, capacity the room.
  * Refuses 1 to 6 in this order, then each command in order for 7, 8 or 13, 9, 10 or 14, with its place, and with the character
- * for 8, 9 and 13. 6: state is not 4,718 bytes long, keys not 8 × capacity, chutes not 2 × capacity, or answers not 2 × the
- * number of commands.
+ * for 8, 9 and 13. 6: state is not 4,718 bytes long, keys not 8 × capacity, chutes not 2 × capacity, answers not 2 × the number
+ * of commands, or image not depot_image_length(capacity).
  *
- *     uint8_t state[DEPOT_STATE_LENGTH], keys[8 * 4], chutes[2 * 4], answers[2 * 1];
+ *     uint8_t state[DEPOT_STATE_LENGTH], keys[8 * 4], chutes[2 * 4], answers[2 * 1], image[16 * (4 + 1)];
  *     const uint8_t commands[16] = {DEPOT_INSERT, 'A', 'A', '0', '0', '0', '0', '0', '0', '0', '0', '5', 'A', 'A', 0, 7};
  *     uint64_t answer = depot_open(state, sizeof state, keys, sizeof keys, chutes, sizeof chutes, answers, sizeof answers,
- *                                  commands, sizeof commands, 2, 1, 4); */
+ *                                  image, sizeof image, commands, sizeof commands, 2, 1, 4); */
 uint64_t depot_open(uint8_t *state, size_t state_length, uint8_t *keys, size_t keys_length, uint8_t *chutes,
-                    size_t chutes_length, uint8_t *answers, size_t answers_length, const uint8_t *commands,
-                    size_t commands_length, uint64_t size, uint64_t workers, uint64_t capacity);
+                    size_t chutes_length, uint8_t *answers, size_t answers_length, uint8_t *image, size_t image_length,
+                    const uint8_t *commands, size_t commands_length, uint64_t size, uint64_t workers, uint64_t capacity);
+
+/* Opens a list of commands as depot_open does, but with the store that an image holds: keys and chutes are its entries, 0 after
+ * them. The image opened from (source) is only read, and is another list than image, which is set to 0.
+ * To go on after a checkpoint, hand over its image and the commands after its place, depot_image_place(source): proved is that
+ * this is accepted, with any size and worker count, and that answers and table are those of the unbroken run
+ * (crates/controller/specs/Checkpoint.antt). The worker count in force is not in the image: it is the new opening's.
+ *
+ * Writes state, keys, chutes, answers, image; reads commands and source.
+ * Refuses as depot_open, and after 6 (also: source is not depot_image_length(capacity) bytes long) and before the commands 15
+ * over the whole chain of source, then 16 over record 0 and the records on the chain; both with place 0 and character 0.
+ *
+ *     if (depot_open_from(state, sizeof state, keys, sizeof keys, chutes, sizeof chutes, answers, sizeof answers, image,
+ *                         sizeof image, commands, sizeof commands, source, sizeof source, 2, 1, 4) == 0)
+ *         printf("opened with the table of place %llu\n", (unsigned long long)depot_image_place(source)); */
+uint64_t depot_open_from(uint8_t *state, size_t state_length, uint8_t *keys, size_t keys_length, uint8_t *chutes,
+                         size_t chutes_length, uint8_t *answers, size_t answers_length, uint8_t *image, size_t image_length,
+                         const uint8_t *commands, size_t commands_length, const uint8_t *source, size_t source_length,
+                         uint64_t size, uint64_t workers, uint64_t capacity);
 
 /* Performs a dealing: one turn for each byte of schedule, in order. It is checked whole before its first turn; an empty one
  * changes nothing.
  *
- * Proved, for every list of calls of depot_advance from an accepted depot_open, in which each accepted call was handed the lists
- * as those before it left them, refused calls and empty dealings included (crates/depot_c/specs/Demand3.antt): each answer is 0
- * before its command's writing turn and from then on the one that running the commands one after another gives; when all commands
- * are removed, keys and chutes are that run's table; and from every run that dealings reach some further dealing is accepted and
- * removes every command, with every party idle.
+ * Proved, for every list of calls of depot_advance from an accepted depot_open or depot_open_from, in which each accepted call was
+ * handed the lists as those before it left them, refused calls and empty dealings included (crates/depot_c/specs/Demand3.antt):
+ * each answer is 0 before its command's writing turn and from then on the one that running the commands one after another, from
+ * the opening's store, gives; when all commands are removed, keys and chutes are that run's table; and from every run that
+ * dealings reach some further dealing is accepted and removes every command, with every party idle.
  *
  * A dealing may name parties 0 up to the largest worker count of the opening and of all worker changes in the list, loaded or not.
  * The count in force is the opening's, and from the writing turn of a worker change on that of the change. A worker above it waits
@@ -193,6 +237,11 @@ uint64_t depot_open(uint8_t *state, size_t state_length, uint8_t *keys, size_t k
  * that holds the change finishes its removal. Proved over the same lists of calls (crates/controller/specs/Count.antt): no command
  * delivered after a worker change, up to and including the next one, is taken by a worker above its count, and none before the
  * first change by a worker above the opening's.
+ *
+ * At the writing turn of a checkpoint the store goes into the image, which is zeros before the first one and stands until the
+ * next. Proved over the same lists of calls (crates/controller/specs/Checkpoint.antt): the image is always that of the last
+ * checkpoint written, with what the commands delivered before it leave. Save it between calls, when depot_image_place(image) has
+ * changed, as you save the other lists.
  *
  * That some dealing finishes does not mean that each repeated pattern does. With one worker, 1 0 1 repeated from the opening never
  * loads a command: the loader's turn always falls while the worker stands on the head. Two turns each, 0 0 1 1, never load the
@@ -203,28 +252,28 @@ uint64_t depot_open(uint8_t *state, size_t state_length, uint8_t *keys, size_t k
  * n (2 w + s + 6) + 2 rounds, with n commands, w workers and graph size s. tests/second/tests/patterns.rs runs 2,000 such runs as
  * things are now, and 2,000 with worker changes, w being the largest count. It is not proved.
  *
- * Writes state, keys, chutes, answers; reads commands (those of the opening) and schedule.
+ * Writes state, keys, chutes, answers, image; reads commands (those of the opening) and schedule.
  * Refuses 6 (a length that is not the opening's, by the state's own settings), then 12 (the state breaks its layout), then 11
  * (a party above the largest worker count). A state that passes these tests, though no dealing leads to it, gets a call that ends
  * and stays inside its lists; what it leaves there is open.
  *
  *     const uint8_t schedule[] = {0, 0, 1, 1, 1, 1};  (two turns of the loader, four of worker 1)
  *     uint64_t answer = depot_advance(state, sizeof state, keys, sizeof keys, chutes, sizeof chutes, answers, sizeof answers,
- *                                     commands, sizeof commands, schedule, sizeof schedule);
+ *                                     image, sizeof image, commands, sizeof commands, schedule, sizeof schedule);
  *     if (answer == 0 && depot_short_at(answers, 0) == DEPOT_DONE)
  *         puts("inserted"); */
 uint64_t depot_advance(uint8_t *state, size_t state_length, uint8_t *keys, size_t keys_length, uint8_t *chutes,
-                       size_t chutes_length, uint8_t *answers, size_t answers_length, const uint8_t *commands,
-                       size_t commands_length, const uint8_t *schedule, size_t schedule_length);
+                       size_t chutes_length, uint8_t *answers, size_t answers_length, uint8_t *image, size_t image_length,
+                       const uint8_t *commands, size_t commands_length, const uint8_t *schedule, size_t schedule_length);
 
 /* The panel report (pending counts): for each record in the chain, in chain order, how many records it waits for, one byte each;
  * 0 after the last. A record that waits for none is 0 too, so the counts do not say how long the chain is.
  * A command waits for each earlier one of the same item, but a read not for a read; inserts and deletes also wait for one another,
- * whatever their items. Reads and updates of other items pass them. A worker change waits for every earlier command, and every
- * later one waits for it.
+ * whatever their items. Reads and updates of other items pass them. A worker change or checkpoint waits for every earlier command,
+ * and every later one waits for it. The reports are not lent the image.
  *
  * Writes counts, DEPOT_COUNTS_LENGTH bytes; reads the rest.
- * Refuses 6 (as depot_advance, and for the length of counts), then 12.
+ * Refuses 6 (as depot_advance, without the image, and for the length of counts), then 12.
  *
  *     uint8_t counts[DEPOT_COUNTS_LENGTH];
  *     uint64_t answer = depot_pending_counts(state, sizeof state, keys, sizeof keys, chutes, sizeof chutes,
@@ -239,7 +288,7 @@ uint64_t depot_pending_counts(const uint8_t *state, size_t state_length, const u
  * record, 0 where it has none. Workers past the largest worker count are idle.
  *
  * Writes status, DEPOT_STATUS_LENGTH bytes; reads the rest.
- * Refuses 6 (as depot_advance, and for the length of status), then 12.
+ * Refuses 6 (as depot_advance, without the image, and for the length of status), then 12.
  *
  *     uint8_t status[DEPOT_STATUS_LENGTH];
  *     uint64_t answer = depot_worker_status(state, sizeof state, keys, sizeof keys, chutes, sizeof chutes,

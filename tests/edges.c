@@ -12,8 +12,9 @@ struct list {
     size_t length;
 };
 
-/* A call's lists: the five that the caller keeps, and one more that is the call's own (schedule, counts or status). */
-enum { STATE, KEYS, CHUTES, ANSWERS, COMMANDS, OWN, LISTS };
+/* A call's lists: the six that the caller keeps, and one more that is the call's own (image to open from, schedule, counts or
+ * status). */
+enum { STATE, KEYS, CHUTES, ANSWERS, IMAGE, COMMANDS, OWN, LISTS };
 
 struct lists {
     struct list at[LISTS];
@@ -23,9 +24,10 @@ struct settings {
     uint64_t size, workers, capacity;
 };
 
-enum call { OPEN, ADVANCE, COUNTS, STATUS, CALLS };
+enum call { OPEN, OPEN_FROM, ADVANCE, COUNTS, STATUS, CALLS };
 
-static const char *const call_names[] = {"depot_open", "depot_advance", "depot_pending_counts", "depot_worker_status"};
+static const char *const call_names[] = {"depot_open", "depot_open_from", "depot_advance", "depot_pending_counts",
+                                         "depot_worker_status"};
 static unsigned long checks, failures;
 
 static void check(int holds, const char *call, const char *what, unsigned long number)
@@ -80,6 +82,7 @@ static struct lists make_all(size_t count, size_t capacity)
     l.at[KEYS] = make(DEPOT_KEY_LENGTH * capacity);
     l.at[CHUTES] = make(DEPOT_CHUTE_LENGTH * capacity);
     l.at[ANSWERS] = make(DEPOT_ANSWER_LENGTH * count);
+    l.at[IMAGE] = make(depot_image_length(capacity));
     l.at[COMMANDS] = make(DEPOT_COMMAND_LENGTH * count);
     l.at[OWN] = make(0);
     return l;
@@ -102,19 +105,21 @@ static void free_all(struct lists *l)
 /* ---- calls */
 
 #define PASS(l, i) (l)->at[i].bytes, (l)->at[i].length
-#define PASS_KEPT(l) PASS(l, STATE), PASS(l, KEYS), PASS(l, CHUTES), PASS(l, ANSWERS), PASS(l, COMMANDS)
+#define PASS_RUN(l) PASS(l, STATE), PASS(l, KEYS), PASS(l, CHUTES), PASS(l, ANSWERS)
 
 static uint64_t pass(enum call c, struct lists *l, struct settings s)
 {
     switch (c) {
     case OPEN:
-        return depot_open(PASS_KEPT(l), s.size, s.workers, s.capacity);
+        return depot_open(PASS_RUN(l), PASS(l, IMAGE), PASS(l, COMMANDS), s.size, s.workers, s.capacity);
+    case OPEN_FROM:
+        return depot_open_from(PASS_RUN(l), PASS(l, IMAGE), PASS(l, COMMANDS), PASS(l, OWN), s.size, s.workers, s.capacity);
     case ADVANCE:
-        return depot_advance(PASS_KEPT(l), PASS(l, OWN));
+        return depot_advance(PASS_RUN(l), PASS(l, IMAGE), PASS(l, COMMANDS), PASS(l, OWN));
     case COUNTS:
-        return depot_pending_counts(PASS_KEPT(l), PASS(l, OWN));
+        return depot_pending_counts(PASS_RUN(l), PASS(l, COMMANDS), PASS(l, OWN));
     default:
-        return depot_worker_status(PASS_KEPT(l), PASS(l, OWN));
+        return depot_worker_status(PASS_RUN(l), PASS(l, COMMANDS), PASS(l, OWN));
     }
 }
 
@@ -178,6 +183,13 @@ static void put_workers(struct lists *l, size_t i, unsigned count)
     c[15] = (uint8_t)(count % 256);
 }
 
+/* A command that puts the store into the image, right if its chute is 0. */
+static void put_checkpoint(struct lists *l, size_t i, unsigned chute)
+{
+    put_workers(l, i, chute);
+    l->at[COMMANDS].bytes[DEPOT_COMMAND_LENGTH * i] = DEPOT_CHECKPOINT;
+}
+
 /* The chute that command i carries, 1 to 512. */
 static unsigned chute_of(size_t i)
 {
@@ -212,6 +224,7 @@ static void test_empty_lists(void)
         nothing.at[i] = make(0);
     expect(OPEN, &nothing, s, DEPOT_WRONG_LENGTH, "all lists empty");
     expect(OPEN, &nothing, none, DEPOT_WRONG_GRAPH_SIZE, "all lists empty, size 0");
+    expect(OPEN_FROM, &nothing, s, DEPOT_WRONG_LENGTH, "all lists empty");
     for (int c = ADVANCE; c < CALLS; c++)
         expect((enum call)c, &nothing, none, DEPOT_WRONG_LENGTH, "all lists empty");
     free_all(&nothing);
@@ -358,6 +371,179 @@ static void test_workers(void)
     free_all(&l);
 }
 
+/* ---- images: document 02, A.3, and docs/IMAGE-LAYOUT.md */
+
+/* Gives the bytes of a list from an offset on a number, high byte first. */
+static void put_number(struct list l, size_t offset, size_t bytes, uint64_t number)
+{
+    for (size_t i = 0; i < bytes; i++)
+        l.bytes[offset + i] = (uint8_t)(number >> 8 * (bytes - 1 - i));
+}
+
+/* Gives a record of an image its fields. */
+static void put_record(struct list image, size_t i, unsigned next, unsigned chute, uint64_t key)
+{
+    put_number(image, DEPOT_RECORD_LENGTH * i, 2, next);
+    put_number(image, DEPOT_RECORD_LENGTH * i + 2, 2, chute);
+    put_number(image, DEPOT_RECORD_LENGTH * i + 4, 8, key);
+    put_number(image, DEPOT_RECORD_LENGTH * i + 12, 4, 0);
+}
+
+/* Refusals 8 and 10 of a checkpoint, at every place, and 8 at every character before 10. */
+static void test_wrong_checkpoints(void)
+{
+    static const unsigned wrong[] = {1, 64, 256, 512, 65535};
+    const struct settings s = {1, 1, 1};
+    struct lists l = opened(3, s, 0);
+    for (size_t place = 1; place <= 3; place++) {
+        uint8_t *text = l.at[COMMANDS].bytes + DEPOT_COMMAND_LENGTH * (place - 1);
+        for (size_t i = 0; i < sizeof wrong / sizeof *wrong; i++) {
+            put_checkpoint(&l, place - 1, wrong[i]);
+            expect(OPEN, &l, s, refused(DEPOT_WRONG_CHUTE, place, 0), "a checkpoint with a chute");
+        }
+        for (unsigned character = 1; character <= DEPOT_IDENTIFIER_LENGTH; character++) {
+            put_checkpoint(&l, place - 1, character % 2);
+            text[character] = character % 3 ? 'A' : '1';
+            text[DEPOT_IDENTIFIER_LENGTH] = 'A';
+            expect(OPEN, &l, s, refused(DEPOT_MALFORMED, place, character), "a character that is not 0");
+        }
+        put_checkpoint(&l, place - 1, 0);
+        expect(OPEN, &l, s, 0, "a checkpoint");
+    }
+    free_all(&l);
+}
+
+/* The example of docs/IMAGE-LAYOUT.md, written at the writing turn and not before, over whatever the image holds; then the same
+ * table is opened from, in the other order of that page. */
+static void test_checkpoint(void)
+{
+    static const uint8_t wanted[64] = {0, 1, 0, 0,  0, 0, 0,    0,    0,    0,    0,    3,    0, 0, 0, 0, /* record 0 */
+                                       0, 2, 0, 7,  0, 0, 0,    0,    0,    0,    0,    0,    0, 0, 0, 0,
+                                       0, 0, 0, 12, 0, 0, 0x1c, 0x3f, 0xcf, 0x1c, 0x07, 0x65, 0, 0, 0, 0};
+    const uint64_t key = UINT64_C(31060383237989); /* RR473124829GB */
+    const struct settings s = {1, 1, 3};
+    const uint8_t one[] = {0, 0, 1, 1, 1, 1, 1, 1, 1};
+    struct lists l = make_all(3, 3);
+    put_command(&l, 0, DEPOT_INSERT, key, 12);
+    put_command(&l, 1, DEPOT_INSERT, 0, 7);
+    put_checkpoint(&l, 2, 0);
+    expect(OPEN, &l, s, 0, "refused a checkpoint");
+    check(depot_image_place(l.at[IMAGE].bytes) == 0 && l.at[IMAGE].bytes[1] == 0, "checkpoint", "opening's image", 0);
+    memset(l.at[IMAGE].bytes, 0xa5, l.at[IMAGE].length);
+    for (size_t i = 0; i < 2; i++)
+        advance(&l, one, sizeof one, 0, "an insert alone");
+    advance(&l, one, 5, 0, "the checkpoint's look");
+    check(l.at[IMAGE].bytes[0] == 0xa5 && l.at[IMAGE].bytes[63] == 0xa5, "checkpoint", "written at the look", 0);
+    advance(&l, one + 5, 1, 0, "the checkpoint's writing");
+    check(memcmp(l.at[IMAGE].bytes, wanted, sizeof wanted) == 0, "checkpoint", "image", 0);
+    check(depot_short_at(l.at[ANSWERS].bytes, 2) == DEPOT_DONE, "checkpoint", "answer", 0);
+    check(depot_image_place(l.at[IMAGE].bytes) == 3, "checkpoint", "place", 0);
+    resize(&l, OWN, sizeof wanted);
+    memset(l.at[OWN].bytes, 0xff, sizeof wanted);
+    put_record(l.at[OWN], 0, 3, 0, 3);
+    put_record(l.at[OWN], 3, 1, 7, 0);
+    put_record(l.at[OWN], 1, 0, 12, key);
+    expect(OPEN_FROM, &l, s, 0, "refused the example in another order");
+    check(depot_key_at(l.at[KEYS].bytes, 0) == 0 && depot_key_at(l.at[KEYS].bytes, 1) == key, "checkpoint", "keys", 0);
+    check(depot_short_at(l.at[CHUTES].bytes, 0) == 7 && depot_short_at(l.at[CHUTES].bytes, 1) == 12, "checkpoint", "chutes", 0);
+    check(depot_image_place(l.at[IMAGE].bytes) == 0 && l.at[IMAGE].bytes[1] == 0, "checkpoint", "second opening", 0);
+    free_all(&l);
+}
+
+/* A field of an image, what it is given, and what the call answers. The image has three records in the order 2, 1, 3, with keys 5,
+ * 7 and 9. */
+static const struct {
+    size_t offset, bytes;
+    uint64_t value;
+    unsigned wanted;
+} fields[] = {
+    /* record 0: index, chute, place, last bytes */
+    {0, 2, 0, 0}, {0, 2, 1, 0}, {0, 2, 3, 0}, {0, 2, 4, 15}, {0, 2, 65535, 15}, {2, 2, 1, 16}, {2, 2, 256, 16},
+    {4, 8, 0, 0}, {4, 8, 4096, 0}, {4, 8, 4097, 16}, {4, 8, UINT64_MAX, 16}, {12, 1, 1, 16}, {15, 1, 1, 16},
+    /* indexes on the chain: its end, loops, above the room */
+    {16, 2, 0, 0}, {16, 2, 1, 15}, {16, 2, 2, 15}, {16, 2, 4, 15}, {32, 2, 2, 15}, {32, 2, 0, 0}, {48, 2, 1, 15},
+    {48, 2, 256, 15},
+    /* chutes */
+    {18, 2, 0, 16}, {18, 2, 1, 0}, {18, 2, 512, 0}, {18, 2, 513, 16}, {50, 2, 0, 16},
+    /* keys: equal, ascending, descending, the largest and beyond */
+    {20, 8, 5, 15}, {20, 8, 6, 0}, {20, 8, DEPOT_LARGEST_KEY, 15}, {36, 8, 0, 0}, {36, 8, 7, 15},
+    {52, 8, DEPOT_LARGEST_KEY, 0}, {52, 8, DEPOT_LARGEST_KEY + 1, 16},
+    /* last bytes on the chain */
+    {28, 1, 1, 16}, {63, 1, 128, 16},
+};
+
+/* A right image with one field after the other at its bounds and beyond. */
+static void test_wrong_images(void)
+{
+    const struct settings s = {2, 1, 3};
+    struct lists l = opened(1, s, 0);
+    for (size_t i = 0; i < sizeof fields / sizeof *fields; i++) {
+        resize(&l, OWN, depot_image_length(3));
+        put_record(l.at[OWN], 0, 2, 0, 1);
+        put_record(l.at[OWN], 2, 1, 1, 5);
+        put_record(l.at[OWN], 1, 3, 1, 7);
+        put_record(l.at[OWN], 3, 0, 1, 9);
+        put_number(l.at[OWN], fields[i].offset, fields[i].bytes, fields[i].value);
+        expect(OPEN_FROM, &l, s, fields[i].wanted, "an image with one field changed");
+    }
+    free_all(&l);
+}
+
+/* 1 to 6 before the image, 15 over the whole chain before 16, and both before the commands. */
+static void test_order_of_tests(void)
+{
+    const struct settings s = {2, 1, 2}, wrong = {2, 0, 2};
+    struct lists l = opened(1, s, 0);
+    resize(&l, OWN, depot_image_length(2));
+    put_record(l.at[OWN], 0, 1, 1, 1); /* a chute in record 0 */
+    put_record(l.at[OWN], 1, 2, 1, 5);
+    put_record(l.at[OWN], 2, 1, 1, 9); /* a loop */
+    l.at[COMMANDS].bytes[0] = 0;
+    expect(OPEN_FROM, &l, wrong, DEPOT_WRONG_WORKERS, "2 is tested before 15");
+    expect(OPEN_FROM, &l, s, DEPOT_WRONG_CHAIN, "15 is tested before 16");
+    put_record(l.at[OWN], 2, 0, 1, 9);
+    expect(OPEN_FROM, &l, s, DEPOT_WRONG_RECORD, "16 is tested before the commands");
+    put_record(l.at[OWN], 0, 1, 0, 1);
+    expect(OPEN_FROM, &l, s, refused(DEPOT_UNKNOWN_KIND, 1, 0), "the commands are tested behind the image");
+    l.at[COMMANDS].bytes[0] = DEPOT_INSERT;
+    expect(OPEN_FROM, &l, s, 0, "refused a right image");
+    resize(&l, IMAGE, depot_image_length(2) - 1);
+    put_record(l.at[OWN], 2, 1, 1, 9);
+    expect(OPEN_FROM, &l, s, DEPOT_WRONG_LENGTH, "6 is tested before 15");
+    free_all(&l);
+}
+
+/* 4,096 records and one, 65,552 bytes: a chain that runs from the last record to the first; a checkpoint of the full store; and
+ * the same with a fault at the chain's end. */
+static void test_largest_image(void)
+{
+    enum { MOST = DEPOT_MOST_CAPACITY };
+    const struct settings s = {1, 1, MOST};
+    const uint8_t turns[] = {0, 0, 1, 1, 1, 1};
+    struct lists l = make_all(1, MOST);
+    put_checkpoint(&l, 0, 0);
+    resize(&l, OWN, 65552);
+    put_record(l.at[OWN], 0, MOST, 0, 4096);
+    for (unsigned i = 1; i <= MOST; i++)
+        put_record(l.at[OWN], i, i - 1, 1 + i % 512, DEPOT_LARGEST_KEY + 1 - i);
+    expect(OPEN_FROM, &l, s, 0, "the largest image");
+    put_record(l.at[OWN], 1, 4097, 2, DEPOT_LARGEST_KEY);
+    expect(OPEN_FROM, &l, s, DEPOT_WRONG_CHAIN, "an index above the room at the chain's end");
+    put_record(l.at[OWN], 1, 0, 2, DEPOT_LARGEST_KEY + 1);
+    expect(OPEN_FROM, &l, s, DEPOT_WRONG_RECORD, "a key above the largest at the chain's end");
+    advance(&l, turns, sizeof turns, 0, "a checkpoint of 4,096 entries");
+    check(depot_image_place(l.at[IMAGE].bytes) == 1, "largest image", "place", 0);
+    for (size_t i = 0; i < MOST; i++) {
+        const uint8_t *record = l.at[IMAGE].bytes + DEPOT_RECORD_LENGTH * (i + 1);
+        uint64_t key = DEPOT_LARGEST_KEY + 1 - (MOST - i);
+        check(depot_key_at(l.at[KEYS].bytes, i) == key, "largest image", "key", (unsigned long)i);
+        check(depot_key_at(record + 4, 0) == key, "largest image", "key in the image", (unsigned long)i);
+        check(depot_short_at(record, 0) == (i + 1 < MOST ? i + 2 : 0), "largest image", "index", (unsigned long)i);
+        check(depot_short_at(record, 1) == 1 + (MOST - i) % 512, "largest image", "chute", (unsigned long)i);
+    }
+    free_all(&l);
+}
+
 /* A dealing that loads as many commands as the graph holds, then has worker 1 remove them one by one from the chain's front. */
 static struct list filling_and_emptying(size_t nodes)
 {
@@ -435,9 +621,10 @@ static void test_places(void)
         size_t offset;
         uint8_t value;
         unsigned wanted, character;
-    } cases[] = {{0, 0, 7, 0},     {0, 6, 7, 0},      {0, 255, 7, 0},  {1, '0', 8, 1},   {2, 'a', 8, 2},
+    } cases[] = {{0, 0, 7, 0},     {0, 7, 7, 0},      {0, 255, 7, 0},  {1, '0', 8, 1},   {2, 'a', 8, 2},
                  {3, ':', 13, 3},  {10, 'A', 13, 10}, {11, 0, 13, 11}, {12, '9', 8, 12}, {13, 0, 8, 13},
-                 {11, '4', 9, 11}, {14, 2, 10, 0},    {15, 0, 10, 0},   {0, 5, 8, 1}};
+                 {11, '4', 9, 11}, {14, 2, 10, 0},    {15, 0, 10, 0},   {0, 5, 8, 1},
+                 {0, 6, 8, 1}};
     const struct settings s = {1, 1, 1};
     struct lists l = opened(DEPOT_MOST_COMMANDS, s, 0);
     for (size_t i = 0; i < sizeof cases / sizeof *cases; i++)
@@ -465,6 +652,8 @@ static void test_too_long(void)
     expect(OPEN, &l, s, DEPOT_WRONG_LENGTH, "a key and chute too many");
     expect(ADVANCE, &l, none, DEPOT_WRONG_LENGTH, "a key and chute too many");
     state[5] = 1; /* capacity 4,097 */
+    expect(ADVANCE, &l, none, DEPOT_WRONG_LENGTH, "capacity 4,097, an image of 4,096");
+    resize(&l, IMAGE, depot_image_length(4097));
     expect(ADVANCE, &l, none, DEPOT_WRONG_STATE, "capacity 4,097");
     report(&l, COUNTS, DEPOT_COUNTS_LENGTH, DEPOT_WRONG_STATE, "capacity 4,097");
     report(&l, STATUS, DEPOT_STATUS_LENGTH, DEPOT_WRONG_STATE, "capacity 4,097");
@@ -477,25 +666,32 @@ static void test_too_long(void)
     free_all(&l);
 }
 
+/* What a call answers to a list of a wrong length: openings test the commands' first, and the reports are not lent the image. */
+static uint64_t wrong_length(enum call c, int which, size_t by)
+{
+    if (which == COMMANDS && by == 1 && (c == OPEN || c == OPEN_FROM))
+        return DEPOT_WRONG_LIST_LENGTH;
+    return which == IMAGE && (c == COUNTS || c == STATUS) ? 0 : DEPOT_WRONG_LENGTH;
+}
+
 /* Each list of each call one byte, and one entry, longer and shorter than it should be. */
 static void test_lengths(void)
 {
-    static const size_t entry[LISTS] = {1, DEPOT_KEY_LENGTH, DEPOT_CHUTE_LENGTH, DEPOT_ANSWER_LENGTH, DEPOT_COMMAND_LENGTH, 1};
-    static const size_t own[CALLS] = {0, 3, DEPOT_COUNTS_LENGTH, DEPOT_STATUS_LENGTH};
+    static const size_t entry[LISTS] = {1,  DEPOT_KEY_LENGTH,     DEPOT_CHUTE_LENGTH, DEPOT_ANSWER_LENGTH, DEPOT_RECORD_LENGTH,
+                                        DEPOT_COMMAND_LENGTH, 1};
+    const size_t own[CALLS] = {0, depot_image_length(4), 3, DEPOT_COUNTS_LENGTH, DEPOT_STATUS_LENGTH};
     const struct settings s = {3, 2, 4};
     struct lists base = opened(5, s, 1);
     for (int c = 0; c < CALLS; c++)
         for (int i = 0; i < (c == OPEN || c == ADVANCE ? OWN : LISTS); i++)
             for (int way = 0; way < 4; way++) {
                 struct lists l = copy_all(&base);
-                size_t by = way < 2 ? 1 : entry[i];
+                size_t by = way < 2 ? 1 : c == OPEN_FROM && i == OWN ? DEPOT_RECORD_LENGTH : entry[i];
                 resize(&l, OWN, own[c]);
-                if (own[c] == 3)
-                    memset(l.at[OWN].bytes, 1, 3);
+                if (own[c] > 0)
+                    memset(l.at[OWN].bytes, c == OPEN_FROM ? 0 : 1, own[c]);
                 resize(&l, i, way % 2 ? l.at[i].length + by : l.at[i].length - by);
-                expect((enum call)c, &l, s,
-                       c == OPEN && i == COMMANDS && by == 1 ? DEPOT_WRONG_LIST_LENGTH : DEPOT_WRONG_LENGTH,
-                       "a list of a wrong length");
+                expect((enum call)c, &l, s, wrong_length((enum call)c, i, by), "a list of a wrong length");
                 free_all(&l);
             }
     free_all(&base);
@@ -626,6 +822,11 @@ int main(void)
     test_passing();
     test_wrong_changes();
     test_workers();
+    test_wrong_checkpoints();
+    test_checkpoint();
+    test_wrong_images();
+    test_order_of_tests();
+    test_largest_image();
     test_largest();
     test_all_parties();
     test_settings();

@@ -8,18 +8,23 @@
 #include <stdlib.h>
 #include <string.h>
 
-enum { STACK = 1 << 20, PAINT = 0x5a, CALLS = 6 };
+enum { STACK = 1 << 20, PAINT = 0x5a, CALLS = 8, IMAGE_LENGTH = DEPOT_RECORD_LENGTH * (DEPOT_MOST_CAPACITY + 1) };
 
 static uint8_t state[DEPOT_STATE_LENGTH], keys[DEPOT_KEY_LENGTH * DEPOT_MOST_CAPACITY];
 static uint8_t chutes[DEPOT_CHUTE_LENGTH * DEPOT_MOST_CAPACITY], answers[DEPOT_ANSWER_LENGTH * DEPOT_MOST_COMMANDS];
 static uint8_t commands[DEPOT_COMMAND_LENGTH * DEPOT_MOST_COMMANDS];
+static uint8_t image[IMAGE_LENGTH], source[IMAGE_LENGTH];
 static uint8_t schedule[100000], counts[DEPOT_COUNTS_LENGTH], status[DEPOT_STATUS_LENGTH];
 static uint8_t text[DEPOT_IDENTIFIER_LENGTH], key[DEPOT_KEY_LENGTH];
 
-static const char *const names[CALLS] = {"depot_write_identifier", "depot_read_identifier", "depot_open",
-                                         "depot_advance",          "depot_pending_counts",  "depot_worker_status"};
+static const char *const names[CALLS] = {
+    "depot_write_identifier", "depot_read_identifier", "depot_open",      "depot_advance",
+    "depot_pending_counts",   "depot_worker_status",   "depot_open_from", "depot_advance, with a checkpoint"};
 
-#define KEPT state, sizeof state, keys, sizeof keys, chutes, sizeof chutes, answers, sizeof answers, commands, sizeof commands
+#define RUN state, sizeof state, keys, sizeof keys, chutes, sizeof chutes, answers, sizeof answers
+#define IMAGE image, sizeof image
+#define COMMANDS commands, sizeof commands
+#define SETTINGS DEPOT_MOST_NODES, DEPOT_MOST_WORKERS, DEPOT_MOST_CAPACITY
 
 static uint64_t call(int which)
 {
@@ -29,13 +34,15 @@ static uint64_t call(int which)
     case 1:
         return depot_read_identifier(text, sizeof text, key, sizeof key);
     case 2:
-        return depot_open(KEPT, DEPOT_MOST_NODES, DEPOT_MOST_WORKERS, DEPOT_MOST_CAPACITY);
-    case 3:
-        return depot_advance(KEPT, schedule, sizeof schedule);
+        return depot_open(RUN, IMAGE, COMMANDS, SETTINGS);
     case 4:
-        return depot_pending_counts(KEPT, counts, sizeof counts);
+        return depot_pending_counts(RUN, COMMANDS, counts, sizeof counts);
+    case 5:
+        return depot_worker_status(RUN, COMMANDS, status, sizeof status);
+    case 6:
+        return depot_open_from(RUN, IMAGE, COMMANDS, source, sizeof source, SETTINGS);
     default:
-        return depot_worker_status(KEPT, status, sizeof status);
+        return depot_advance(RUN, IMAGE, COMMANDS, schedule, sizeof schedule);
     }
 }
 
@@ -68,8 +75,23 @@ static size_t written(int which)
     return STACK - clean;
 }
 
+/* An image of a full store: keys 0, 1 and on. */
+static void put_source(void)
+{
+    for (size_t i = 0; i <= DEPOT_MOST_CAPACITY; i++) {
+        uint8_t *record = source + DEPOT_RECORD_LENGTH * i;
+        size_t next = i < DEPOT_MOST_CAPACITY ? i + 1 : 0;
+        record[0] = (uint8_t)(next / 256);
+        record[1] = (uint8_t)(next % 256);
+        record[2] = i > 0 ? 2 : 0;
+        record[10] = (uint8_t)(i / 256);
+        record[11] = (uint8_t)(i % 256);
+    }
+}
+
 int main(void)
 {
+    const uint8_t checkpoint[] = {DEPOT_CHECKPOINT, '0', '0', '0', '0', '0', '0', '0', '0', '0', '0', '0', '0', '0', 0, 0};
     int bad = 0;
     for (size_t i = 0; i < DEPOT_MOST_COMMANDS; i++) {
         const uint8_t insert[] = {DEPOT_INSERT, 'A', 'A', '0', '0', '0', '0', '0', '0', '0', '0', '5', 'A', 'A', 2, 0};
@@ -77,10 +99,15 @@ int main(void)
     }
     for (size_t i = 0; i < sizeof schedule; i++)
         schedule[i] = (uint8_t)(i % 65);
+    put_source();
     for (int i = 0; i < CALLS; i++) {
-        size_t used = written(i);
+        size_t used;
+        if (i == 6)
+            memcpy(commands, checkpoint, sizeof checkpoint);
+        used = written(i);
         printf("stack: %s at most %lu bytes\n", names[i], (unsigned long)used);
         bad |= used > DEPOT_STACK_USE;
     }
+    bad |= depot_image_place(image) != 1;
     return bad ? EXIT_FAILURE : EXIT_SUCCESS;
 }

@@ -3,6 +3,7 @@
 
 use std::collections::BTreeSet;
 
+use second::calls::Asked;
 use second::command::{self, Kind};
 use second::identifier;
 use second::random::Random;
@@ -52,19 +53,35 @@ impl Input {
     /// The turns end with the list, or are `most` where it takes more.
     pub fn new(settings: Settings, kinds: Kinds, count: usize, order: Order, most: usize) -> Input {
         let random = &mut Random::new(2026);
-        let mut input = Input {
+        let commands = match kinds {
+            Kinds::Mailing => mailing(random, count),
+            Kinds::InsertsAndReads | Kinds::Reads => list(random, kinds, count),
+        };
+        let mut input = Input::given(settings, commands, Vec::new());
+        input.deal(random, order, most);
+        input
+    }
+
+    /// A list and turns that are given.
+    pub fn given(settings: Settings, commands: Vec<u8>, schedule: Vec<u8>) -> Input {
+        Input {
             settings,
-            commands: match kinds {
-                Kinds::Mailing => mailing(random, count),
-                Kinds::InsertsAndReads | Kinds::Reads => list(random, kinds, count),
-            },
-            schedule: Vec::new(),
+            commands,
+            schedule,
             waits: 0,
             done: false,
             waiting: Waiting::default(),
-        };
-        input.deal(random, order, most);
-        input
+        }
+    }
+
+    /// The settings as an opening asks for them.
+    pub fn asked(&self) -> Asked {
+        let Settings {
+            size,
+            workers,
+            room,
+        } = self.settings;
+        [size.into(), workers.into(), room.into()]
     }
 
     /// The run that opening gives.

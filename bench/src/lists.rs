@@ -3,8 +3,9 @@
 use std::hint::black_box;
 
 use second::bytes;
-use second::calls::LentLists;
+use second::calls::{Given, LentLists};
 use second::depot::Depot;
+use second::image;
 
 use crate::input::Input;
 
@@ -14,6 +15,7 @@ pub struct Lists {
     pub keys: Vec<u8>,
     pub chutes: Vec<u8>,
     pub answers: Vec<u8>,
+    pub image: Vec<u8>,
 }
 
 impl Lists {
@@ -25,25 +27,36 @@ impl Lists {
             keys: vec![0; room * bytes::KEY],
             chutes: vec![0; room * bytes::NUMBER],
             answers: vec![0; input.count() * bytes::NUMBER],
+            image: image::zeros(input.settings.room),
         };
         accepted("open", lists.open(depot, input))?;
         Ok(lists)
     }
 
     pub fn open(&mut self, depot: &impl Depot, input: &Input) -> u64 {
-        let settings = input.settings;
-        depot.open(
-            &mut self.lend(),
-            black_box(&input.commands),
-            [
-                settings.size.into(),
-                settings.workers.into(),
-                settings.room.into(),
-            ],
-        )
+        self.open_with(depot, input, None)
     }
 
-    pub fn advance(&mut self, depot: &impl Depot, input: &Input, schedule: &[u8]) -> u64 {
+    /// Opens with the store of an image.
+    pub fn open_from(&mut self, depot: &impl Depot, input: &Input, source: &[u8]) -> u64 {
+        self.open_with(depot, input, Some(source))
+    }
+
+    fn open_with(&mut self, depot: &impl Depot, input: &Input, source: Option<&[u8]>) -> u64 {
+        let given = Given {
+            commands: black_box(&input.commands),
+            source: black_box(source),
+            settings: input.asked(),
+        };
+        depot.open(&mut self.lend(), given)
+    }
+
+    pub fn advance(
+        &mut self,
+        depot: &(impl Depot + ?Sized),
+        input: &Input,
+        schedule: &[u8],
+    ) -> u64 {
         depot.advance(
             &mut self.lend(),
             black_box(&input.commands),
@@ -54,7 +67,8 @@ impl Lists {
     /// Sets every byte.
     pub fn fill(&mut self, byte: u8) {
         let lent = self.lend();
-        for list in [lent.state, lent.keys, lent.chutes, lent.answers] {
+        let lists = [lent.state, lent.keys, lent.chutes, lent.answers, lent.image];
+        for list in lists {
             list.fill(byte);
         }
     }
@@ -65,6 +79,7 @@ impl Lists {
             keys: &mut self.keys,
             chutes: &mut self.chutes,
             answers: &mut self.answers,
+            image: &mut self.image,
         }
     }
 }
@@ -84,6 +99,7 @@ pub fn same(proved: &Lists, plain: &Lists) -> Result<(), String> {
         ("keys", &proved.keys, &plain.keys),
         ("chutes", &proved.chutes, &plain.chutes),
         ("answers", &proved.answers, &plain.answers),
+        ("image", &proved.image, &plain.image),
     ];
     for (name, proved, plain) in pairs {
         if proved != plain {
@@ -104,6 +120,7 @@ mod tests {
             keys: vec![2; 8],
             chutes: vec![3; 2],
             answers: vec![4; 2],
+            image: vec![5; 3],
         }
     }
 
@@ -114,11 +131,12 @@ mod tests {
 
     #[test]
     fn a_difference_in_each_list_is_found() {
-        let changes: [fn(&mut Lists); 4] = [
+        let changes: [fn(&mut Lists); 5] = [
             |it| it.state[3] = 0,
             |it| it.keys[7] = 0,
             |it| it.chutes[1] = 0,
             |it| it.answers[1] = 0,
+            |it| it.image[2] = 0,
         ];
         for change in changes {
             let mut other = lists();

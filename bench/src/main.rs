@@ -2,7 +2,7 @@
 //! one process, and their lists are compared at the end; a difference ends with status 1.
 //!
 //! `bench [runs [part [turns]]]`: 11 runs, all parts and whole lists unless said. The parts are
-//! `steps`, `calls`, `growth`, `reads` and `mailing`; `turns` is the most that is dealt of a list.
+//! `steps`, `calls`, `growth`, `reads`, `mailing` and `checkpoint`; `turns` is the most that is dealt of a list.
 
 use std::env;
 use std::path::PathBuf;
@@ -14,6 +14,7 @@ use measure::Bench;
 // The proved calls through C, as the comparisons of the second program make them.
 #[path = "../../tests/second/src/bin/compare_depot/archive.rs"]
 mod archive;
+mod checkpoint;
 mod clock;
 mod input;
 mod lists;

@@ -30,6 +30,15 @@ impl Times {
     pub fn ratio(self) -> f64 {
         self.proved.as_secs_f64() / self.plain.as_secs_f64()
     }
+
+    /// By how much each side takes longer than in others, for each of so many.
+    pub fn less(self, other: Times, count: usize) -> Times {
+        let part = |one: Duration, two: Duration| one.saturating_sub(two) / count as u32;
+        Times {
+            proved: part(self.proved, other.proved),
+            plain: part(self.plain, other.plain),
+        }
+    }
 }
 
 /// Times of a whole schedule.
@@ -116,7 +125,7 @@ impl Bench {
     }
 
     /// A call that is short, on copies of the same lists.
-    fn call(
+    pub fn call(
         &self,
         input: &Input,
         lists: &Lists,
@@ -150,7 +159,7 @@ fn batch(mut call: impl FnMut() -> u64) -> Result<Duration, String> {
     Ok(time / BATCH)
 }
 
-fn median(mut times: Vec<Duration>) -> Duration {
+pub fn median(mut times: Vec<Duration>) -> Duration {
     times.sort();
     times[times.len() / 2]
 }

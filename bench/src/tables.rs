@@ -2,8 +2,10 @@
 
 use std::time::Duration;
 
+use second::command::Kind;
 use second::run::Settings;
 
+use crate::checkpoint::{MANY, list, source};
 use crate::input::{Input, Kinds, Order};
 use crate::measure::{Bench, CALL_STEPS, StepTimes, Times};
 
@@ -23,18 +25,19 @@ const fn settings(size: u8, workers: u8, room: u16) -> Settings {
 /// Measures and prints one part, or all.
 pub fn print(bench: &Bench, part: Option<&str>) -> Result<(), String> {
     type Part = fn(&Bench) -> Result<(), String>;
-    let parts: [(&str, Part); 5] = [
+    let parts: [(&str, Part); 6] = [
         ("steps", steps),
         ("calls", calls),
         ("growth", growth),
         ("reads", reads),
         ("mailing", mailing),
+        ("checkpoint", checkpoint),
     ];
     if let Some(part) = part
         && parts.iter().all(|(name, _)| *name != part)
     {
         return Err(format!(
-            "no part `{part}`; the parts are steps, calls, growth, reads and mailing"
+            "no part `{part}`; the parts are steps, calls, growth, reads, mailing and checkpoint"
         ));
     }
     println!("Medians of {} runs, processor time.", bench.runs);
@@ -44,7 +47,7 @@ pub fn print(bench: &Bench, part: Option<&str>) -> Result<(), String> {
             print(bench)?;
         }
     }
-    println!("\nBoth sides left the same state, keys, chutes and answers after every run.");
+    println!("\nBoth sides left the same state, keys, chutes, answers and image after every run.");
     Ok(())
 }
 
@@ -145,6 +148,41 @@ fn calls(bench: &Bench) -> Result<(), String> {
     ] {
         println!("| {name} | {} |", cells(times));
     }
+    Ok(())
+}
+
+/// A checkpoint of a full store, and openings from its image. What a checkpoint costs is what a call
+/// takes longer than one with worker changes, which have as many turns, in the same places.
+fn checkpoint(bench: &Bench) -> Result<(), String> {
+    println!(
+        "Checkpoint: size 150, 64 workers, room 4096, 4096 entries in the store; {MANY} commands, \
+         one after the other.\n"
+    );
+    println!("| | Proved | Plain | Ratio |");
+    println!("|---|---|---|---|");
+    let [checkpoints, changes] = [Kind::Checkpoint, Kind::Workers].map(list);
+    let [with, without] = [bench.served(&checkpoints)?, bench.served(&changes)?];
+    println!("| call that writes {MANY} checkpoints | {} |", cells(with));
+    println!("| {MANY} worker changes for them | {} |", cells(without));
+    println!(
+        "| a checkpoint, by the difference | {} |",
+        cells(with.less(without, MANY))
+    );
+    for (name, input) in [
+        ("a checkpoint", &checkpoints),
+        ("a worker change", &changes),
+    ] {
+        let times = bench.writing(input)?;
+        println!("| call of one turn that writes {name} | {} |", cells(times));
+    }
+    for (name, in_order) in [("in order", true), ("in any order", false)] {
+        let times = bench.open_from(&checkpoints, &source(in_order))?;
+        println!("| open_from, 4096 entries {name} | {} |", cells(times));
+    }
+    println!(
+        "| open, the same list | {} |",
+        cells(bench.open(&checkpoints)?)
+    );
     Ok(())
 }
 

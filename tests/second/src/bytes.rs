@@ -2,6 +2,7 @@
 //! lists that go with it.
 
 use crate::command::{self, Command, Kind};
+use crate::image;
 use crate::refusal::Refusal;
 use crate::run::{PARTIES, Party, RECORDS, Records, Run, Set, Settings};
 use crate::store::Store;
@@ -42,7 +43,7 @@ pub const MOST_WORKERS: u64 = 64;
 pub const MOST_ROOM: u64 = 4096;
 pub const MOST_COMMANDS: usize = 4096;
 
-/// What is handed back of a run.
+/// What is handed back of a run to every call; dealing is lent the image besides.
 #[derive(Clone, Copy)]
 pub struct Lists<'a> {
     pub state: &'a [u8],
@@ -74,6 +75,16 @@ pub fn read(lists: Lists) -> Result<Run, Refusal> {
         return Err(Refusal::Length);
     }
     read_whole(lists).ok_or(Refusal::OutOfRange)
+}
+
+/// The same where the image is lent, whose length is tested with the others. What it holds is not
+/// read.
+pub fn read_with_image(lists: Lists, image: &[u8]) -> Result<Run, Refusal> {
+    let fits = lengths_fit(lists) && image.len() == image::length(number(lists.state, ROOM));
+    if !fits {
+        return Err(Refusal::Length);
+    }
+    read(lists)
 }
 
 /// Lays a run's state out; the list has its length.
@@ -165,6 +176,7 @@ fn read_whole(lists: Lists) -> Option<Run> {
         parties: read_parties(&state[PARTY..], settings.size)?,
         store: read_store(lists, number(state, USED), settings.room)?,
         answers: numbers(lists.answers).collect(),
+        image: None,
         commands: lists
             .commands
             .as_chunks()

@@ -5,8 +5,10 @@
 use crate::bytes::{self, Lists, MOST_COMMANDS};
 use crate::command;
 use crate::identifier;
+use crate::image;
 use crate::refusal::{Fault, Refusal};
 use crate::run::{Run, Settings};
+use crate::store::Store;
 
 /// Entries of the pending counts, a byte each.
 pub const COUNTS: usize = 150;
@@ -17,12 +19,21 @@ const STATUS_BYTES: usize = 2;
 /// Settings as they are asked for, right or not: graph size, workers and room.
 pub type Asked = [u64; 3];
 
+/// What an opening is given. The source is an image, whose store it begins with.
+#[derive(Clone, Copy)]
+pub struct Given<'a> {
+    pub commands: &'a [u8],
+    pub source: Option<&'a [u8]>,
+    pub settings: Asked,
+}
+
 /// What a call writes of a run.
 pub struct LentLists<'a> {
     pub state: &'a mut [u8],
     pub keys: &'a mut [u8],
     pub chutes: &'a mut [u8],
     pub answers: &'a mut [u8],
+    pub image: &'a mut [u8],
 }
 
 impl LentLists<'_> {
@@ -42,15 +53,19 @@ impl LentLists<'_> {
         bytes::write_words(&run.store.keys, self.keys);
         bytes::write_numbers(&run.store.chutes, self.chutes);
         bytes::write_numbers(&run.answers, self.answers);
+        if let Some(image) = &run.image {
+            self.image.copy_from_slice(image);
+        }
     }
 }
 
-pub fn open(lent: &mut LentLists, commands: &[u8], settings: Asked) -> u64 {
-    answer(opened(lent, commands, settings).map(|run| lent.write(&run)))
+pub fn open(lent: &mut LentLists, given: Given) -> u64 {
+    answer(opened(lent, given).map(|run| lent.write(&run)))
 }
 
 pub fn advance(lent: &mut LentLists, commands: &[u8], schedule: &[u8]) -> u64 {
-    answer(bytes::read(lent.handed(commands)).and_then(|mut run| {
+    let handed = bytes::read_with_image(lent.handed(commands), lent.image);
+    answer(handed.and_then(|mut run| {
         check_schedule(schedule, run.largest)?;
         run.advance(schedule);
         lent.write(&run);
@@ -92,11 +107,17 @@ pub fn write_identifier(key: u64, text: &mut [u8]) -> u64 {
     answer(identifier::write(key, text))
 }
 
-/// The run that an opening gives, or its first refusal.
-fn opened(lent: &LentLists, commands: &[u8], settings: Asked) -> Result<Run, Fault> {
-    let settings = open_settings(commands, settings)?;
-    lengths_fit(lent, commands, settings)?;
-    Ok(Run::open(settings, command::read_list(commands)?))
+/// The run that an opening gives, from an image where one is given, or its first refusal: 1 to 6,
+/// then 15 and 16, then the commands'.
+fn opened(lent: &LentLists, given: Given) -> Result<Run, Fault> {
+    let settings = open_settings(given.commands, given.settings)?;
+    lengths_fit(lent, given, settings.room)?;
+    let store = match given.source {
+        None => Store::new(settings.room),
+        Some(source) => image::read(source)?,
+    };
+    let commands = command::read_list(given.commands)?;
+    Ok(Run::open_with(settings, commands, store))
 }
 
 /// Refusals 1 to 5, in order.
@@ -120,12 +141,15 @@ pub fn check_schedule(schedule: &[u8], largest: u8) -> Result<(), Refusal> {
 }
 
 /// Refusal 6 of an opening.
-fn lengths_fit(lent: &LentLists, commands: &[u8], settings: Settings) -> Result<(), Refusal> {
-    let room = usize::from(settings.room);
+fn lengths_fit(lent: &LentLists, given: Given, room: u16) -> Result<(), Refusal> {
+    let image = image::length(room);
+    let room = usize::from(room);
     let fits = lent.state.len() == bytes::STATE
         && lent.keys.len() == room * bytes::KEY
         && lent.chutes.len() == room * bytes::NUMBER
-        && lent.answers.len() == commands.len() / command::LENGTH * bytes::NUMBER;
+        && lent.answers.len() == given.commands.len() / command::LENGTH * bytes::NUMBER
+        && lent.image.len() == image
+        && given.source.is_none_or(|source| source.len() == image);
     fits.then_some(()).ok_or(Refusal::Length)
 }
 
@@ -154,6 +178,7 @@ mod tests {
         keys: Vec<u8>,
         chutes: Vec<u8>,
         answers: Vec<u8>,
+        image: Vec<u8>,
         commands: Vec<u8>,
     }
 
@@ -164,6 +189,7 @@ mod tests {
                 keys: vec![9; 32],
                 chutes: vec![9; 8],
                 answers: vec![9; 4],
+                image: vec![9; 80],
                 commands: [&[1], &FIRST[..], &[0, 7], &[3], FIRST, &[0, 0]].concat(),
             }
         }
@@ -180,13 +206,27 @@ mod tests {
                 keys: &mut self.keys,
                 chutes: &mut self.chutes,
                 answers: &mut self.answers,
+                image: &mut self.image,
             };
             (lent, &self.commands)
         }
 
         fn open(&mut self, size: u64, workers: u64, room: u64) -> u64 {
+            self.open_with(None, [size, workers, room])
+        }
+
+        fn open_from(&mut self, source: &[u8], settings: Asked) -> u64 {
+            self.open_with(Some(source), settings)
+        }
+
+        fn open_with(&mut self, source: Option<&[u8]>, settings: Asked) -> u64 {
             let (mut lent, commands) = self.lend();
-            open(&mut lent, commands, [size, workers, room])
+            let given = Given {
+                commands,
+                source,
+                settings,
+            };
+            open(&mut lent, given)
         }
 
         fn advance(&mut self, schedule: &[u8]) -> u64 {
@@ -211,6 +251,7 @@ mod tests {
         assert!(caller.state[17..].iter().all(|byte| *byte == 0));
         assert_eq!((caller.keys, caller.chutes), (vec![0; 32], vec![0; 8]));
         assert_eq!(caller.answers, [0; 4]);
+        assert_eq!(caller.image, [0; 80]);
     }
 
     /// Document 01, marked case (l), in bytes: the worker has written the insert, the read waits.
@@ -285,8 +326,11 @@ mod tests {
     #[test]
     fn opening_tests_in_order_and_writes_nothing() {
         let mut caller = Caller::new();
-        caller.commands[16] = 6;
+        caller.commands[16] = 7;
         assert_eq!(caller.open(2, 1, 4), 7 + 256 * 2);
+        caller.image.pop();
+        assert_eq!(caller.open(2, 1, 4), 6);
+        caller.image.push(9);
         caller.answers.push(9);
         assert_eq!(caller.open(2, 1, 4), 6);
         caller.commands = vec![0; 65_552];
@@ -296,7 +340,8 @@ mod tests {
         assert_eq!(caller.open(2, 1, 4097), 3);
         assert_eq!(caller.open(2, 65, 4097), 2);
         assert_eq!(caller.open(151, 65, 4097), 1);
-        let lists = [caller.state, caller.keys, caller.chutes, caller.answers];
+        let [state, keys] = [caller.state, caller.keys];
+        let lists = [state, keys, caller.chutes, caller.answers, caller.image];
         assert!(lists.concat().iter().all(|byte| *byte == 9));
     }
 
@@ -309,6 +354,14 @@ mod tests {
         assert_eq!(caller.advance(&[0, 1, 2]), 12);
         caller.answers.push(0);
         assert_eq!(caller.advance(&[0, 1, 2]), 6);
+        caller.answers.pop();
+        for length in [0, 64, 79, 81, 96] {
+            caller.image.resize(length, 0);
+            assert_eq!(caller.advance(&[0, 1, 2]), 6, "an image of {length}");
+            let mut counts = [9; COUNTS];
+            let report = caller.report(pending_counts, &mut counts);
+            assert_eq!(report, 12, "it is not lent to a report");
+        }
         assert_eq!(
             caller.state[..17],
             [1, 2, 1, 1, 0, 4, 0, 2, 0, 0, 0, 0, 1, 1, 0, 3, 0]
@@ -365,6 +418,8 @@ mod tests {
         assert_eq!(caller.advance(&[]), 6);
         caller.keys.resize(4097 * 8, 0);
         caller.chutes.resize(4097 * 2, 0);
+        assert_eq!(caller.advance(&[]), 6);
+        caller.image.resize(4098 * 16, 0);
         assert_eq!(caller.advance(&[]), 12);
     }
 
@@ -428,7 +483,7 @@ mod tests {
                 assert_eq!(caller.open(4, 1, 4), 14 + 256 * place);
                 caller.commands[part + 14] = 1;
                 assert_eq!(caller.open(4, 1, 4), 14 + 256 * place);
-                caller.commands[part] = 6;
+                caller.commands[part] = 7;
                 assert_eq!(caller.open(4, 1, 4), 7 + 256 * place);
                 assert_eq!(caller.state, vec![9; STATE]);
             }
@@ -517,6 +572,86 @@ mod tests {
         assert_eq!(caller.advance(&[1, 2]), 0);
         assert_eq!(caller.state[13], 3);
         assert_eq!(caller.advance(&[]), 12);
+    }
+
+    /// The example with a checkpoint behind the insert, at its writing turn: document 02, A.3, in
+    /// bytes. The dealings before it leave the image as it is, whatever it holds.
+    #[test]
+    fn a_checkpoint_writes_the_image_at_its_writing_turn() {
+        let mut caller = Caller::new();
+        let checkpoint = command::encode(6, &identifier::NONE, 0);
+        caller.commands[16..].copy_from_slice(&checkpoint);
+        assert_eq!(caller.open(2, 1, 4), 0);
+        assert_eq!(caller.image, [0; 80]);
+        caller.image = vec![9; 80];
+        let turns = [[0; 5].as_slice(), &[1; 11]].concat();
+        assert_eq!(caller.advance(&turns), 0);
+        assert_eq!(caller.state[4398..4403], [4, 0, 2, 0, 0], "found nothing");
+        assert_eq!((&caller.image[..], caller.answers[3]), (&[9; 80][..], 0));
+        assert_eq!(caller.advance(&[1]), 0);
+        let records = [
+            [0, 1, 0, 0, 0, 0, 0, 0, 0, 0, 0, 2],
+            [0, 0, 0, 7, 0, 0, 0, 0, 0, 0, 0, 0],
+        ];
+        let mut expected = vec![0; 80];
+        expected[..12].copy_from_slice(&records[0]);
+        expected[16..28].copy_from_slice(&records[1]);
+        assert_eq!(caller.image, expected);
+        assert_eq!(caller.answers, [3, 232, 3, 232]);
+        assert_eq!(caller.advance(&[1, 1, 1]), 0);
+        assert_eq!(caller.image, expected);
+    }
+
+    /// An image of room 4 with the item of the example, record 3 being first.
+    fn source() -> Vec<u8> {
+        let mut source = vec![9; 80];
+        source[..16].copy_from_slice(&[0, 3, 0, 0, 0, 0, 0, 0, 0, 0, 16, 0, 0, 0, 0, 0]);
+        source[48..64].copy_from_slice(&[0, 0, 0, 7, 0, 0, 0, 0, 0, 0, 0, 0, 0, 0, 0, 0]);
+        source
+    }
+
+    /// A.3: opening from an image gives its store and leaves the lent image zeros; the commands'
+    /// places begin at 1, and the read finds the item.
+    #[test]
+    fn a_run_is_opened_from_an_image() {
+        let mut caller = Caller::new();
+        caller.commands.drain(..16);
+        caller.answers.truncate(2);
+        assert_eq!(caller.open_from(&source(), [2, 1, 4]), 0);
+        assert_eq!(caller.state[4..14], [0, 4, 0, 1, 0, 0, 0, 1, 1, 1]);
+        assert_eq!(caller.chutes, [0, 7, 0, 0, 0, 0, 0, 0]);
+        assert_eq!(
+            (caller.keys.clone(), caller.image.clone()),
+            (vec![0; 32], vec![0; 80])
+        );
+        assert_eq!(caller.advance(&[0, 0, 1, 1, 1]), 0);
+        assert_eq!(caller.answers, [0, 7]);
+    }
+
+    /// A.3: 1 to 6 are tested before 15, the whole chain before 16, and the commands behind it, all
+    /// with place 0 but these; nothing is written.
+    #[test]
+    fn opening_from_an_image_tests_in_order_and_writes_nothing() {
+        let mut caller = Caller::new();
+        caller.commands[16] = 7;
+        let mut image = source();
+        assert_eq!(caller.open_from(&image, [2, 1, 4]), 7 + 256 * 2);
+        image[2] = 1;
+        assert_eq!(caller.open_from(&image, [2, 1, 4]), 16);
+        image[49] = 5;
+        assert_eq!(caller.open_from(&image, [2, 1, 4]), 15);
+        for length in [0, 16, 64, 79, 81, 96] {
+            image.resize(length, 0);
+            assert_eq!(caller.open_from(&image, [2, 1, 4]), 6);
+        }
+        caller.commands.push(0);
+        assert_eq!(caller.open_from(&image, [2, 1, 4]), 4);
+        assert_eq!(caller.open_from(&image, [2, 1, 4097]), 3);
+        assert_eq!(caller.open_from(&image, [2, 0, 4097]), 2);
+        assert_eq!(caller.open_from(&image, [0, 0, 4097]), 1);
+        let [state, keys] = [caller.state, caller.keys];
+        let lists = [state, keys, caller.chutes, caller.answers, caller.image];
+        assert!(lists.concat().iter().all(|byte| *byte == 9));
     }
 
     #[test]

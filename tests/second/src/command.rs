@@ -19,15 +19,18 @@ pub enum Kind {
     Update = 4,
     /// Sets the worker count.
     Workers = 5,
+    /// Puts the store into the image.
+    Checkpoint = 6,
 }
 
 impl Kind {
-    pub const ALL: [Kind; 5] = [
+    pub const ALL: [Kind; 6] = [
         Kind::Insert,
         Kind::Delete,
         Kind::Read,
         Kind::Update,
         Kind::Workers,
+        Kind::Checkpoint,
     ];
     /// Those that name an item.
     pub const OF_ITEMS: [Kind; 4] = [Kind::Insert, Kind::Delete, Kind::Read, Kind::Update];
@@ -40,6 +43,11 @@ impl Kind {
         self as u8
     }
 
+    /// Whether commands of this kind name an item; the others have thirteen characters 0.
+    pub fn names_item(self) -> bool {
+        Kind::OF_ITEMS.contains(&self)
+    }
+
     /// Whether commands of this kind carry a chute.
     pub fn carries_chute(self) -> bool {
         matches!(self, Kind::Insert | Kind::Update)
@@ -50,7 +58,7 @@ impl Kind {
     fn check_last(self, number: u16) -> Result<(), Refusal> {
         let (right, refusal) = match self {
             Kind::Insert | Kind::Update => ((1..=LARGEST_CHUTE).contains(&number), Refusal::Chute),
-            Kind::Delete | Kind::Read => (number == 0, Refusal::Chute),
+            Kind::Delete | Kind::Read | Kind::Checkpoint => (number == 0, Refusal::Chute),
             Kind::Workers => ((1..=LARGEST_COUNT).contains(&number), Refusal::Count),
         };
         right.then_some(()).ok_or(refusal)
@@ -67,6 +75,13 @@ pub struct Command {
 }
 
 impl Command {
+    /// A command that puts the store into the image.
+    pub const CHECKPOINT: Command = Command {
+        kind: Kind::Checkpoint,
+        key: 0,
+        chute: 0,
+    };
+
     /// A command that sets the worker count.
     pub fn workers(count: u8) -> Command {
         Command {
@@ -80,7 +95,7 @@ impl Command {
     pub fn count(&self) -> Option<u8> {
         match self.kind {
             Kind::Workers => Some(self.chute as u8),
-            Kind::Insert | Kind::Delete | Kind::Read | Kind::Update => None,
+            Kind::Insert | Kind::Delete | Kind::Read | Kind::Update | Kind::Checkpoint => None,
         }
     }
 }
@@ -91,7 +106,7 @@ pub fn read(part: &[u8; LENGTH]) -> Result<Command, Fault> {
     let [kind, text @ .., high, low] = part;
     let kind = Kind::from_number(*kind).ok_or(Refusal::Kind)?;
     let key = match kind {
-        Kind::Workers => identifier::read_none(text).map(|()| 0)?,
+        Kind::Workers | Kind::Checkpoint => identifier::read_none(text).map(|()| 0)?,
         Kind::Insert | Kind::Delete | Kind::Read | Kind::Update => identifier::read(text)?,
     };
     let chute = u16::from_be_bytes([*high, *low]);
@@ -122,15 +137,15 @@ pub fn encode(kind: u8, text: &[u8], chute: u16) -> Vec<u8> {
 
 /// Whether two commands must keep their order.
 ///
-/// Of kind 5, document 02's A.2: "it is dependent on every command". Of inserts and deletes, A.5:
-/// "From now on inserts and deletes depend on one another, on kinds 5 and 6, and on any command for
-/// their own key; reads and updates of other keys are independent of them." There is no kind 6 yet.
-/// Of the rest, document 01: "two updates of one key; an update and a read of one key. All other
+/// Of kinds 5 and 6, document 02's A.2 and A.3: each "is dependent on every command". Of inserts and
+/// deletes, A.5: "From now on inserts and deletes depend on one another, on kinds 5 and 6, and on any
+/// command for their own key; reads and updates of other keys are independent of them." Of the rest,
+/// document 01: "two updates of one key; an update and a read of one key. All other
 /// pairs are independent."
 pub fn dependent(first: &Command, second: &Command) -> bool {
     let same_key = first.key == second.key;
     match (first.kind, second.kind) {
-        (Kind::Workers, _) | (_, Kind::Workers) => true,
+        (Kind::Workers | Kind::Checkpoint, _) | (_, Kind::Workers | Kind::Checkpoint) => true,
         (Kind::Insert | Kind::Delete, Kind::Insert | Kind::Delete) => true,
         (Kind::Insert | Kind::Delete, Kind::Read | Kind::Update)
         | (Kind::Read | Kind::Update, Kind::Insert | Kind::Delete)
@@ -158,6 +173,7 @@ mod tests {
     fn command(kind: Kind, key: u64) -> Command {
         match kind {
             Kind::Workers => Command::workers(7),
+            Kind::Checkpoint => Command::CHECKPOINT,
             Kind::Insert | Kind::Update => Command {
                 kind,
                 key,
@@ -219,21 +235,23 @@ mod tests {
     fn each_kind_takes_its_own_chutes() {
         for kind in Kind::ALL {
             let text = match kind {
-                Kind::Workers => &identifier::NONE,
+                Kind::Workers | Kind::Checkpoint => &identifier::NONE,
                 Kind::Insert | Kind::Delete | Kind::Read | Kind::Update => FIRST,
             };
             let accepted = [0, 1, 64, 65, 512, 513, 65_535]
                 .map(|chute| read_list(&encode(kind.number(), text, chute)).is_ok());
             let expected = match kind {
                 Kind::Insert | Kind::Update => [false, true, true, true, true, false, false],
-                Kind::Delete | Kind::Read => [true, false, false, false, false, false, false],
+                Kind::Delete | Kind::Read | Kind::Checkpoint => {
+                    [true, false, false, false, false, false, false]
+                }
                 Kind::Workers => [false, true, true, false, false, false, false],
             };
             assert_eq!(accepted, expected, "{kind:?}");
         }
     }
 
-    /// Document 02, A.2: kind 5 is admitted, kind 6 and up are not.
+    /// Document 02, A.2: kind 5 is admitted, kinds 7 and up are not.
     #[test]
     fn a_worker_change_is_read_with_its_count() {
         for count in 1..=64 {
@@ -242,11 +260,11 @@ mod tests {
             assert_eq!(commands, [Command::workers(count as u8)]);
             assert_eq!(commands[0].count(), Some(count as u8));
         }
-        for kind in (0..=u8::MAX).filter(|kind| !(1..=5).contains(kind)) {
+        for kind in (0..=u8::MAX).filter(|kind| !(1..=6).contains(kind)) {
             let part = encode(kind, &identifier::NONE, 1);
             assert_eq!(read_list(&part), refused(Refusal::Kind, 1, 0));
         }
-        for kind in Kind::OF_ITEMS {
+        for kind in Kind::ALL.into_iter().filter(|it| *it != Kind::Workers) {
             assert_eq!(command(kind, 5).count(), None);
         }
     }
@@ -263,26 +281,40 @@ mod tests {
         }
     }
 
-    /// A.2: the identifier of kind 5 is tested under 8 alone, at every character, before 14. The
-    /// first that is not 0 is told, whatever stands behind it, and no other digit is 0.
+    /// Document 02, A.3: kind 6 is admitted with chute 0 alone, else 10 with its place.
     #[test]
-    fn a_worker_change_with_an_identifier_is_refused_8() {
+    fn a_checkpoint_is_read_with_chute_0() {
+        let right = encode(6, &identifier::NONE, 0);
+        assert_eq!(read_list(&right), Ok(vec![Command::CHECKPOINT]));
+        for chute in 1..=u16::MAX {
+            let wrong = encode(6, &identifier::NONE, chute);
+            let list = [&right[..], &wrong].concat();
+            assert_eq!(read_list(&list), refused(Refusal::Chute, 2, 0));
+        }
+    }
+
+    /// A.2 and A.3: the identifier of kinds 5 and 6 is tested under 8 alone, at every character, before
+    /// 14 and 10. The first that is not 0 is told, whatever stands behind it, and no other digit is 0.
+    #[test]
+    fn a_worker_change_or_checkpoint_with_an_identifier_is_refused_8() {
         for position in 0..identifier::LENGTH {
             for wrong in (0..=u8::MAX).filter(|byte| *byte != b'0') {
                 let mut text = identifier::NONE;
                 text[position] = wrong;
                 let later = [&text[..=position], &FIRST[position + 1..]].concat();
                 for text in [&text[..], &later] {
-                    for count in [1, 0, 65] {
-                        let list = [encode(3, FIRST, 0), encode(5, text, count)].concat();
+                    for (kind, last) in [(5, 1), (5, 0), (5, 65), (6, 0), (6, 1)] {
+                        let list = [encode(3, FIRST, 0), encode(kind, text, last)].concat();
                         let expected = refused(Refusal::Identifier, 2, position + 1);
-                        assert_eq!(read_list(&list), expected, "{text:?} {count}");
+                        assert_eq!(read_list(&list), expected, "{kind} {text:?} {last}");
                     }
                 }
             }
         }
-        let item = read_list(&encode(5, FIRST, 1));
-        assert_eq!(item, refused(Refusal::Identifier, 1, 1));
+        for kind in [5, 6] {
+            let item = read_list(&encode(kind, FIRST, 1));
+            assert_eq!(item, refused(Refusal::Identifier, 1, 1));
+        }
         for kind in Kind::OF_ITEMS {
             let none = read_list(&encode(kind.number(), &identifier::NONE, 1));
             assert_eq!(none, refused(Refusal::Identifier, 1, 1), "{kind:?}");
@@ -358,14 +390,17 @@ mod tests {
         }
     }
 
-    /// Document 02, A.2: kind 5 is dependent on every command, both ways, of whatever key.
+    /// Document 02, A.2 and A.3: kinds 5 and 6 are dependent on every command, both ways, of whatever
+    /// key.
     #[test]
-    fn a_worker_change_is_dependent_on_every_command() {
+    fn worker_changes_and_checkpoints_are_dependent_on_every_command() {
         for kind in Kind::ALL {
             for key in [0, 5, identifier::LARGEST_KEY] {
                 let it = command(kind, key);
-                assert!(dependent(&Command::workers(1), &it), "{it:?}");
-                assert!(dependent(&it, &Command::workers(64)), "{it:?}");
+                for other in [Command::workers(64), Command::CHECKPOINT] {
+                    assert!(dependent(&other, &it), "{it:?}");
+                    assert!(dependent(&it, &other), "{it:?}");
+                }
             }
         }
     }

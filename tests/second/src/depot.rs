@@ -1,13 +1,14 @@
 //! The calls of the proved code that are compared, on numbers and byte lists as C makes them.
 
 use crate::bytes::Lists;
-use crate::calls::{self, Asked, LentLists};
+use crate::calls::{self, Given, LentLists};
 use crate::program;
 
 /// The compared calls; the proved code and the second program each give them. Each answers its
 /// refusal number plus 256 times the place plus 2^32 times the character, 0 for accepted.
 pub trait Depot {
-    fn open(&self, lent: &mut LentLists, commands: &[u8], settings: Asked) -> u64;
+    /// Opens, with the store of an image where one is given, which is only read.
+    fn open(&self, lent: &mut LentLists, given: Given) -> u64;
 
     fn advance(&self, lent: &mut LentLists, commands: &[u8], schedule: &[u8]) -> u64;
 
@@ -27,8 +28,8 @@ pub trait Depot {
 pub struct Second;
 
 impl Depot for Second {
-    fn open(&self, lent: &mut LentLists, commands: &[u8], settings: Asked) -> u64 {
-        calls::open(lent, commands, settings)
+    fn open(&self, lent: &mut LentLists, given: Given) -> u64 {
+        calls::open(lent, given)
     }
 
     fn advance(&self, lent: &mut LentLists, commands: &[u8], schedule: &[u8]) -> u64 {

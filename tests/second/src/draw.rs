@@ -243,7 +243,7 @@ mod tests {
         )
     }
 
-    /// One with worker changes.
+    /// One with worker changes and checkpoints.
     fn random_shifts(random: &mut Random) -> Input {
         let kinds = [
             "insert AA000000005AA 7\n",
@@ -251,6 +251,7 @@ mod tests {
             "workers 1\n",
             "workers 2\n",
             "workers 5\n",
+            "checkpoint\n",
         ];
         let list: String = (0..1 + random.below(12))
             .map(|_| random.pick(&kinds))
@@ -396,6 +397,34 @@ mod tests {
         }
         assert!(pale > 500, "{pale}");
     }
+
+    /// Document 02, A.3: a checkpoint's waits have their reasons, and the images are told with their
+    /// turns.
+    #[test]
+    fn checkpoints_are_told() {
+        let list = "read AA000000005AA\ncheckpoint\ninsert RR473124829GB 3\ncheckpoint";
+        let alone = ["0", "0", "1", "1", "1", "1", "1", "1", "1", "1", "1"].join(",");
+        let turns = vec![alone; 5].join(",");
+        let options = format!("--size 4 --workers 1 --room 4 --turns-file 0,0,0,{turns}");
+        let picture = draw(&input(&options, list));
+        for words in [
+            "2 checkpoint",
+            "1 (any command) until turn 11",
+            "2 (a checkpoint) until turn 29",
+            "turn 17, worker 1: looked up",
+            "turn 18, worker 1: writes answer 1000 of command 2",
+            RULE,
+            "Image: zeros from the opening; place 2 and 0 entries from turn 18; \
+             place 4 and 1 entry from turn 53.",
+        ] {
+            assert!(picture.contains(&format!(">{words}<")), "{words}");
+        }
+        let plain = draw(&example());
+        assert!(!plain.contains("Image:") && !plain.contains(RULE));
+    }
+
+    const RULE: &str = "A checkpoint waits for every earlier command, and every later one waits \
+                        for it. Its writing turn puts the store into the image.";
 
     /// A.2: the counts in force are drawn and told, with who waits for a change and why.
     #[test]

@@ -1,14 +1,17 @@
 //! The inputs that are compared, made from a seed: right ones, and ones that are wrong in every
 //! position, at every bound and in several ways at once.
 
+mod checkpoints;
 mod commands;
 mod counts;
 mod faults;
 mod identifiers;
+pub mod images;
 mod lists;
 mod pairs;
 pub mod runs;
 mod sums;
+mod zeros;
 
 use crate::identifier::{self, LARGEST_KEY};
 use crate::random::Random;
@@ -32,6 +35,8 @@ pub enum Sort {
     Lists,
     /// Two commands that are loaded, so that the second's set tells whether they are dependent.
     Pairs,
+    /// An image that is opened from, with a list.
+    Images,
     /// Calls that go on from one another.
     Runs,
     /// Runs in which an item is announced again.
@@ -42,22 +47,29 @@ pub enum Sort {
     Passes,
     /// Runs in which the worker count changes.
     Shifts,
+    /// Runs with checkpoints.
+    Checkpoints,
+    /// Runs that are opened from the image of another's checkpoint, with the rest of its list.
+    Swaps,
     /// An input of the program.
     Programs,
 }
 
 impl Sort {
-    pub const ALL: [Sort; 11] = [
+    pub const ALL: [Sort; 14] = [
         Sort::Identifiers,
         Sort::Keys,
         Sort::Commands,
         Sort::Lists,
         Sort::Pairs,
+        Sort::Images,
         Sort::Runs,
         Sort::Announcements,
         Sort::Reads,
         Sort::Passes,
         Sort::Shifts,
+        Sort::Checkpoints,
+        Sort::Swaps,
         Sort::Programs,
     ];
 
@@ -68,11 +80,14 @@ impl Sort {
             Sort::Commands => "commands",
             Sort::Lists => "lists",
             Sort::Pairs => "pairs",
+            Sort::Images => "images",
             Sort::Runs => "runs",
             Sort::Announcements => "announcements",
             Sort::Reads => "reads",
             Sort::Passes => "passes",
             Sort::Shifts => "shifts",
+            Sort::Checkpoints => "checkpoints",
+            Sort::Swaps => "swaps",
             Sort::Programs => "programs",
         }
     }
@@ -90,12 +105,14 @@ pub fn cases(seed: u64) -> Vec<(Sort, Case)> {
         (Sort::Commands, commands::cases(random)),
         (Sort::Lists, lists::cases(random)),
         (Sort::Pairs, pairs::cases(random)),
+        (Sort::Images, images::cases(random)),
         (Sort::Programs, programs::limits(random)),
     ];
     sorts
         .into_iter()
         .chain(sums::cases(random))
         .chain(counts::cases(random))
+        .chain(checkpoints::cases(random))
         .flat_map(|(sort, cases)| cases.into_iter().map(move |case| (sort, case)))
         .collect()
 }
@@ -130,7 +147,7 @@ fn text(key: u64) -> Vec<u8> {
 }
 
 /// `count` values of `make`.
-fn repeat<T>(count: usize, random: &mut Random, make: fn(&mut Random) -> T) -> Vec<T> {
+fn repeat<T>(count: usize, random: &mut Random, make: impl Fn(&mut Random) -> T) -> Vec<T> {
     (0..count).map(|_| make(random)).collect()
 }
 
@@ -185,7 +202,7 @@ mod tests {
 
     #[test]
     fn there_are_enough_cases_and_every_outcome_is_met_often() {
-        let mut counts = [[0; 15]; Sort::ALL.len()];
+        let mut counts = [[0; 17]; Sort::ALL.len()];
         for ((sort, answer), count) in COUNTS.iter() {
             counts[*sort][*answer as usize % 256] += count;
         }
@@ -206,6 +223,8 @@ mod tests {
         check(Sort::Commands, 60_000, &[0, 4, 7, 8, 9, 10, 13, 14]);
         check(Sort::Lists, 5_000, &[0, 4, 7, 8, 9, 10, 13, 14]);
         check(Sort::Pairs, 10_000, &[0]);
+        let numbers = [0, 6, 7, 8, 9, 10, 13, 14, 15, 16];
+        check(Sort::Images, 20_000, &numbers);
     }
 
     /// Each refusal of an identifier with each character that it can have: read alone, in a
@@ -247,13 +266,14 @@ mod tests {
             let met = (one, other, first.key == second.key, found);
             *counts.entry(met).or_default() += 1;
         }
-        // A worker change, whose key counts as 0, is met before and behind items of key 0 and of
-        // others, and before another.
-        assert_eq!(counts.len(), 2 * 16 + 2 * 2 * 4 + 1, "{counts:?}");
+        // A worker change and a checkpoint, whose key counts as 0, are met before and behind items of
+        // key 0 and of others, and before one another.
+        assert_eq!(counts.len(), 2 * 16 + 2 * 2 * 2 * 4 + 4, "{counts:?}");
         assert!(counts.values().all(|count| *count >= 20), "{counts:?}");
-        let change = Kind::Workers.number();
+        let of_items = Kind::OF_ITEMS.map(Kind::number);
         for (one, other, _, found) in counts.keys() {
-            assert!(*found || ![one, other].contains(&&change), "{one} {other}");
+            let items = of_items.contains(one) && of_items.contains(other);
+            assert!(*found || items, "{one} {other}");
         }
     }
 

@@ -1,10 +1,12 @@
 //! A caller: the lists that it keeps between calls, each between guards.
 
 use crate::bytes::{self, Lists};
-use crate::calls::LentLists;
+use crate::calls::{Given, LentLists};
 use crate::depot::Depot;
+use crate::image;
 use crate::run::Run;
 use crate::script::{List, Step};
+use crate::serial::Entries;
 
 /// Stands on both sides of a list, so that a write past its ends is seen.
 pub const GUARD: [u8; 16] = *b"guard lent list.";
@@ -15,15 +17,18 @@ pub type Memory = [Vec<u8>; List::ALL.len()];
 #[derive(Clone)]
 pub struct Host {
     memory: Memory,
-    kept: Memory,
+    /// What the store had at the last opening that was accepted.
+    entries: Entries,
+    kept: (Memory, Entries),
 }
 
 impl Default for Host {
     fn default() -> Host {
         let memory = List::ALL.map(|_| guarded(&[]));
         Host {
-            kept: memory.clone(),
+            kept: (memory.clone(), Entries::new()),
             memory,
+            entries: Entries::new(),
         }
     }
 }
@@ -38,9 +43,14 @@ impl Host {
         within(&self.memory[list as usize])
     }
 
-    /// The lists of the run.
+    /// What the store had at the last opening that was accepted.
+    pub fn entries(&self) -> &Entries {
+        &self.entries
+    }
+
+    /// The lists of the run but its image.
     pub fn lists(&self) -> Lists<'_> {
-        let [state, keys, chutes, answers, commands, _] =
+        let [state, keys, chutes, answers, _, commands, ..] =
             self.memory.each_ref().map(|it| within(it));
         Lists {
             state,
@@ -74,29 +84,40 @@ impl Host {
                 let longer = [self.list(*list), &rest].concat();
                 self.put(*list, &longer[..*length]);
             }
-            Step::Keep => self.kept.clone_from(&self.memory),
-            Step::Restore => self.memory.clone_from(&self.kept),
-            Step::Serial => {}
+            Step::Keep => self.kept = (self.memory.clone(), self.entries.clone()),
+            Step::Restore => (self.memory, self.entries) = self.kept.clone(),
+            Step::Serial | Step::Unbroken(_) => {}
             Step::Program(input) => self.put(List::Out, &depot.program(input)),
             call => return self.call(depot, call),
         }
         0
     }
 
+    /// Puts the commands in, and the image to open from where there is one, and opens.
+    fn open(&mut self, depot: &dyn Depot, given: Given) -> u64 {
+        self.put(List::Commands, given.commands);
+        if let Some(source) = given.source {
+            self.put(List::Source, source);
+        }
+        let (mut lent, commands, source) = self.lend();
+        let kept = Given {
+            commands,
+            source: given.source.map(|_| source),
+            settings: given.settings,
+        };
+        let answer = depot.open(&mut lent, kept);
+        if answer == 0 {
+            let store = given.source.and_then(|source| image::read(source).ok());
+            self.entries = store.map_or(Entries::new(), |store| store.entries().collect());
+        }
+        answer
+    }
+
     fn call(&mut self, depot: &dyn Depot, step: &Step) -> u64 {
         match step {
-            Step::Open {
-                size,
-                workers,
-                room,
-                commands,
-            } => {
-                self.put(List::Commands, commands);
-                let (mut lent, commands) = self.lend();
-                depot.open(&mut lent, commands, [*size, *workers, *room])
-            }
+            Step::Open(opening) => self.open(depot, opening.given()),
             Step::Advance(schedule) => {
-                let (mut lent, commands) = self.lend();
+                let (mut lent, commands, _) = self.lend();
                 depot.advance(&mut lent, commands, schedule)
             }
             Step::PendingCounts(length) => {
@@ -127,16 +148,18 @@ impl Host {
         self.memory[list as usize] = guarded(bytes);
     }
 
-    fn lend(&mut self) -> (LentLists<'_>, &[u8]) {
-        let [state, keys, chutes, answers, commands, _] =
+    /// What is lent to be written, the commands, and the image to open from.
+    fn lend(&mut self) -> (LentLists<'_>, &[u8], &[u8]) {
+        let [state, keys, chutes, answers, image, commands, source, _] =
             self.memory.each_mut().map(|it| within_mut(it));
         let lent = LentLists {
             state,
             keys,
             chutes,
             answers,
+            image,
         };
-        (lent, commands)
+        (lent, commands, source)
     }
 }
 

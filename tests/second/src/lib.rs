@@ -1,13 +1,13 @@
 //! The second program. It says again, from the documents alone and in plain Rust, what the proved
 //! code must do, and is run beside it on the same inputs.
 //!
-//! - The second writing: `identifier`, `command` and `serial` are what a command means, `store` and
-//!   `run` the records and turns, `bytes` and `calls` the public calls on byte lists, `program` the
-//!   program, and `refusal` the numbers of refusal and how a call answers them.
+//! - The second writing: `identifier`, `command` and `serial` are what a command means, `store`,
+//!   `image` and `run` the records and turns, `bytes` and `calls` the public calls on byte lists,
+//!   `program` the program, and `refusal` the numbers of refusal and how a call answers them.
 //! - The comparison: `depot` names the calls that are compared, `script` is the steps of one input,
 //!   `host` a caller that takes them, `play` two callers side by side, and `generate` makes the
 //!   inputs from a seed (`random`); `hex` shows them, and `met` counts what they meet of worker
-//!   changes. The program `compare_depot` runs it.
+//!   changes, checkpoints and images. The program `compare_depot` runs it.
 //! - The tools: `text` turns the program's input into text and back for `depot_text`, and `draw`
 //!   makes a picture of a run for `depot_draw`.
 
@@ -22,6 +22,7 @@ pub mod generate;
 pub mod hex;
 pub mod host;
 pub mod identifier;
+pub mod image;
 pub mod met;
 pub mod play;
 pub mod program;

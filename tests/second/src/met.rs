@@ -1,5 +1,8 @@
 //! How often the compared inputs meet what document 02's A.2 brings: its refusals, and the turns at
-//! which the worker count decides. One that no input met would leave the comparison blind there.
+//! which the worker count decides; and, in `images`, what A.3 does. One that no input met would leave
+//! the comparison blind there.
+
+pub mod images;
 
 use std::ops::AddAssign;
 
@@ -7,6 +10,7 @@ use crate::bytes::{CHAIN, IN_FORCE, LARGEST, LOCK_COUPLED, standing};
 use crate::command::{Kind, LENGTH};
 use crate::host::Host;
 use crate::identifier;
+use crate::met::images::Images;
 use crate::run::{HEAD, Party, Run};
 use crate::script::{List, Step};
 
@@ -121,6 +125,7 @@ pub struct Met {
     pub events: [u64; Event::ALL.len()],
     /// Worker changes refused 8 at each character from 1.
     pub characters: [u64; identifier::LENGTH],
+    pub images: Images,
 }
 
 impl Default for Met {
@@ -128,6 +133,7 @@ impl Default for Met {
         Met {
             events: [0; Event::ALL.len()],
             characters: [0; identifier::LENGTH],
+            images: Images::default(),
         }
     }
 }
@@ -139,6 +145,7 @@ impl AddAssign<&Met> for Met {
         for (count, more) in events.chain(characters) {
             *count += more;
         }
+        self.images.add(&other.images);
     }
 }
 
@@ -153,12 +160,14 @@ impl Met {
         events
             .map(|event| format!("{}: {}", event.name(), self.events[event as usize]))
             .chain(characters)
+            .chain(self.images.lines())
             .collect()
     }
 
     /// Whether something was never met.
     pub fn lacks_any(&self) -> bool {
-        self.events.contains(&0) || self.characters.contains(&0)
+        let changes = self.events.contains(&0) || self.characters.contains(&0);
+        changes || self.images.lacks_any()
     }
 
     pub fn count(&self, event: Event) -> u64 {
@@ -171,8 +180,9 @@ impl Met {
 
     /// Notes a step of a caller, before it is taken, with the answer that it gets.
     pub fn note_step(&mut self, host: &Host, step: &Step, answer: u64) {
+        self.images.note_step(host, step, answer);
         match step {
-            Step::Open { commands, .. } => self.note_opening(commands, answer),
+            Step::Open(open) => self.note_opening(&open.commands, answer),
             Step::Advance(schedule) => self.note_dealing(host, schedule, answer),
             Step::WorkerStatus(_) if answer == 0 => self.note_report(host),
             _ => {}
@@ -180,9 +190,7 @@ impl Met {
     }
 
     fn note_opening(&mut self, commands: &[u8], answer: u64) {
-        let place = (answer >> 8 & 0xff_ffff) as usize;
-        let refused = place.checked_sub(1).map(|index| commands[index * LENGTH]);
-        let change = refused == Some(Kind::Workers.number());
+        let change = refused_kind(commands, answer) == Some(Kind::Workers.number());
         self.note(Event::Opened, answer == 0 && changes_workers(commands));
         self.note(Event::Refused14, answer & 0xff == 14);
         if change && answer & 0xff == 8 {
@@ -304,6 +312,12 @@ fn changes_workers(commands: &[u8]) -> bool {
     kinds.any(|kind| *kind == Kind::Workers.number())
 }
 
+/// The kind of the command that an opening refuses by this answer, if it refuses one.
+pub fn refused_kind(commands: &[u8], answer: u64) -> Option<u8> {
+    let place = (answer >> 8 & 0xff_ffff) as usize;
+    place.checked_sub(1).map(|index| commands[index * LENGTH])
+}
+
 #[cfg(test)]
 mod tests {
     use super::*;
@@ -312,9 +326,10 @@ mod tests {
     #[test]
     fn what_is_never_met_is_told() {
         let mut met = Met::default();
-        assert!(met.lacks_any());
         met.events.fill(2);
         met.characters.fill(3);
+        assert!(met.lacks_any(), "no image is met");
+        met.images = Images::met(2);
         assert!(!met.lacks_any());
         for index in 0..Event::ALL.len() {
             assert_eq!(Event::ALL[index] as usize, index);
@@ -331,9 +346,11 @@ mod tests {
         sum += &met;
         assert_eq!(sum.count(Event::Opened), 4);
         let lines = sum.lines();
-        assert_eq!(lines.len(), Event::ALL.len() + identifier::LENGTH);
+        let images = sum.images.lines().count();
+        let counts = Event::ALL.len() + identifier::LENGTH;
+        assert_eq!(lines.len(), counts + images);
         assert_eq!(lines[1], "counts refused 14: 4");
         let last = "worker changes refused 8 at character 13: 6";
-        assert_eq!(lines.last().map(String::as_str), Some(last));
+        assert_eq!(lines[counts - 1], last);
     }
 }

@@ -5,12 +5,15 @@ use crate::bytes::{
     CHAIN, COUNT, EXECUTING, FREE, IN_FORCE, KEY, LARGEST, LOADED, LOCKED, NEXT, NUMBER, PARTY,
     PARTY_BYTES, PLACE, ROOM, SETS, SIZE, USED, WORKERS,
 };
+use crate::command::{self, Kind};
 use crate::depot::{Depot, Second};
 use crate::host::{GUARD, Host};
+use crate::image;
 use crate::met::Met;
 use crate::refusal::answer_words;
+use crate::run::Run;
 use crate::script::{List, Step};
-use crate::serial;
+use crate::serial::{self, Outcome};
 
 /// What differs, in words.
 pub type Difference = String;
@@ -46,17 +49,18 @@ impl<'a> Play<'a> {
     pub fn take(&mut self, step: Step) -> Result<u64, Difference> {
         let expected = self.take_expected(&step);
         let found = self.found.take(self.judged, &step);
-        let serial = step == Step::Serial;
-        self.steps.push(step);
         let different = if expected != found {
             Some(answers_differ(expected, found))
         } else if self.expected.memory() != self.found.memory() {
-            Some(self.lists_differ())
-        } else if serial {
-            self.serial_differs()
+            Some(self.lists_differ(&step))
         } else {
-            None
+            match &step {
+                Step::Serial => self.serial_differs(),
+                Step::Unbroken(commands) => self.unbroken_differs(commands),
+                _ => None,
+            }
         };
+        self.steps.push(step);
         match different {
             None => Ok(expected),
             Some(words) => Err(format!("step {}: {words}", self.steps.len())),
@@ -68,7 +72,7 @@ impl<'a> Play<'a> {
     fn take_expected(&mut self, step: &Step) -> u64 {
         let noted = matches!(
             step,
-            Step::Open { .. } | Step::Advance(_) | Step::WorkerStatus(_)
+            Step::Lend(_) | Step::Open(_) | Step::Advance(_) | Step::WorkerStatus(_)
         );
         let before = noted.then(|| self.expected.clone());
         let answer = self.expected.take(&Second, step);
@@ -84,10 +88,11 @@ impl<'a> Play<'a> {
         steps.try_fold(0, |_, step| self.take(step))
     }
 
-    fn lists_differ(&self) -> Difference {
+    fn lists_differ(&self, step: &Step) -> Difference {
         let pairs = self.expected.memory().iter().zip(self.found.memory());
         for (list, (expected, found)) in List::ALL.into_iter().zip(pairs) {
-            if list == List::Out && expected != found && self.printed() {
+            let printed = matches!(step, Step::Program(_));
+            if list == List::Out && expected != found && printed {
                 return format!(
                     "the program prints {:?}, the second program {:?}",
                     String::from_utf8_lossy(self.found.list(list)),
@@ -102,33 +107,62 @@ impl<'a> Play<'a> {
         "the lists differ in length".to_string()
     }
 
-    fn printed(&self) -> bool {
-        matches!(self.steps.last(), Some(Step::Program(_)))
-    }
-
     /// How the judged side's lists differ from what the serial run gives, if they do.
     fn serial_differs(&self) -> Option<Difference> {
         let Some(run) = self.found.run() else {
             return Some("the lists are no run".to_string());
         };
-        let room = run.settings.room.into();
-        let outcome = serial::run(room, &run.commands);
-        let finished = run.is_finished();
-        let pairs = run.answers.iter().zip(&outcome.answers);
-        for (index, (answer, right)) in pairs.enumerate() {
-            if answer != right && (finished || *answer != 0) {
-                let place = index + 1;
-                return Some(format!(
-                    "answer {place} is {answer}, of the serial run {right}"
-                ));
-            }
-        }
-        let table = serial::table(room, &outcome.entries);
-        let same = run.store.keys == table.keys
-            && run.store.chutes == table.chutes
-            && usize::from(run.store.used) == table.used;
-        (finished && !same).then(|| "the table is not the serial run's".to_string())
+        let entries = self.found.entries().clone();
+        let outcome = serial::run_from(entries, run.settings.room.into(), &run.commands);
+        outcome_differs(&run, &outcome).or_else(|| self.image_differs(&run))
     }
+
+    /// How they differ from what the serial run of a whole list gives, of which the run has the last
+    /// commands; each answer is that of the same command there.
+    fn unbroken_differs(&self, commands: &[u8]) -> Option<Difference> {
+        let whole = command::read_list(commands).ok();
+        let (Some(run), Some(whole)) = (self.found.run(), whole) else {
+            return Some("the lists are no run".to_string());
+        };
+        let before = whole.len().checked_sub(run.commands.len());
+        let Some(before) = before.filter(|it| whole[*it..] == run.commands) else {
+            return Some("the run has not the last commands of the list".to_string());
+        };
+        let mut outcome = serial::run(run.settings.room.into(), &whole);
+        outcome.answers.drain(..before);
+        outcome_differs(&run, &outcome)
+    }
+    /// How the judged side's image differs from what the commands before the last checkpoint that is
+    /// answered leave, with its place; from zeros where none is.
+    fn image_differs(&self, run: &Run) -> Option<Difference> {
+        let written = |place: &usize| {
+            run.commands[place - 1].kind == Kind::Checkpoint && run.answers[place - 1] != 0
+        };
+        let place = (1..=run.commands.len()).rfind(written).unwrap_or(0);
+        let entries = self.found.entries().clone();
+        let right = serial::image(entries, run.settings.room, &run.commands, place);
+        let same = self.found.list(List::Image) == right;
+        (!same).then(|| format!("the image is not the serial run's before place {place}"))
+    }
+}
+
+/// How the answers of a run, and where it is finished its table, differ from what serial runs give.
+fn outcome_differs(run: &Run, outcome: &Outcome) -> Option<Difference> {
+    let finished = run.is_finished();
+    let pairs = run.answers.iter().zip(&outcome.answers);
+    for (index, (answer, right)) in pairs.enumerate() {
+        if answer != right && (finished || *answer != 0) {
+            let place = index + 1;
+            return Some(format!(
+                "answer {place} is {answer}, of the serial run {right}"
+            ));
+        }
+    }
+    let table = serial::table(run.settings.room.into(), &outcome.entries);
+    let same = run.store.keys == table.keys
+        && run.store.chutes == table.chutes
+        && usize::from(run.store.used) == table.used;
+    (finished && !same).then(|| "the table is not the serial run's".to_string())
 }
 
 fn answers_differ(expected: u64, found: u64) -> Difference {
@@ -153,6 +187,11 @@ fn bytes_differ(list: List, index: usize, expected: &[u8], found: &[u8]) -> Diff
             let width = entry_width(list);
             let what = match list {
                 List::State => format!("state byte {offset} ({})", field(offset)),
+                List::Image => format!(
+                    "byte {} of record {} of the image",
+                    offset % image::RECORD,
+                    offset / image::RECORD
+                ),
                 _ => format!("entry {} of {name}", offset / width + 1),
             };
             (what, index - offset % width, width)
@@ -173,7 +212,7 @@ fn entry_width(list: List) -> usize {
     match list {
         List::Keys => KEY,
         List::Chutes | List::Answers => NUMBER,
-        List::State | List::Commands | List::Out => 1,
+        List::State | List::Image | List::Commands | List::Source | List::Out => 1,
     }
 }
 
@@ -203,14 +242,15 @@ fn field(offset: usize) -> String {
 mod tests {
     use super::*;
     use crate::bytes::Lists;
-    use crate::calls::{Asked, LentLists};
+    use crate::calls::{Given, LentLists};
+    use crate::script::Open;
 
     /// The second program with some bits of its answers turned round.
     struct Turned(u64);
 
     impl Depot for Turned {
-        fn open(&self, lent: &mut LentLists, commands: &[u8], settings: Asked) -> u64 {
-            Second.open(lent, commands, settings) ^ self.0
+        fn open(&self, lent: &mut LentLists, given: Given) -> u64 {
+            Second.open(lent, given) ^ self.0
         }
 
         fn advance(&self, lent: &mut LentLists, commands: &[u8], schedule: &[u8]) -> u64 {
@@ -239,19 +279,22 @@ mod tests {
     }
 
     /// Each call once; the lists are no run, so that most are refused.
-    fn calls() -> [Step; 6] {
-        [
-            Step::Open {
-                size: 1,
-                workers: 1,
-                room: 1,
+    fn calls() -> [Step; 7] {
+        let open = |source: Option<Vec<u8>>| {
+            Step::Open(Open {
+                settings: [1; 3],
                 commands: vec![],
-            },
+                source,
+            })
+        };
+        [
+            open(None),
             Step::Advance(vec![]),
             Step::PendingCounts(150),
             Step::WorkerStatus(128),
             Step::ReadIdentifier(b"AAx00000000AA".to_vec(), 8),
             Step::WriteIdentifier(0, 13),
+            open(Some(vec![0; 32])),
         ]
     }
 

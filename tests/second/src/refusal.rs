@@ -15,10 +15,10 @@ pub enum Refusal {
     TooManyCommands = 5,
     /// A lent or handed-back list, or the state, has the wrong length.
     Length = 6,
-    /// The kind is not 1 to 5.
+    /// The kind is not 1 to 6.
     Kind = 7,
     /// The length of an identifier is wrong, or its first faulty character stands for a letter; of
-    /// a worker change, its identifier is not thirteen characters 0.
+    /// a worker change or checkpoint, its identifier is not thirteen characters 0.
     Identifier = 8,
     /// The check digit of an identifier is wrong.
     CheckDigit = 9,
@@ -32,6 +32,11 @@ pub enum Refusal {
     Digit = 13,
     /// The count of a worker change is not 1 to 64.
     Count = 14,
+    /// Of an image that is opened from, an index passes the room, or keys along the chain do not
+    /// ascend.
+    Chain = 15,
+    /// Of an image that is opened from, record 0 or a record on the chain is out of range.
+    Record = 16,
 }
 
 impl Refusal {

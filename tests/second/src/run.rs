@@ -1,8 +1,8 @@
 //! A run: records, parties, store and answers, and what each turn does to them.
 //!
-//! It is written as document 01's "Records and turns" says it, on arrays, with no allocation and
-//! no reading of text in a turn, so that it is also the plain program that speed is measured
-//! against. Where a state that no dealing reaches leaves the outcome open, it does what
+//! It is written as document 01's "Records and turns" says it, on arrays, with no allocation in a
+//! turn, but the first checkpoint's of a call, and no reading of text, so that it is also the plain
+//! program that speed is measured against. Where a state that no dealing reaches leaves the outcome open, it does what
 //! docs/DECISIONS.md chose; what an insert, a looked-up read and a record without a command do
 //! there is chosen here, by `write` and `look_up`.
 //!
@@ -11,6 +11,7 @@
 //! the kind 5 command finishes its removal." The count in force at a turn decides of that turn.
 
 use crate::command::{Command, Kind, dependent};
+use crate::image;
 use crate::serial::{ANNOUNCED_AGAIN, DONE, NO_SUCH_ITEM, STORE_FULL};
 use crate::store::Store;
 
@@ -117,6 +118,9 @@ pub struct Run {
     pub store: Store,
     /// One a command, 0 where not yet given.
     pub answers: Vec<u16>,
+    /// What is written of the image: zeros by opening, and what the last checkpoint wrote. None in a
+    /// run that is handed back, up to its next checkpoint: then the image stays as it was.
+    pub image: Option<Vec<u8>>,
 }
 
 impl Run {
@@ -131,7 +135,16 @@ impl Run {
             parties: [Party::Idle; PARTIES],
             store: Store::new(settings.room),
             answers: vec![0; commands.len()],
+            image: Some(image::zeros(settings.room)),
             commands,
+        }
+    }
+
+    /// The same with a store of that room, which an image held.
+    pub fn open_with(settings: Settings, commands: Vec<Command>, store: Store) -> Run {
+        Run {
+            store,
+            ..Run::open(settings, commands)
         }
     }
 
@@ -222,8 +235,8 @@ impl Run {
     }
 
     /// Document 02, A.8: "A worker's look and writing become one turn for kind 3; other kinds keep
-    /// two." A worker change names no item, and its look finds nothing. A record without a command,
-    /// which no dealing lets a worker hold, is of no kind and keeps two.
+    /// two." A worker change and a checkpoint name no item, and their look finds nothing. A record
+    /// without a command, which no dealing lets a worker hold, is of no kind and keeps two.
     fn look_up(&mut self, own: u8) -> Party {
         let found = |key: u64| self.store.chute(key);
         match self.command(own).map(|it| (it.kind, it.key)) {
@@ -232,7 +245,7 @@ impl Run {
                 own,
                 found: found(key),
             },
-            Some((Kind::Workers, _)) | None => Party::LookedUp { own, found: 0 },
+            Some((Kind::Workers | Kind::Checkpoint, _)) | None => Party::LookedUp { own, found: 0 },
         }
     }
 
@@ -253,10 +266,12 @@ impl Run {
     ///   take out or to set.
     ///
     /// There a worker may also be looked-up for a read: its turn answers what the look-up found and
-    /// does not look again, as the turn of every looked-up worker. A worker change is done whatever
-    /// was found, and its count comes into force even above the largest, which the next call tests.
+    /// does not look again, as the turn of every looked-up worker. A worker change or a checkpoint is
+    /// done whatever was found. The change's count comes into force even above the largest, which the
+    /// next call tests; the checkpoint puts the places in use into the image, whatever they hold.
     fn write(&mut self, own: u8, found: u16) -> Party {
         if let Some(Command { kind, key, chute }) = self.command(own) {
+            let place = self.records.place[usize::from(own)];
             let answer = match (kind, found) {
                 (Kind::Insert, 0) if self.store.is_full() => STORE_FULL,
                 (Kind::Insert, 0) => {
@@ -281,8 +296,12 @@ impl Run {
                     self.in_force = chute as u8;
                     DONE
                 }
+                (Kind::Checkpoint, _) => {
+                    let image = self.image.get_or_insert_default();
+                    image::write(&self.store, place, image);
+                    DONE
+                }
             };
-            let place = self.records.place[usize::from(own)];
             self.answers[usize::from(place) - 1] = answer;
         }
         Party::Written { own }
@@ -763,6 +782,63 @@ mod tests {
             expected.in_force = 3;
             assert_eq!(run, expected);
         }
+    }
+
+    /// Document 02, A.3: a checkpoint takes two turns. The look finds nothing, with an item of key 0 in
+    /// the store too, and writes nothing; the writing puts the store into the image, answers 1000 and
+    /// changes no entry, whatever was found.
+    #[test]
+    fn a_checkpoint_writes_the_image_at_its_writing_turn() {
+        for (items, found) in [([0, 5], 0), ([4, 5], 0), ([0, 6], 50), ([4, 5], u16::MAX)] {
+            let mut run = holding(Command::CHECKPOINT, 3, items);
+            let mut expected = run.clone();
+            assert_eq!(run.image, Some(image::zeros(3)));
+            assert!(run.turn(1));
+            expected.parties[1] = Party::LookedUp { own: 1, found: 0 };
+            assert_eq!(run, expected);
+            run.parties[1] = Party::LookedUp { own: 1, found };
+            assert!(run.turn(1));
+            expected.parties[1] = Party::Written { own: 1 };
+            expected.answers = vec![1000];
+            let mut right = Vec::new();
+            image::write(&run.store, 1, &mut right);
+            expected.image = Some(right);
+            assert_eq!(run, expected);
+            run.image = None;
+            run.parties[1] = Party::LookedUp { own: 1, found };
+            assert!(run.turn(1));
+            assert_eq!(run, expected, "an image that was handed back");
+        }
+    }
+
+    /// A.3, by turns: a checkpoint waits for both reads before it, and the delete behind it for the
+    /// checkpoint; the image keeps what the delete takes out, until the next one.
+    #[test]
+    fn a_checkpoint_keeps_its_place_in_the_list() {
+        let commands = [
+            command(Kind::Read, 4, 0),
+            command(Kind::Read, 5, 0),
+            Command::CHECKPOINT,
+            command(Kind::Delete, 4, 0),
+            Command::CHECKPOINT,
+        ];
+        let mut run = beside(2, 2, &commands);
+        let sets = [1, 2, 3, 4, 5].map(|record| run.records.set[record][0]);
+        assert_eq!(sets, [0, 0, 0b110, 0b1010, 0b11110]);
+        let mut images = Vec::new();
+        while !run.is_finished() {
+            run.advance(&[1, 2]);
+            let image = run.image.clone().expect("opening writes one");
+            let entries: Vec<(u64, u16)> =
+                image::read(&image).expect("an image").entries().collect();
+            let now = (image::place(&image), entries);
+            if images.last() != Some(&now) {
+                images.push(now);
+            }
+        }
+        let expected = [(0, vec![]), (3, vec![(4, 40), (5, 50)]), (5, vec![(5, 50)])];
+        assert_eq!(images, expected);
+        assert_eq!(run.answers, [40, 50, 1000, 1000, 1000]);
     }
 
     /// Two reads of items 4 and 5 and a worker change are loaded, with three workers.

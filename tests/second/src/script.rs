@@ -3,28 +3,39 @@
 
 use std::fmt;
 
+use crate::calls::{Asked, Given};
 use crate::hex::{from_hex, hex};
 
-/// The lists that a caller keeps; `Out` is what a report or an identifier call writes.
+/// The lists that a caller keeps. `Source` is the image that the last opening was given, and `Out`
+/// what a report or an identifier call writes.
 #[derive(Clone, Copy, Debug, PartialEq, Eq)]
 pub enum List {
     State,
     Keys,
     Chutes,
     Answers,
+    Image,
     Commands,
+    Source,
     Out,
 }
 
 impl List {
-    pub const ALL: [List; 6] = [
+    pub const ALL: [List; 8] = [
         List::State,
         List::Keys,
         List::Chutes,
         List::Answers,
+        List::Image,
         List::Commands,
+        List::Source,
         List::Out,
     ];
+    /// Those that are handed back to a dealing, all but the last two.
+    pub const HANDED: [List; 6] = {
+        let [handed @ .., _, _] = List::ALL;
+        handed
+    };
 
     pub fn name(self) -> &'static str {
         match self {
@@ -32,7 +43,9 @@ impl List {
             List::Keys => "keys",
             List::Chutes => "chutes",
             List::Answers => "answers",
+            List::Image => "image",
             List::Commands => "commands",
+            List::Source => "source",
             List::Out => "out",
         }
     }
@@ -42,16 +55,40 @@ impl List {
     }
 }
 
+/// What a call that opens is given.
+#[derive(Clone, Debug, PartialEq, Eq)]
+pub struct Open {
+    pub settings: Asked,
+    pub commands: Vec<u8>,
+    /// The image to open from, if there is one.
+    pub source: Option<Vec<u8>>,
+}
+
+impl Open {
+    pub fn given(&self) -> Given<'_> {
+        Given {
+            commands: &self.commands,
+            source: self.source.as_deref(),
+            settings: self.settings,
+        }
+    }
+
+    /// Reads settings and commands from the words that show them.
+    fn parse(settings: [&str; 3], commands: &str, source: Option<Vec<u8>>) -> Option<Step> {
+        let [size, workers, room] = settings.map(|word| word.parse().ok());
+        Some(Step::Open(Open {
+            settings: [size?, workers?, room?],
+            commands: from_hex(commands)?,
+            source,
+        }))
+    }
+}
+
 #[derive(Clone, Debug, PartialEq, Eq)]
 pub enum Step {
-    /// Lends state, keys, chutes and answers of these lengths in bytes, with any contents.
-    Lend([usize; 4]),
-    Open {
-        size: u64,
-        workers: u64,
-        room: u64,
-        commands: Vec<u8>,
-    },
+    /// Lends state, keys, chutes, answers and image of these lengths in bytes, with any contents.
+    Lend([usize; 5]),
+    Open(Open),
     Advance(Vec<u8>),
     /// With a list of this length, as the next three.
     PendingCounts(usize),
@@ -70,8 +107,11 @@ pub enum Step {
     Keep,
     /// Takes the copy back.
     Restore,
-    /// Holds the answers, and the table of a finished run, against the serial run.
+    /// Holds the answers, the image and the table of a finished run against the serial run.
     Serial,
+    /// Holds the answers and the table of a finished run against the serial run of a whole list, of
+    /// which the run has the last commands.
+    Unbroken(Vec<u8>),
     /// Runs the program on this input.
     Program(Vec<u8>),
 }
@@ -81,18 +121,19 @@ impl Step {
     pub fn parse(line: &str) -> Option<Step> {
         let words: Vec<&str> = line.split(' ').collect();
         match *words.as_slice() {
-            ["lend", a, b, c, d] => Some(Step::Lend([
+            ["lend", a, b, c, d, e] => Some(Step::Lend([
                 a.parse().ok()?,
                 b.parse().ok()?,
                 c.parse().ok()?,
                 d.parse().ok()?,
+                e.parse().ok()?,
             ])),
-            ["open", size, workers, room, commands] => Some(Step::Open {
-                size: size.parse().ok()?,
-                workers: workers.parse().ok()?,
-                room: room.parse().ok()?,
-                commands: from_hex(commands)?,
-            }),
+            ["open", size, workers, room, commands] => {
+                Open::parse([size, workers, room], commands, None)
+            }
+            ["open_from", size, workers, room, commands, source] => {
+                Open::parse([size, workers, room], commands, Some(from_hex(source)?))
+            }
             ["change", list, offset, bits] => Some(Step::Change {
                 list: List::parse(list)?,
                 offset: offset.parse().ok()?,
@@ -120,8 +161,20 @@ impl Step {
             ["keep"] => Some(Step::Keep),
             ["restore"] => Some(Step::Restore),
             ["serial"] => Some(Step::Serial),
+            ["unbroken", commands] => Some(Step::Unbroken(from_hex(commands)?)),
             ["program", input] => Some(Step::Program(from_hex(input)?)),
             _ => None,
+        }
+    }
+}
+
+impl fmt::Display for Open {
+    fn fmt(&self, f: &mut fmt::Formatter) -> fmt::Result {
+        let [size, workers, room] = self.settings;
+        let words = format!("{size} {workers} {room} {}", hex(&self.commands));
+        match &self.source {
+            None => write!(f, "open {words}"),
+            Some(source) => write!(f, "open_from {words} {}", hex(source)),
         }
     }
 }
@@ -129,13 +182,8 @@ impl Step {
 impl fmt::Display for Step {
     fn fmt(&self, f: &mut fmt::Formatter) -> fmt::Result {
         match self {
-            Step::Lend([a, b, c, d]) => write!(f, "lend {a} {b} {c} {d}"),
-            Step::Open {
-                size,
-                workers,
-                room,
-                commands,
-            } => write!(f, "open {size} {workers} {room} {}", hex(commands)),
+            Step::Lend([a, b, c, d, e]) => write!(f, "lend {a} {b} {c} {d} {e}"),
+            Step::Open(open) => write!(f, "{open}"),
             Step::Advance(schedule) => write!(f, "advance {}", hex(schedule)),
             Step::PendingCounts(length) => write!(f, "pending_counts {length}"),
             Step::WorkerStatus(length) => write!(f, "worker_status {length}"),
@@ -150,6 +198,7 @@ impl fmt::Display for Step {
             Step::Keep => write!(f, "keep"),
             Step::Restore => write!(f, "restore"),
             Step::Serial => write!(f, "serial"),
+            Step::Unbroken(commands) => write!(f, "unbroken {}", hex(commands)),
             Step::Program(input) => write!(f, "program {}", hex(input)),
         }
     }
@@ -162,13 +211,17 @@ mod tests {
     #[test]
     fn a_step_is_read_from_the_line_that_shows_it() {
         let steps = [
-            Step::Lend([1, 2, 3, 4]),
-            Step::Open {
-                size: u64::MAX,
-                workers: 2,
-                room: 3,
+            Step::Lend([1, 2, 3, 4, 5]),
+            Step::Open(Open {
+                settings: [u64::MAX, 2, 3],
                 commands: vec![],
-            },
+                source: None,
+            }),
+            Step::Open(Open {
+                settings: [1, u64::MAX, 3],
+                commands: vec![6],
+                source: Some(vec![0, 255]),
+            }),
             Step::Advance(vec![0, 255]),
             Step::PendingCounts(150),
             Step::WorkerStatus(128),
@@ -183,6 +236,7 @@ mod tests {
             Step::Keep,
             Step::Restore,
             Step::Serial,
+            Step::Unbroken(vec![6, 0]),
             Step::Program(vec![1, 2]),
         ];
         for step in steps {

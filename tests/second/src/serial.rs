@@ -3,6 +3,8 @@
 use std::collections::BTreeMap;
 
 use crate::command::{Command, Kind};
+use crate::image;
+use crate::store::Store;
 
 /// The answer of a command that did what it says; a read's answer is the chute instead.
 pub const DONE: u16 = 1000;
@@ -17,7 +19,7 @@ pub const ANNOUNCED_AGAIN: u16 = 1004;
 #[derive(Clone, Debug, Default, PartialEq, Eq)]
 pub struct Outcome {
     pub answers: Vec<u16>,
-    pub entries: BTreeMap<u64, u16>,
+    pub entries: Entries,
 }
 
 /// Entries laid out as the store is: ascending keys and their chutes, then 0 up to the capacity.
@@ -28,9 +30,21 @@ pub struct Table {
     pub used: usize,
 }
 
+/// The chute of each key that is there.
+pub type Entries = BTreeMap<u64, u16>;
+
 /// Runs the commands in order on an empty store with room for `capacity` entries.
 pub fn run(capacity: usize, commands: &[Command]) -> Outcome {
-    let mut outcome = Outcome::default();
+    run_from(Entries::new(), capacity, commands)
+}
+
+/// The same on a store that has these entries at first: document 02, A.3, "the serial run starts
+/// [..] from that store".
+pub fn run_from(entries: Entries, capacity: usize, commands: &[Command]) -> Outcome {
+    let mut outcome = Outcome {
+        answers: Vec::new(),
+        entries,
+    };
     for command in commands {
         let answer = apply(capacity, &mut outcome.entries, command);
         outcome.answers.push(answer);
@@ -38,8 +52,26 @@ pub fn run(capacity: usize, commands: &[Command]) -> Outcome {
     outcome
 }
 
+/// The image that a run has once its last written checkpoint is that of a place, 0 for none: what
+/// the commands before it leave of these entries, with its place; zeros where there is none.
+pub fn image(entries: Entries, room: u16, commands: &[Command], place: usize) -> Vec<u8> {
+    let Some(before) = place.checked_sub(1) else {
+        return image::zeros(room);
+    };
+    let outcome = run_from(entries, room.into(), &commands[..before]);
+    let table = table(room.into(), &outcome.entries);
+    let store = Store {
+        keys: table.keys,
+        chutes: table.chutes,
+        used: table.used as u16,
+    };
+    let mut image = Vec::new();
+    image::write(&store, place as u16, &mut image);
+    image
+}
+
 /// Lays entries out in a table of `capacity` places; there are no more entries than that.
-pub fn table(capacity: usize, entries: &BTreeMap<u64, u16>) -> Table {
+pub fn table(capacity: usize, entries: &Entries) -> Table {
     let mut keys: Vec<u64> = entries.keys().copied().collect();
     let mut chutes: Vec<u16> = entries.values().copied().collect();
     keys.resize(capacity, 0);
@@ -51,10 +83,10 @@ pub fn table(capacity: usize, entries: &BTreeMap<u64, u16>) -> Table {
     }
 }
 
-/// A worker change reads no entry and changes none.
-fn apply(capacity: usize, entries: &mut BTreeMap<u64, u16>, command: &Command) -> u16 {
+/// A worker change and a checkpoint change no entry.
+fn apply(capacity: usize, entries: &mut Entries, command: &Command) -> u16 {
     match (command.kind, entries.get(&command.key).copied()) {
-        (Kind::Workers, _) => return DONE,
+        (Kind::Workers | Kind::Checkpoint, _) => return DONE,
         (Kind::Insert, Some(_)) => {
             entries.insert(command.key, command.chute);
             return ANNOUNCED_AGAIN;
@@ -183,6 +215,32 @@ mod tests {
                 assert_eq!(outcome.answers[2 * index..][..2], [1000, *answer]);
             }
         }
+    }
+
+    /// Document 02, A.3: kind 6 answers 1000 and changes no entry; a run from a store goes on with its
+    /// entries; and the image is what the commands before the checkpoint leave, with its place.
+    #[test]
+    fn checkpoints_and_a_run_from_a_store() {
+        let commands = [
+            insert(5, 7),
+            Command::CHECKPOINT,
+            insert(3, 8),
+            command(Kind::Read, 9, 0),
+            Command::CHECKPOINT,
+        ];
+        let first = Entries::from([(9, 4)]);
+        let outcome = run_from(first.clone(), 2, &commands);
+        assert_eq!(outcome.answers, [1000, 1000, 1003, 4, 1000]);
+        assert_eq!(outcome.entries, Entries::from([(5, 7), (9, 4)]));
+        let read = |place| {
+            let image = image(first.clone(), 2, &commands, place);
+            let store = image::read(&image).expect("an image");
+            (store.keys, store.chutes, image::place(&image))
+        };
+        assert_eq!(read(0), (vec![0, 0], vec![0, 0], 0));
+        assert_eq!(read(2), (vec![5, 9], vec![7, 4], 2));
+        assert_eq!(read(5), (vec![5, 9], vec![7, 4], 5));
+        assert_eq!(run(2, &commands).answers, [1000, 1000, 1000, 1002, 1000]);
     }
 
     /// Document 01, section "Command list and store": keys ascend, and freed places serve again.

@@ -19,6 +19,12 @@ impl Store {
         }
     }
 
+    /// The entries in use, each a key and its chute.
+    pub fn entries(&self) -> impl Iterator<Item = (u64, u16)> {
+        let entries = self.keys.iter().copied().zip(self.chutes.iter().copied());
+        entries.take(self.used.into())
+    }
+
     pub fn is_full(&self) -> bool {
         self.keys.len() <= self.used.into()
     }

@@ -18,8 +18,8 @@ const LONGEST_ARGUMENT: usize = 100_000;
 /// Reads a list of commands, one a line, or says which line is wrong and why.
 ///
 /// A line is an optional place, the kind, the identifier and the chute if the kind carries one; of a
-/// worker change, which has no identifier to type, the kind and the count: `workers 5`. What stands
-/// behind `#` is a comment; a line may be empty.
+/// worker change, which has no identifier to type, the kind and the count: `workers 5`; of a
+/// checkpoint the kind alone. What stands behind `#` is a comment; a line may be empty.
 pub fn read_list(text: &[u8]) -> Result<Vec<Command>, String> {
     let mut commands = Vec::new();
     for (number, words) in lines(text) {
@@ -55,13 +55,14 @@ pub fn show_command(command: &Command) -> String {
         Kind::Insert | Kind::Update => format!("{name} {text} {}", command.chute),
         Kind::Delete | Kind::Read => format!("{name} {text}"),
         Kind::Workers => format!("{name} {}", command.chute),
+        Kind::Checkpoint => name.to_string(),
     }
 }
 
 /// The identifier of a command as its bytes have it.
 pub fn identifier_text(command: &Command) -> String {
     let text = match command.kind {
-        Kind::Workers => identifier::NONE,
+        Kind::Workers | Kind::Checkpoint => identifier::NONE,
         Kind::Insert | Kind::Delete | Kind::Read | Kind::Update => {
             identifier::text(command.key).expect("the key of a command is not too large")
         }
@@ -77,6 +78,7 @@ pub fn kind_name(kind: Kind) -> &'static str {
         Kind::Read => "read",
         Kind::Update => "update",
         Kind::Workers => "workers",
+        Kind::Checkpoint => "checkpoint",
     }
 }
 
@@ -120,12 +122,23 @@ fn read_command(words: &[&str], place: usize) -> Result<Command, String> {
         .into_iter()
         .find(|known| kind_name(*known) == *kind)
         .ok_or(format!(
-            "unknown kind `{kind}`; the kinds are insert, delete, read, update and workers \
-             (refusal 7)"
+            "unknown kind `{kind}`; the kinds are insert, delete, read, update, workers and \
+             checkpoint (refusal 7)"
         ))?;
-    if kind == Kind::Workers {
-        return read_count(words).map(Command::workers);
+    match kind {
+        Kind::Insert | Kind::Delete | Kind::Read | Kind::Update => read_of_item(kind, words),
+        Kind::Workers => read_count(words).map(Command::workers),
+        Kind::Checkpoint => match words {
+            [] => Ok(Command::CHECKPOINT),
+            [word, ..] => Err(format!(
+                "`{word}` behind checkpoint, which stands alone in its line"
+            )),
+        },
     }
+}
+
+/// Reads what stands behind a kind that names an item.
+fn read_of_item(kind: Kind, words: &[&str]) -> Result<Command, String> {
     let [text, words @ ..] = words else {
         return Err(format!("{} without an identifier", kind_name(kind)));
     };
@@ -198,7 +211,7 @@ fn read_count(words: &[&str]) -> Result<u8, String> {
     }
 }
 
-/// What is wrong with the characters that stand for an identifier in a worker change.
+/// What is wrong with the characters that stand for an identifier in a worker change or checkpoint.
 fn not_0(characters: &[String], fault: Fault) -> String {
     let number = fault.character;
     format!("character {number} is `{}`, not 0", characters[number - 1])
@@ -277,7 +290,8 @@ insert AA000000005AA 7
 delete ZZ999999995ZZ\r
 4 update RR473124829GB 512
 workers 64 # from here on
-6 workers 1";
+6 workers 1
+7 checkpoint";
 
     fn fault(list: &str) -> String {
         read_list(list.as_bytes()).expect_err(list)
@@ -297,6 +311,7 @@ workers 64 # from here on
             "update RR473124829GB 512",
             "workers 64",
             "workers 1",
+            "checkpoint",
         ];
         assert_eq!(shown, expected);
         assert_eq!(read_list(b""), Ok(vec![]));
@@ -307,14 +322,14 @@ workers 64 # from here on
     const FAULTS: &[(&str, &str)] = &[
         (
             "Insert AA000000005AA 7",
-            "unknown kind `Insert`; the kinds are insert, delete, read, update and workers \
-             (refusal 7)",
+            "unknown kind `Insert`; the kinds are insert, delete, read, update, workers and \
+             checkpoint (refusal 7)",
         ),
-        ("7", "a place and no command"),
-        ("4 read AA000000005AA", "place 4, but this is command 7"),
+        ("8", "a place and no command"),
+        ("4 read AA000000005AA", "place 4, but this is command 8"),
         (
             "99999999999999999999 read AA000000005AA",
-            "place 99999999999999999999, but this is command 7",
+            "place 99999999999999999999, but this is command 8",
         ),
         ("read", "read without an identifier"),
         (
@@ -371,7 +386,7 @@ workers 64 # from here on
             "`x` behind the identifier, but delete carries no chute (refusal 10)",
         ),
         ("workers", "workers without a count, 1 to 64"),
-        ("7 workers", "workers without a count, 1 to 64"),
+        ("8 workers", "workers without a count, 1 to 64"),
         ("workers 0", "count `0` is not 1 to 64 (refusal 14)"),
         ("workers 65", "count `65` is not 1 to 64 (refusal 14)"),
         ("workers 257", "count `257` is not 1 to 64 (refusal 14)"),
@@ -383,18 +398,26 @@ workers 64 # from here on
         ),
         (
             "Workers 5",
-            "unknown kind `Workers`; the kinds are insert, delete, read, update and workers \
-             (refusal 7)",
+            "unknown kind `Workers`; the kinds are insert, delete, read, update, workers and \
+             checkpoint (refusal 7)",
+        ),
+        (
+            "checkpoint 0",
+            "`0` behind checkpoint, which stands alone in its line",
+        ),
+        (
+            "8 checkpoint 0000000000000",
+            "`0000000000000` behind checkpoint, which stands alone in its line",
         ),
     ];
 
-    /// Each fault, put behind the lines of a right list, is found at line 9 with these words.
+    /// Each fault, put behind the lines of a right list, is found at line 10 with these words.
     #[test]
     fn each_fault_is_told_with_its_line() {
         for (line, words) in FAULTS {
             assert_eq!(
                 fault(&format!("{LIST}\n{line}\n")),
-                format!("line 9: {words}")
+                format!("line 10: {words}")
             );
         }
     }
@@ -436,8 +459,10 @@ workers 64 # from here on
 
     fn random_command(random: &mut Random) -> Command {
         let kind = random.pick(&Kind::ALL);
-        if kind == Kind::Workers {
-            return Command::workers(1 + random.below(64) as u8);
+        match kind {
+            Kind::Workers => return Command::workers(1 + random.below(64) as u8),
+            Kind::Checkpoint => return Command::CHECKPOINT,
+            Kind::Insert | Kind::Delete | Kind::Read | Kind::Update => {}
         }
         let chute = if kind.carries_chute() {
             1 + random.below(512) as u16

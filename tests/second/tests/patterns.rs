@@ -18,12 +18,13 @@ fn command(kind: Kind, key: u64, chute: u16) -> Command {
     Command { kind, key, chute }
 }
 
-/// A command of this kind on key 0, or a change to one worker.
+/// A command of this kind on key 0, a change to one worker, or a checkpoint.
 fn of_kind(kind: Kind) -> Command {
     match kind {
         Kind::Insert | Kind::Update => command(kind, 0, 7),
         Kind::Delete | Kind::Read => command(kind, 0, 0),
         Kind::Workers => Command::workers(1),
+        Kind::Checkpoint => Command::CHECKPOINT,
     }
 }
 
@@ -93,8 +94,8 @@ fn round_robin_finishes() {
     }
 }
 
-/// The same with worker changes, one turn each up to the largest count of the opening and the list:
-/// it finishes within as many rounds, with that count for w.
+/// The same with worker changes and checkpoints, one turn each up to the largest count of the opening
+/// and the list: it finishes within as many rounds, with that count for w.
 #[test]
 fn round_robin_by_the_largest_count_finishes() {
     let mut random = Random::new(20261116);
@@ -105,11 +106,12 @@ fn round_robin_by_the_largest_count_finishes() {
         let keys = 1 + random.below(6);
         let most = 1 + random.below(if case % 20 == 0 { 64 } else { 8 });
         let commands: Vec<Command> = (0..count)
-            .map(|_| match random.below(6) {
+            .map(|_| match random.below(7) {
                 0 => command(Kind::Insert, random.below(keys), 7),
                 1 => command(Kind::Delete, random.below(keys), 0),
                 2 => command(Kind::Read, random.below(keys), 0),
                 3 => command(Kind::Update, random.below(keys), 9),
+                4 => Command::CHECKPOINT,
                 _ => Command::workers(1 + random.below(most) as u8),
             })
             .collect();

@@ -61,7 +61,7 @@ fn the_worked_example_is_drawn_as_it_is_kept() {
 
 /// The example of a day with two shifts: worker 3, which only the first change allows, holds the
 /// second and removes it above its count; worker 2 searches at its writing and takes nothing; both
-/// rest then, and worker 1 alone takes what is left.
+/// rest then, and worker 1 alone takes what is left, a checkpoint last.
 #[test]
 fn the_example_with_shifts_is_drawn_as_it_is_kept() {
     let (output, picture) = drawn_as_kept("shifts", "1");
@@ -69,7 +69,8 @@ fn the_example_with_shifts_is_drawn_as_it_is_kept() {
         output,
         "1 insert RR473124829GB 1000\n2 workers 0000000000000 1000\n3 read RR473124829GB 3\n\
          4 insert AA000000005AA 1000\n5 read RR473124829GB 3\n6 workers 0000000000000 1000\n\
-         7 read AA000000005AA 7\n8 update AA000000005AA 1000\nstore 2 chain 0\n"
+         7 read AA000000005AA 7\n8 update AA000000005AA 1000\n\
+         9 checkpoint 0000000000000 1000\nstore 2 chain 0\n"
     );
     for told in [
         "turn 3, worker 2: waits, above the worker count 1",
@@ -84,6 +85,8 @@ fn the_example_with_shifts_is_drawn_as_it_is_kept() {
         "92 by worker 1",
         "100 by worker 1",
         "Worker count in force: 1 from the opening; 3 from turn 20; 1 from turn 75.",
+        "turn 112, worker 1: writes answer 1000 of command 9",
+        "Image: zeros from the opening; place 9 and 2 entries from turn 112.",
     ] {
         assert!(picture.contains(&format!(">{told}<")), "{told}");
     }
@@ -131,6 +134,22 @@ fn worker_changes_are_packed_and_unpacked() {
         assert_eq!((status, output), (Some(1), Vec::new()));
         assert_eq!(told, format!("depot_text: {words}\n"));
     }
+}
+
+/// Document 02, A.3, for a person: a checkpoint stands alone in its line, is packed as thirteen
+/// characters 0 and chute 0, and is shown again.
+#[test]
+fn checkpoints_are_packed_and_unpacked() {
+    let (status, packed, _) = run(TEXT, &SETTINGS, b"checkpoint\n2 checkpoint # again\n");
+    assert_eq!(status, Some(0));
+    assert_eq!(packed[6..22], *b"\x060000000000000\x00\x00");
+    let (_, shown, _) = run(TEXT, &["unpack"], &packed);
+    let shown = String::from_utf8(shown).unwrap();
+    assert!(shown.ends_with("\n1 checkpoint\n2 checkpoint\n"), "{shown}");
+    let (status, output, told) = run(TEXT, &SETTINGS, b"checkpoint 3");
+    assert_eq!((status, output), (Some(1), Vec::new()));
+    let words = "line 1: `3` behind checkpoint, which stands alone in its line";
+    assert_eq!(told, format!("depot_text: {words}\n"));
 }
 
 #[test]
@@ -189,7 +208,10 @@ fn options_that_are_not_understood_end_with_2_and_the_usage() {
         let (status, output, words) = run(program, options, b"");
         assert_eq!((status, output), (Some(2), Vec::new()), "{options:?}");
         assert!(words.contains("usage: depot_"), "{words}");
-        assert_eq!(words.contains("workers COUNT"), program == TEXT);
+        assert_eq!(
+            words.contains("workers COUNT | checkpoint"),
+            program == TEXT
+        );
     }
 }
 

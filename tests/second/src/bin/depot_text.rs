@@ -15,7 +15,7 @@ usage: depot_text pack --size N --workers N --room N [TURNS] < list.txt > input.
 TURNS: --turns \"0 1 ..\" | --turns-file FILE | --round-robin COUNT | --random SEED COUNT
 list.txt has a line a command, with its place before it or without:
        insert IDENTIFIER CHUTE | update IDENTIFIER CHUTE | delete IDENTIFIER | read IDENTIFIER |
-       workers COUNT
+       workers COUNT | checkpoint
 Behind # is a comment. Turns go to parties 0 up to the largest of --workers and the list's counts.";
 
 /// Why there is no output.

@@ -288,7 +288,11 @@ impl Page<'_> {
                 let place = frame.place(record);
                 let looks = match self.input.commands[usize::from(place) - 1].kind {
                     Kind::Read => "looks up and ",
-                    Kind::Insert | Kind::Delete | Kind::Update | Kind::Workers => "",
+                    Kind::Insert
+                    | Kind::Delete
+                    | Kind::Update
+                    | Kind::Workers
+                    | Kind::Checkpoint => "",
                 };
                 format!("{looks}writes answer {answer} of command {place}")
             }

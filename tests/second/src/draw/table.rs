@@ -15,6 +15,9 @@ side.";
 const RULE_OF_CHANGES: &str = "A change of the workers waits for every earlier command, and every \
 later one waits for it. From its writing turn a worker above the new count begins no search and \
 takes no command.";
+/// What is added where it has a checkpoint.
+const RULE_OF_CHECKPOINTS: &str = "A checkpoint waits for every earlier command, and every later \
+one waits for it. Its writing turn puts the store into the image.";
 /// The most commands that the table names.
 const MOST: usize = 24;
 /// Where each column begins, and its heading.
@@ -33,20 +36,34 @@ const COLUMNS: [(f64, &str); 9] = [
 /// The height of the table and the space below it.
 pub fn height(trace: &Trace, input: &Input) -> f64 {
     let rows = trace.lives.len().min(MOST) + usize::from(left_out(trace, input).is_some());
-    let changes = if input.changes_workers() { 3.5 } else { 0.0 };
-    (rows as f64 + 3.2 + changes) * LINE + GAP
+    let [changes, checkpoints] = [input.changes_workers(), input.has_checkpoints()];
+    let below = 2 * usize::from(changes) + usize::from(checkpoints);
+    let space = if below > 0 { 0.5 } else { 0.0 };
+    ((rows + rules(input).len() + below) as f64 + 2.2 + space) * LINE + GAP
+}
+
+/// The rule, and what is added to it.
+fn rules(input: &Input) -> Vec<&'static str> {
+    let mut rules = vec![RULE];
+    if input.changes_workers() {
+        rules.push(RULE_OF_CHANGES);
+    }
+    if input.has_checkpoints() {
+        rules.push(RULE_OF_CHECKPOINTS);
+    }
+    rules
 }
 
 impl Page<'_> {
     pub fn draw_table(&self, svg: &mut Svg) {
         let top = self.table_top;
         svg.text("section", RIGHT, top, HEADING);
-        svg.text("cell", RIGHT, top + LINE, RULE);
-        let mut y = top + 2.2 * LINE;
-        if self.input.changes_workers() {
-            svg.text("cell", RIGHT, top + 2.0 * LINE, RULE_OF_CHANGES);
+        let mut y = top + LINE;
+        for rule in rules(self.input) {
+            svg.text("cell", RIGHT, y, rule);
             y += LINE;
         }
+        y += 0.2 * LINE;
         for (x, heading) in COLUMNS {
             svg.text("column", RIGHT + x, y, heading);
         }
@@ -61,10 +78,35 @@ impl Page<'_> {
             svg.text("cell", RIGHT, y, &words);
             y += LINE;
         }
+        let mut below = Vec::new();
         if self.input.changes_workers() {
-            svg.text("cell", RIGHT, y + 0.5 * LINE, &self.counts());
-            svg.text("cell", RIGHT, y + 1.5 * LINE, &self.rests());
+            below.extend([self.counts(), self.rests()]);
         }
+        if self.input.has_checkpoints() {
+            below.push(self.images());
+        }
+        for (index, words) in below.iter().enumerate() {
+            svg.text("cell", RIGHT, y + (index as f64 + 0.5) * LINE, words);
+        }
+    }
+
+    /// Which image stood from which turn on.
+    fn images(&self) -> String {
+        let mut words = vec!["Image: zeros from the opening".to_string()];
+        for (index, life) in self.trace.lives.iter().enumerate() {
+            let checkpoint = self.input.commands[index].kind == Kind::Checkpoint;
+            if let (true, Some((turn, _))) = (checkpoint, life.written) {
+                let entries = match self.trace.frames[turn].used {
+                    1 => "1 entry".to_string(),
+                    used => format!("{used} entries"),
+                };
+                words.push(format!(
+                    "place {} and {entries} from turn {turn}",
+                    index + 1
+                ));
+            }
+        }
+        self.within(0.0, words) + "."
     }
 
     /// Which count was in force from which turn on.
@@ -149,12 +191,13 @@ impl Page<'_> {
     }
 }
 
-/// Why a command waits for an earlier one that it depends on. None but a worker change waits for a
-/// read or an update of another item.
+/// Why a command waits for an earlier one that it depends on. None but a worker change or a
+/// checkpoint waits for a read or an update of another item.
 fn why(earlier: &Command, later: &Command) -> &'static str {
     match (earlier.kind, later.kind, earlier.key == later.key) {
         (Kind::Workers, ..) => "workers change",
-        (_, Kind::Workers, _) => "any command",
+        (Kind::Checkpoint, ..) => "a checkpoint",
+        (_, Kind::Workers | Kind::Checkpoint, _) => "any command",
         (Kind::Insert, _, false) => "an insert",
         (Kind::Delete, _, false) => "a delete",
         (Kind::Read | Kind::Update, _, false) | (_, _, true) => "same item",

@@ -10,6 +10,8 @@ pub struct Frame {
     pub loaded: u16,
     /// The worker count in force.
     pub in_force: u8,
+    /// How many entries the store has.
+    pub used: u16,
     pub records: Records,
     pub parties: Vec<Party>,
 }
@@ -168,6 +170,7 @@ impl Frame {
         Frame {
             loaded: run.loaded,
             in_force: run.in_force,
+            used: run.store.used,
             records: run.records.clone(),
             parties: run.parties.to_vec(),
         }
@@ -377,7 +380,7 @@ mod tests {
         for kind in Kind::ALL {
             let chute = match kind {
                 Kind::Insert | Kind::Update | Kind::Workers => 7,
-                Kind::Delete | Kind::Read => 0,
+                Kind::Delete | Kind::Read | Kind::Checkpoint => 0,
             };
             let trace = trace(1, 1, vec![command(kind, chute)], &[0, 0, 1, 1, 1, 1, 1]);
             let wrote = |turn: &Turn| matches!(turn.outcome, Outcome::Wrote { .. });
@@ -386,7 +389,7 @@ mod tests {
             assert_eq!(writing[..4], [false; 4]);
             assert_eq!(writing[4..], [sooner, !sooner, false], "{kind:?}");
             let answer = match kind {
-                Kind::Insert | Kind::Workers => 1000,
+                Kind::Insert | Kind::Workers | Kind::Checkpoint => 1000,
                 Kind::Delete | Kind::Read | Kind::Update => 1002,
             };
             let turn = if sooner { 5 } else { 6 };

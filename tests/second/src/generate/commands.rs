@@ -1,5 +1,6 @@
 //! Single commands, and commands for lists and pairs.
 
+use super::checkpoints;
 use super::counts;
 use super::faults::{self, one_fault, two_faults, wrong_at, wrong_check_digits};
 use super::{
@@ -91,6 +92,7 @@ pub fn with_key(random: &mut Random, kind: Kind, key: u64) -> Vec<u8> {
             let count = random_count(random);
             return workers(count);
         }
+        Kind::Checkpoint => return checkpoint(0),
     };
     encode(kind.number(), &text(key), chute)
 }
@@ -98,6 +100,11 @@ pub fn with_key(random: &mut Random, kind: Kind, key: u64) -> Vec<u8> {
 /// A worker change with this count, right or not.
 pub fn workers(count: u16) -> Vec<u8> {
     encode(Kind::Workers.number(), &identifier::NONE, count)
+}
+
+/// A checkpoint with this chute, right if it is 0.
+pub fn checkpoint(chute: u16) -> Vec<u8> {
+    encode(Kind::Checkpoint.number(), &identifier::NONE, chute)
 }
 
 /// A right count, mostly a small one.
@@ -108,12 +115,13 @@ pub fn random_count(random: &mut Random) -> u16 {
     }
 }
 
-/// A command that is right, or has one fault or any set of them, or a worker change.
+/// A command that is right, or has one fault or any set of them, or a worker change or checkpoint.
 pub fn perhaps_wrong(random: &mut Random) -> Vec<u8> {
-    let faults = match random.below(5) {
+    let faults = match random.below(6) {
         0 => random.pick(&FAULTS),
         1 => random.below(FAULT_SETS.into()) as u8,
         2 => return counts::perhaps_wrong(random),
+        3 => return checkpoints::perhaps_wrong(random),
         _ => 0,
     };
     with_faults(random, faults)
@@ -137,7 +145,7 @@ pub fn with_faults(random: &mut Random, faults: u8) -> Vec<u8> {
         damage(random, &mut bytes, |position| LETTERS.contains(&position));
     }
     if faults & WRONG_KIND != 0 {
-        bytes[0] = random.pick(&[0, 6, 7, 255]);
+        bytes[0] = random.pick(&[0, 7, 8, 255]);
     }
     bytes
 }

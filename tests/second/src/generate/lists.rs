@@ -8,9 +8,12 @@ use crate::identifier::NONE;
 use crate::random::Random;
 
 /// Commands in a list that has a fault at each place.
-pub const EVERYWHERE: usize = 16;
+const EVERYWHERE: usize = 16;
 /// Commands in a list that has two faults at each two places.
 const TWICE: usize = 6;
+
+/// Other commands, right or not, in the place of a right one.
+type Others<'a> = &'a dyn Fn(&mut Random, &[u8]) -> Vec<Vec<u8>>;
 
 pub fn cases(random: &mut Random) -> Vec<Case> {
     let lists = [
@@ -20,10 +23,10 @@ pub fn cases(random: &mut Random) -> Vec<Case> {
         repeat(300, random, list_with_tail),
         named_at_both_ends(),
         repeat(20, random, one_fault_everywhere).concat(),
-        repeat(3, random, broken_everywhere).concat(),
+        repeat(3, random, |random| everywhere(random, &each_character)).concat(),
         two_refused(random),
         long_lists(random),
-        broken_far(random),
+        far(random, &each_character),
     ];
     lists.concat().into_iter().map(opening).collect()
 }
@@ -52,8 +55,8 @@ fn two_perhaps_wrong(random: &mut Random) -> Vec<u8> {
     repeat(2, random, perhaps_wrong).concat()
 }
 
-/// The kinds, chutes and counts at their bounds and the texts of document 01's refusals and of a
-/// worker change, each command at the first place and at the last.
+/// The kinds, chutes and counts at their bounds and the texts of document 01's refusals and of worker
+/// changes and checkpoints, each command at the first place and at the last.
 fn named_at_both_ends() -> Vec<Vec<u8>> {
     const RIGHT: &[u8; 13] = b"AA000000005AA";
     let texts = [
@@ -65,7 +68,7 @@ fn named_at_both_ends() -> Vec<Vec<u8>> {
     ];
     let good = encode(3, RIGHT, 0);
     let mut lists = Vec::new();
-    for kind in [0, 1, 2, 3, 4, 5, 6, 255] {
+    for kind in [0, 1, 2, 3, 4, 5, 6, 7, 255] {
         for text in texts {
             for chute in [0, 1, 64, 65, 512, 513, 65_535] {
                 let it = encode(kind, text, chute);
@@ -87,39 +90,36 @@ fn list_with_tail(random: &mut Random) -> Vec<u8> {
 
 /// One list of 16 right commands, with a fault put into one command of it, for each of them.
 fn one_fault_everywhere(random: &mut Random) -> Vec<Vec<u8>> {
-    let list = right_commands(random, EVERYWHERE);
-    (0..EVERYWHERE)
-        .map(|index| {
-            let fault = random.pick(&FAULTS);
-            with_command(&list, index, &with_faults(random, fault))
-        })
-        .collect()
+    everywhere(random, &|random, _| {
+        let fault = random.pick(&FAULTS);
+        vec![with_faults(random, fault)]
+    })
 }
 
-/// One list of 16 right commands, with one identifier of it broken in every way that is told
-/// apart, for each of them.
-fn broken_everywhere(random: &mut Random) -> Vec<Vec<u8>> {
-    let list = right_commands(random, EVERYWHERE);
-    (0..EVERYWHERE)
-        .flat_map(|index| broken_at(random, &list, index))
-        .collect()
+/// One list of 16 right commands, with the others put into it at each place, one at a time.
+pub fn everywhere(random: &mut Random, others: Others) -> Vec<Vec<u8>> {
+    replaced(random, EVERYWHERE, 0..EVERYWHERE, others)
 }
 
 /// The same at places whose number ends a byte or begins one, and at the last.
-fn broken_far(random: &mut Random) -> Vec<Vec<u8>> {
-    let list = right_commands(random, MOST_COMMANDS);
-    [255, 256, 257, 4095, 4096]
-        .into_iter()
-        .flat_map(|place| broken_at(random, &list, place - 1))
-        .collect()
+pub fn far(random: &mut Random, others: Others) -> Vec<Vec<u8>> {
+    let places = [255, 256, 257, 4095, MOST_COMMANDS];
+    replaced(random, MOST_COMMANDS, places.map(|place| place - 1), others)
 }
 
-fn broken_at(random: &mut Random, list: &[u8], index: usize) -> Vec<Vec<u8>> {
-    let right = &list[index * LENGTH..][..LENGTH];
-    each_character(random, right)
-        .iter()
-        .map(|broken| with_command(list, index, broken))
-        .collect()
+fn replaced(
+    random: &mut Random,
+    count: usize,
+    indexes: impl IntoIterator<Item = usize>,
+    others: Others,
+) -> Vec<Vec<u8>> {
+    let list = right_commands(random, count);
+    let mut lists = Vec::new();
+    for index in indexes {
+        let others = others(random, &list[index * LENGTH..][..LENGTH]);
+        lists.extend(others.iter().map(|it| with_command(&list, index, it)));
+    }
+    lists
 }
 
 /// One list of 6 right commands with each two faults put into each two of them; the first counts.
@@ -137,7 +137,7 @@ fn two_refused(random: &mut Random) -> Vec<Vec<u8>> {
     lists
 }
 
-pub fn with_command(list: &[u8], index: usize, command: &[u8]) -> Vec<u8> {
+fn with_command(list: &[u8], index: usize, command: &[u8]) -> Vec<u8> {
     let mut list = list.to_vec();
     list[index * LENGTH..][..LENGTH].copy_from_slice(command);
     list

@@ -1,11 +1,14 @@
 //! Compared runs of the whole depot, made from a seed: openings, schedules of every sort fed whole
 //! and in pieces, refused calls between them, items announced again, reads beside other commands,
-//! commands that pass inserts and deletes, worker counts that change, handed-back lists that were
-//! changed, and the program.
+//! commands that pass inserts and deletes, worker counts that change, checkpoints, runs that are
+//! opened from the images of others, handed-back lists that were changed, and the program.
 
 mod announcements;
 mod changes;
+mod checkpoints;
 mod dealings;
+#[cfg(test)]
+mod flaws;
 mod limits;
 pub(super) mod openings;
 mod passes;
@@ -15,6 +18,7 @@ mod schedules;
 #[cfg(test)]
 mod services;
 mod shifts;
+mod swaps;
 
 use super::Sort;
 use crate::calls::{COUNTS, STATUSES};
@@ -24,13 +28,16 @@ use crate::script::{List, Step};
 use openings::Opening;
 
 /// How many runs are always compared, whatever the seed adds to them.
-pub const FIXED: u64 = SHIFTS + shifts::COUNT;
+pub const FIXED: u64 = SWAPS + swaps::COUNT;
 /// Where those with items announced again begin, those with reads beside other commands, those with
-/// commands that pass inserts and deletes, and those with worker counts that change.
+/// commands that pass inserts and deletes, those with worker counts that change, those with
+/// checkpoints and those that are swapped for another.
 const ANNOUNCEMENTS: u64 = limits::COUNT + LONG;
 const READS: u64 = ANNOUNCEMENTS + announcements::COUNT;
 const PASSES: u64 = READS + reads::COUNT;
 const SHIFTS: u64 = PASSES + passes::COUNT;
+const CHECKPOINTS: u64 = SHIFTS + shifts::COUNT;
+const SWAPS: u64 = CHECKPOINTS + checkpoints::COUNT;
 /// Long runs among them.
 const LONG: u64 = 14;
 /// Random runs come in rounds of this many kinds.
@@ -44,6 +51,8 @@ const SHORT: usize = 300;
 pub fn sort(index: u64) -> Sort {
     match index.checked_sub(FIXED) {
         Some(index) if index % ROUND == PROGRAM => Sort::Programs,
+        None if index >= SWAPS => Sort::Swaps,
+        None if index >= CHECKPOINTS => Sort::Checkpoints,
         None if index >= SHIFTS => Sort::Shifts,
         None if index >= PASSES => Sort::Passes,
         None if index >= READS => Sort::Reads,
@@ -70,8 +79,14 @@ pub fn play(seed: u64, index: u64, play: &mut Play) -> Result<(), Difference> {
     if index < SHIFTS {
         return passes::play(index - PASSES, random, play);
     }
-    if index < FIXED {
+    if index < CHECKPOINTS {
         return shifts::play(index - SHIFTS, random, play);
+    }
+    if index < SWAPS {
+        return checkpoints::play(index - CHECKPOINTS, random, play);
+    }
+    if index < FIXED {
+        return swaps::play(index - SWAPS, random, play);
     }
     let index = index - FIXED;
     match index % ROUND {
@@ -189,7 +204,7 @@ fn apart(
 
 /// Hands one list over in a wrong length.
 fn wrong_length(random: &mut Random, play: &mut Play) -> Result<(), Difference> {
-    let list = random.pick(&List::ALL[..5]);
+    let list = random.pick(&List::HANDED);
     let length = play.host().list(list).len() as i64;
     let by = random.pick(&[-16, -8, -2, -1, 1, 2, 8, 16, -length]);
     play.take(Step::Resize(list, (length + by).max(0) as usize))?;
@@ -211,8 +226,9 @@ mod tests {
 
     use super::*;
     use crate::bytes::Lists;
-    use crate::calls::{Asked, LentLists};
+    use crate::calls::{Given, LentLists};
     use crate::depot::{Depot, Second};
+    use crate::generate::images;
 
     /// The second program, which counts how often each call gives each refusal number.
     #[derive(Default)]
@@ -240,8 +256,9 @@ mod tests {
     }
 
     impl Depot for Counting {
-        fn open(&self, lent: &mut LentLists, commands: &[u8], settings: Asked) -> u64 {
-            self.count("open", Second.open(lent, commands, settings))
+        fn open(&self, lent: &mut LentLists, given: Given) -> u64 {
+            let call = given.source.map_or("open", |_| "open_from");
+            self.count(call, Second.open(lent, given))
         }
 
         fn advance(&self, lent: &mut LentLists, commands: &[u8], schedule: &[u8]) -> u64 {
@@ -284,13 +301,21 @@ mod tests {
         for index in (0..limits::COUNT).chain(FIXED..FIXED + 4000) {
             play(1, index, &mut Play::new(&depot)).expect("the second program is itself");
         }
-        for case in programs::limits(&mut Random::new(1)) {
+        let openings = images::with_commands(&mut Random::new(1));
+        for case in programs::limits(&mut Random::new(1))
+            .into_iter()
+            .chain(openings)
+        {
             let played = Play::new(&depot).take_all(case);
             played.expect("the second program is itself");
         }
         assert_eq!(
             depot.met("open"),
             [0, 1, 2, 3, 4, 5, 6, 7, 8, 9, 10, 13, 14]
+        );
+        assert_eq!(
+            depot.met("open_from"),
+            [0, 1, 2, 3, 4, 5, 6, 7, 8, 9, 10, 13, 14, 15, 16]
         );
         assert_eq!(depot.met("advance"), [0, 6, 11, 12]);
         assert_eq!(depot.met("pending_counts"), [0, 6, 12]);

@@ -80,6 +80,11 @@ impl Input {
         largest_count(self.settings.workers, &self.commands)
     }
 
+    /// Whether the list has a checkpoint.
+    pub fn has_checkpoints(&self) -> bool {
+        self.commands.iter().any(|it| it.kind == Kind::Checkpoint)
+    }
+
     /// Whether the list changes the worker count.
     pub fn changes_workers(&self) -> bool {
         self.commands.iter().any(|it| it.kind == Kind::Workers)
@@ -150,14 +155,14 @@ fn list_fault(list: &[u8], fault: Fault) -> Refused {
     let part = &list[(fault.place - 1) * LENGTH..][..LENGTH];
     let chute = u16::from_be_bytes([part[14], part[15]]);
     let words = match fault.refusal {
-        Refusal::Kind => format!("kind {} is not 1 to 5", part[0]),
+        Refusal::Kind => format!("kind {} is not 1 to 6", part[0]),
         Refusal::Chute => format!("chute {chute} is wrong for kind {}", part[0]),
         Refusal::Count => format!("worker count {chute} is not 1 to {LARGEST_COUNT}"),
         _ => {
             let shown = |byte: &u8| byte.escape_ascii().to_string();
             let characters: Vec<String> = part[1..=identifier::LENGTH].iter().map(shown).collect();
             let words = match Kind::from_number(part[0]) {
-                Some(Kind::Workers) => super::not_0(&characters, fault),
+                Some(Kind::Workers | Kind::Checkpoint) => super::not_0(&characters, fault),
                 _ => super::identifier_fault(&characters, fault),
             };
             format!("identifier \"{}\": {words}", characters.concat())
@@ -176,7 +181,7 @@ mod tests {
     use crate::bytes::{KEY, NUMBER, STATE};
     use crate::depot::Second;
     use crate::host::Host;
-    use crate::script::Step;
+    use crate::script::{Open, Step};
 
     /// The example with one byte changed.
     fn with_byte(position: usize, byte: u8) -> Vec<u8> {
@@ -198,7 +203,7 @@ mod tests {
         (0, 0, "refused 1: graph size 0 is not 1 to 150"),
         (1, 65, "refused 2: workers 65 is not 1 to 64"),
         (2, 16, "refused 3: room 4100 is not 1 to 4096"),
-        (22, 6, "refused 7: command 2: kind 6 is not 1 to 5"),
+        (22, 7, "refused 7: command 2: kind 7 is not 1 to 6"),
         (
             22,
             5,
@@ -296,13 +301,18 @@ mod tests {
     fn called(bytes: &[u8]) -> u64 {
         let room = usize::from(u16::from_be_bytes([bytes[2], bytes[3]]));
         let steps = [
-            Step::Lend([STATE, room * KEY, room * NUMBER, 2 * NUMBER]),
-            Step::Open {
-                size: bytes[0].into(),
-                workers: bytes[1].into(),
-                room: room as u64,
+            Step::Lend([
+                STATE,
+                room * KEY,
+                room * NUMBER,
+                2 * NUMBER,
+                16 * (room + 1),
+            ]),
+            Step::Open(Open {
+                settings: [bytes[0].into(), bytes[1].into(), room as u64],
                 commands: bytes[6..38].to_vec(),
-            },
+                source: None,
+            }),
             Step::Advance(bytes[38..].to_vec()),
         ];
         let mut host = Host::default();

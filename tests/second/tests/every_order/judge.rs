@@ -2,23 +2,33 @@
 
 use second::command::Kind;
 use second::run::{HEAD, Party, Run};
-use second::serial::{self, Outcome, Table};
+use second::serial::{self, Entries, Outcome, Table};
 
 use crate::met::Pass;
 
 /// What the serial run gives.
 #[derive(Debug)]
 pub struct Judge {
-    outcome: Outcome,
+    pub outcome: Outcome,
     table: Table,
+    /// The image once the checkpoint of a place is the last that is written; the first is that of
+    /// none, and those of other commands are of no use.
+    images: Vec<Vec<u8>>,
 }
 
 impl Judge {
-    pub fn of(run: &Run) -> Judge {
-        let room = run.settings.room.into();
-        let outcome = serial::run(room, &run.commands);
-        let table = serial::table(room, &outcome.entries);
-        Judge { outcome, table }
+    /// The judge of a run whose store had these entries at its opening.
+    pub fn of(run: &Run, entries: &Entries) -> Judge {
+        let room = run.settings.room;
+        let outcome = serial::run_from(entries.clone(), room.into(), &run.commands);
+        let table = serial::table(room.into(), &outcome.entries);
+        let places = 0..=run.commands.len();
+        let image = |place| serial::image(entries.clone(), room, &run.commands, place);
+        Judge {
+            outcome,
+            table,
+            images: places.map(image).collect(),
+        }
     }
 
     pub fn hold(&self, run: &Run) {
@@ -39,6 +49,18 @@ impl Judge {
         }
         run.chain().for_each(|record| hold_set(run, record));
         assert_eq!(run.in_force, in_force(run), "{:?}", run.commands);
+        self.hold_image(run);
+    }
+
+    /// Document 02, A.3: the image is that of the last checkpoint that is written, with what the
+    /// commands delivered before it leave, and zeros before any.
+    fn hold_image(&self, run: &Run) {
+        let last = (1..=run.commands.len()).rfind(|place| {
+            let kind = run.commands[place - 1].kind;
+            kind == Kind::Checkpoint && is_written(run, *place as u16)
+        });
+        let right = &self.images[last.unwrap_or(0)];
+        assert_eq!(run.image.as_ref(), Some(right), "{:?}", run.commands);
     }
 }
 
@@ -83,18 +105,19 @@ enum Order {
     Never,
 }
 
-/// Documents 01 and 02, A.2 and A.5, by hand: a row for each kind of the one, a column for the
+/// Documents 01 and 02, A.2, A.3 and A.5, by hand: a row for each kind of the one, a column for the
 /// other.
 #[rustfmt::skip]
-const ORDER: [[Order; 5]; 5] = {
+const ORDER: [[Order; 6]; 6] = {
     use Order::{Always, Never, OneItem};
     [
-        // insert   delete   read     update   workers
-        [Always,  Always,  OneItem, OneItem, Always], // insert
-        [Always,  Always,  OneItem, OneItem, Always], // delete
-        [OneItem, OneItem, Never,   OneItem, Always], // read
-        [OneItem, OneItem, OneItem, OneItem, Always], // update
-        [Always,  Always,  Always,  Always,  Always], // workers
+        // insert   delete   read     update   workers  checkpoint
+        [Always,  Always,  OneItem, OneItem, Always,  Always], // insert
+        [Always,  Always,  OneItem, OneItem, Always,  Always], // delete
+        [OneItem, OneItem, Never,   OneItem, Always,  Always], // read
+        [OneItem, OneItem, OneItem, OneItem, Always,  Always], // update
+        [Always,  Always,  Always,  Always,  Always,  Always], // workers
+        [Always,  Always,  Always,  Always,  Always,  Always], // checkpoint
     ]
 };
 
@@ -142,8 +165,9 @@ fn hold_set(run: &Run, record: u8) {
     assert_eq!([set[0] & 1, set[1], set[2]], [0; 3]);
 }
 
-/// Holds a turn that is no wait: the worker's state after it is one that the steps name, and the
-/// store changes at no turn but the writing turn of a kind that writes in it.
+/// Holds a turn that is no wait: the worker's state after it is one that the steps name, the store
+/// changes at no turn but the writing turn of a kind that writes in it, and the image at no turn but
+/// that of a checkpoint.
 pub fn hold_turn(run: &Run, party: u8, after: &Run) {
     let [before, now] = [run, after].map(|run| run.parties[usize::from(party)]);
     let kind = before
@@ -157,6 +181,9 @@ pub fn hold_turn(run: &Run, party: u8, after: &Run) {
     );
     let writes = matches!(before, Party::LookedUp { .. });
     assert!(writes || after.store == run.store, "{before:?}, {kind:?}");
+    let images = writes && kind == Some(Kind::Checkpoint);
+    assert!(images || after.image == run.image, "{before:?}, {kind:?}");
+    assert!(!images || after.store == run.store, "{before:?}");
 }
 
 /// Whether a worker's turn leads from one state to the other (document 01, "Records and turns").
@@ -168,7 +195,7 @@ fn follows(before: Party, now: Party, kind: Option<Kind>) -> bool {
         | (Party::LookedUp { .. }, Party::Written { .. }) => {
             matches!(
                 kind,
-                Some(Kind::Insert | Kind::Delete | Kind::Update | Kind::Workers)
+                Some(Kind::Insert | Kind::Delete | Kind::Update | Kind::Workers | Kind::Checkpoint)
             )
         }
         (Party::Idle, Party::Searching { .. })

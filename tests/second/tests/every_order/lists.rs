@@ -79,6 +79,29 @@ pub fn changing(count: usize, most: u8) -> Vec<Vec<Command>> {
     lists
 }
 
+/// All lists of so many commands on one item, and on key 1 where it is put in, in which a checkpoint
+/// stands.
+pub fn with_checkpoints(count: usize) -> Vec<Vec<Command>> {
+    let mut lists = vec![Vec::new()];
+    for place in 1..=count as u16 {
+        let other = Command {
+            kind: Kind::Insert,
+            key: 1,
+            chute: 20 + place,
+        };
+        let all: Vec<Command> = choices(place, 1)
+            .chain([other, Command::CHECKPOINT])
+            .collect();
+        let longer = |list: &Vec<Command>, command| [&list[..], &[command]].concat();
+        lists = lists
+            .iter()
+            .flat_map(|list| all.iter().map(move |command| longer(list, *command)))
+            .collect();
+    }
+    lists.retain(|list| list.contains(&Command::CHECKPOINT));
+    lists
+}
+
 /// All lists of three commands with keys below `keys` in which an insert or a delete has a read or
 /// an update of another item beside it.
 pub fn beside(keys: u64) -> Vec<Vec<Command>> {

@@ -2,19 +2,25 @@
 //! serial run, and all turns that lead from one to another. Demand 3 of document 00 is what is held
 //! against the states, and the order of a worker's states against the turns; the sets of the
 //! records, and who is written before whom, are held against the dependence of documents 01 and 02,
-//! and who begins a search and takes a command against the worker counts of document 02's A.2.
+//! who begins a search and takes a command against the worker counts of document 02's A.2, and the
+//! image against its A.3.
 
 mod judge;
 mod lists;
 mod met;
 mod search;
 
-use judge::depends;
-use lists::{beside, changing, lists, served, settings};
-use met::{Counted, Met};
-use search::every_order;
+use std::panic::{AssertUnwindSafe, catch_unwind};
+
+use judge::{Judge, depends};
+use lists::{beside, changing, lists, served, settings, with_checkpoints};
+use met::{Counted, Imaged, Met};
+use search::{every_order, every_order_by};
 use second::command::Command;
 use second::command::Kind::{self, Delete, Insert, Read, Update};
+use second::image;
+use second::run::{Party, Run};
+use second::serial::{self, Entries};
 
 /// What the settings of these sizes meet, with these commands, and up to two workers and two
 /// entries.
@@ -166,5 +172,108 @@ fn every_order_with_worker_changes_among_four_commands() {
     let met = met_changing(&lists, &[3, 4]);
     for counted in Counted::ALL {
         assert!(met.counted.get(&counted) > Some(&0), "{counted:?}");
+    }
+}
+
+/// Document 02, A.3: all lists of up to three commands with a checkpoint among them, and every so many
+/// of four, with the image judged in each state. Each situation is met, a table that gets shorter by
+/// four commands alone.
+#[test]
+fn every_order_with_checkpoints() {
+    met_by(&[1, 2], &with_checkpoints(1));
+    met_by(&[1, 2, 3], &with_checkpoints(2));
+    let three = met_by(&[1, 2, 3], &with_checkpoints(3));
+    let mut lists: Vec<Vec<Command>> = with_checkpoints(4).into_iter().step_by(11).collect();
+    lists.push(insert_and_delete());
+    let four = met_by(&[2, 4], &lists);
+    for (count, met) in [(3, three), (4, four)] {
+        println!(
+            "{} settings, {} states, {:?}",
+            met.settings, met.states, met.imaged
+        );
+        for imaged in Imaged::ALL {
+            let expected = count == 4 || imaged != Imaged::Shorter;
+            let found = met.imaged.contains_key(&imaged);
+            assert_eq!(found, expected, "{imaged:?}, {count} commands");
+        }
+    }
+}
+
+/// A list with a checkpoint behind an insert, and another behind the item's delete.
+fn insert_and_delete() -> Vec<Command> {
+    let item = |kind, chute| Command {
+        kind,
+        key: 0,
+        chute,
+    };
+    let checkpoint = Command::CHECKPOINT;
+    vec![item(Insert, 7), checkpoint, item(Delete, 0), checkpoint]
+}
+
+/// Each image that a run of a list writes, with the place of its checkpoint.
+fn images(run: &mut Run) -> Vec<(usize, Vec<u8>)> {
+    let mut images = Vec::new();
+    while !run.is_finished() {
+        for party in 0..=run.largest {
+            let before = run.image.clone();
+            run.turn(party);
+            if let (true, Some(image)) = (run.image != before, &run.image) {
+                images.push((image::place(image) as usize, image.clone()));
+            }
+        }
+    }
+    images
+}
+
+/// Document 02, A.3: "A run opened from an image with the rest of the list must give the answers and
+/// table of the unbroken run", here in every order of turns of the rest, with another size and other
+/// workers, and from the image of every checkpoint of a list.
+#[test]
+fn every_order_from_the_image_of_every_checkpoint() {
+    let mut met = Met::default();
+    for list in with_checkpoints(4).into_iter().step_by(3) {
+        for room in 1..=2 {
+            let whole = serial::run(room.into(), &list);
+            for (place, image) in images(&mut Run::open(settings(2, 1, room), list.clone())) {
+                let store = image::read(&image).expect("a right image");
+                let entries: Entries = store.entries().collect();
+                let rest = list[place..].to_vec();
+                let first = Run::open_with(settings(3, 2, room), rest, store);
+                let judge = Judge::of(&first, &entries);
+                assert_eq!(judge.outcome.answers, whole.answers[place..]);
+                assert_eq!(judge.outcome.entries, whole.entries);
+                every_order_by(&judge, first, &mut met);
+            }
+        }
+    }
+    assert!(met.settings > 500 && met.states > 100_000, "{}", met.states);
+}
+
+/// The judge notices an image that is written at the look-up, that has the place of the next command,
+/// that keeps records of an earlier one, and that is not written at all.
+#[test]
+fn the_judge_notices_a_wrong_image() {
+    let mut run = Run::open(settings(1, 1, 1), insert_and_delete());
+    let judge = Judge::of(&run, &Entries::new());
+    let notices = |run: &Run, change: &dyn Fn(&mut Vec<u8>)| {
+        let mut other = run.clone();
+        change(other.image.as_mut().expect("an image"));
+        catch_unwind(AssertUnwindSafe(|| judge.hold(&other))).is_err()
+    };
+    for place in [2, 4] {
+        let looked_up = Party::LookedUp { own: 1, found: 0 };
+        while run.loaded < place || run.parties[1] != looked_up {
+            run.advance(&[0, 1]);
+        }
+        let before = run.image.clone().expect("an image");
+        let store = run.store.clone();
+        assert!(notices(&run, &|image| image::write(&store, place, image)));
+        run.advance(&[1]);
+        judge.hold(&run);
+        assert!(notices(&run, &|image| image.clone_from(&before)));
+        assert!(notices(&run, &|image| image[image::KEY + 7] += 1));
+        let stale = |image: &mut Vec<u8>| image[image::RECORD..].fill(1);
+        assert!(notices(&run, &stale));
+        assert!(!notices(&run, &|_| {}));
     }
 }

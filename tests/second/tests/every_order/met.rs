@@ -4,6 +4,7 @@ use std::cmp::Ordering;
 use std::collections::HashMap;
 
 use second::command::Kind;
+use second::image;
 use second::run::{HEAD, Party, Run};
 
 use crate::judge::is_written;
@@ -99,6 +100,67 @@ impl Counted {
     }
 }
 
+/// A turn of a worker, with what a checkpoint has to do with it (document 02, A.3).
+#[derive(Clone, Copy, Debug, PartialEq, Eq, Hash)]
+pub enum Imaged {
+    /// A checkpoint is written over zeros, or over another's image.
+    First,
+    Again,
+    /// Of an empty store, and of a full one.
+    OfNone,
+    OfFull,
+    /// Of fewer entries than the image has, and of more.
+    Shorter,
+    Longer,
+    /// Another worker has a turn while one is between the look-up and the writing of a checkpoint.
+    Beside,
+    /// The store is changed behind a checkpoint.
+    Behind,
+}
+
+impl Imaged {
+    pub const ALL: [Imaged; 8] = [
+        Imaged::First,
+        Imaged::Again,
+        Imaged::OfNone,
+        Imaged::OfFull,
+        Imaged::Shorter,
+        Imaged::Longer,
+        Imaged::Beside,
+        Imaged::Behind,
+    ];
+
+    /// What a worker's turn is of these.
+    fn of(run: &Run, worker: u8) -> Vec<Imaged> {
+        let kind = |own: u8| run.command(own).map(|it| it.kind);
+        let image = run.image.as_deref().unwrap_or_default();
+        let checkpoints = looked_up(run).filter(|own| kind(*own) == Some(Kind::Checkpoint));
+        let Party::LookedUp { own, .. } = run.parties[usize::from(worker)] else {
+            return checkpoints.map(|_| Imaged::Beside).collect();
+        };
+        let before = image::read(image).map_or(0, |store| store.used);
+        let used = run.store.used;
+        let written = image::place(image) > 0;
+        let holds = match kind(own) {
+            Some(Kind::Checkpoint) => [
+                (Imaged::First, !written),
+                (Imaged::Again, written),
+                (Imaged::OfNone, used == 0),
+                (Imaged::OfFull, run.store.is_full()),
+                (Imaged::Shorter, used < before),
+                (Imaged::Longer, written && used > before),
+            ]
+            .to_vec(),
+            Some(Kind::Insert | Kind::Delete | Kind::Update) => vec![(Imaged::Behind, written)],
+            _ => Vec::new(),
+        };
+        let holds = holds.into_iter();
+        holds
+            .filter_map(|(it, holds)| holds.then_some(it))
+            .collect()
+    }
+}
+
 #[derive(Default)]
 pub struct Met {
     pub states: usize,
@@ -106,6 +168,7 @@ pub struct Met {
     pub settings: usize,
     /// How many turns are each.
     pub counted: HashMap<Counted, usize>,
+    pub imaged: HashMap<Imaged, usize>,
     /// How many turns have each.
     passes: HashMap<Pass, usize>,
     /// Turns at which an entry goes up, and goes down, while a worker is between the look-up and
@@ -128,6 +191,16 @@ impl Met {
     pub fn note_count(&mut self, run: &Run, worker: u8, after: &Run) {
         if let Some(counted) = Counted::of(run, worker, after) {
             *self.counted.entry(counted).or_default() += 1;
+        }
+    }
+
+    /// Notes a turn of a worker, before it is taken.
+    pub fn note_image(&mut self, run: &Run, worker: u8) {
+        if !run.commands.iter().any(|it| it.kind == Kind::Checkpoint) {
+            return;
+        }
+        for imaged in Imaged::of(run, worker) {
+            *self.imaged.entry(imaged).or_default() += 1;
         }
     }
 

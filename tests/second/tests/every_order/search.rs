@@ -4,6 +4,7 @@ use std::collections::HashMap;
 
 use second::bytes::party_bytes;
 use second::run::{Party, Run};
+use second::serial::Entries;
 
 use crate::judge::{Judge, hold_count, hold_pass, hold_turn};
 use crate::met::{Met, passes};
@@ -17,10 +18,15 @@ struct Search {
     finished: Vec<usize>,
 }
 
-/// Searches all states that dealings reach from a run, judges each and each turn, and notes what
-/// is met.
+/// Searches all states that dealings reach from a run that was opened with an empty store, judges
+/// each and each turn, and notes what is met.
 pub fn every_order(first: Run, met: &mut Met) {
-    let judge = Judge::of(&first);
+    let judge = Judge::of(&first, &Entries::new());
+    every_order_by(&judge, first, met);
+}
+
+/// The same with a judge of its own.
+pub fn every_order_by(judge: &Judge, first: Run, met: &mut Met) {
     let mut search = Search::default();
     let mut left = Vec::from([(search.meet(&first), first)]);
     while let Some((number, run)) = left.pop() {
@@ -31,6 +37,7 @@ pub fn every_order(first: Run, met: &mut Met) {
             if party > 0 {
                 hold_count(&run, party, &after);
                 met.note_count(&run, party, &after);
+                met.note_image(&run, party);
             }
             if !moved {
                 assert_eq!(after, run, "a wait changes nothing");
@@ -105,5 +112,6 @@ fn short(run: &Run) -> Vec<u8> {
     bytes.extend(run.store.keys.iter().map(|key| *key as u8));
     bytes.extend(run.store.chutes.iter().map(|chute| *chute as u8));
     bytes.extend(run.answers.iter().flat_map(|answer| answer.to_be_bytes()));
+    bytes.extend(run.image.iter().flatten());
     bytes
 }

@@ -7,7 +7,7 @@ use std::process::{Command, Stdio};
 use std::thread;
 
 use second::bytes::Lists;
-use second::calls::{Asked, LentLists};
+use second::calls::{Given, LentLists};
 use second::depot::Depot;
 
 unsafe extern "C" {
@@ -20,8 +20,29 @@ unsafe extern "C" {
         chutes_length: usize,
         answers: *mut u8,
         answers_length: usize,
+        image: *mut u8,
+        image_length: usize,
         commands: *const u8,
         commands_length: usize,
+        size: u64,
+        workers: u64,
+        capacity: u64,
+    ) -> u64;
+    fn depot_open_from(
+        state: *mut u8,
+        state_length: usize,
+        keys: *mut u8,
+        keys_length: usize,
+        chutes: *mut u8,
+        chutes_length: usize,
+        answers: *mut u8,
+        answers_length: usize,
+        image: *mut u8,
+        image_length: usize,
+        commands: *const u8,
+        commands_length: usize,
+        source: *const u8,
+        source_length: usize,
         size: u64,
         workers: u64,
         capacity: u64,
@@ -35,6 +56,8 @@ unsafe extern "C" {
         chutes_length: usize,
         answers: *mut u8,
         answers_length: usize,
+        image: *mut u8,
+        image_length: usize,
         commands: *const u8,
         commands_length: usize,
         schedule: *const u8,
@@ -94,6 +117,8 @@ macro_rules! on_run {
             $lent.chutes.len(),
             $lent.answers.as_mut_ptr(),
             $lent.answers.len(),
+            $lent.image.as_mut_ptr(),
+            $lent.image.len(),
             $commands.as_ptr(),
             $commands.len(),
             $($more),+
@@ -105,8 +130,24 @@ macro_rules! on_run {
 // function does not keep; it reads, or writes where it is lent to be written, no byte outside it,
 // and no two of the slices overlap.
 impl Depot for Archive {
-    fn open(&self, lent: &mut LentLists, commands: &[u8], [size, workers, room]: Asked) -> u64 {
-        unsafe { on_run!(depot_open, lent, commands, size, workers, room) }
+    fn open(&self, lent: &mut LentLists, given: Given) -> u64 {
+        let (commands, [size, workers, room]) = (given.commands, given.settings);
+        let Some(source) = given.source else {
+            return unsafe { on_run!(depot_open, lent, commands, size, workers, room) };
+        };
+        let (first, length) = (source.as_ptr(), source.len());
+        unsafe {
+            on_run!(
+                depot_open_from,
+                lent,
+                commands,
+                first,
+                length,
+                size,
+                workers,
+                room
+            )
+        }
     }
 
     fn advance(&self, lent: &mut LentLists, commands: &[u8], schedule: &[u8]) -> u64 {

@@ -11,8 +11,8 @@
 //!     --program PATH   the program; without it, that of DEPOT_PROGRAM, else target/bin/depot
 //!
 //! The first input that differs is written to target/failing-case, which --replay takes. Then come
-//! how often the inputs met each refusal and each situation of worker changes, and in the last two
-//! lines how many inputs of each sort there were, and how many in all. It ends with 0 where nothing
+//! how often the inputs met each refusal and each situation of worker changes, checkpoints and
+//! images, and in the last two lines how many inputs of each sort there were, and how many in all. It ends with 0 where nothing
 //! differs, 1 where something does or is never met, and 2 where it cannot compare.
 
 use std::process::ExitCode;

@@ -108,7 +108,9 @@ mod tests {
     use super::*;
     use crate::command::{Command, Kind};
     use crate::generate::runs::ANNOUNCEMENTS;
-    use crate::generate::runs::dealings::testing::{Done, assert_made_from_the_seed, done, noted};
+    use crate::generate::runs::dealings::testing::{
+        Done, assert_made_from_the_seed, noted, played,
+    };
 
     /// A writing turn of an insert.
     struct Writing {
@@ -121,10 +123,7 @@ mod tests {
         apart: bool,
     }
 
-    static PLAYED: LazyLock<Vec<Done>> = LazyLock::new(|| {
-        let indexes = ANNOUNCEMENTS..ANNOUNCEMENTS + COUNT;
-        indexes.map(|index| done(1, index)).collect()
-    });
+    static PLAYED: LazyLock<Vec<Done>> = LazyLock::new(|| played(ANNOUNCEMENTS, COUNT));
 
     /// Deals a turn; what it writes, if it is the writing turn of an insert.
     fn writing(run: &mut Run, worker: u8, apart: bool) -> Option<Writing> {

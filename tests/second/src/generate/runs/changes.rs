@@ -5,11 +5,13 @@ use super::openings::Opening;
 use super::{apart, reports, schedules};
 use crate::bytes::{
     COUNT, IN_FORCE, KEY, LARGEST, LOADED, NUMBER, PARTY, PARTY_BYTES, ROOM, SIZE, STATE, USED,
-    WORKERS, write_numbers, write_words,
+    WORKERS, party_bytes, write_numbers, write_words,
 };
 use crate::command::{LARGEST_CHUTE, LENGTH};
+use crate::image;
 use crate::play::{Difference, Play};
 use crate::random::Random;
+use crate::run::Party;
 use crate::script::{List, Step};
 use crate::store::Store;
 
@@ -37,7 +39,7 @@ pub fn bytes(number: u64, random: &mut Random, play: &mut Play) -> Result<(), Di
 
 /// Changes any byte of any list.
 pub fn one_byte(random: &mut Random, play: &mut Play) -> Result<(), Difference> {
-    let list = random.pick(&List::ALL[..5]);
+    let list = random.pick(&List::HANDED);
     let length = play.host().list(list).len() as u64;
     if length > 0 {
         play.take(Step::Change {
@@ -105,7 +107,7 @@ pub fn step_on(random: &mut Random, play: &mut Play) -> Result<(), Difference> {
     Ok(())
 }
 
-/// Another room, in most cases with keys and chutes of its length.
+/// Another room, in most cases with keys, chutes and image of its length.
 fn change_room(random: &mut Random, play: &mut Play) -> Result<(), Difference> {
     let room = another(random, number(play, ROOM));
     set_number(play, ROOM, room)?;
@@ -113,6 +115,9 @@ fn change_room(random: &mut Random, play: &mut Play) -> Result<(), Difference> {
         if random.below(8) != 0 {
             play.take(Step::Resize(list, usize::from(room) * bytes))?;
         }
+    }
+    if random.below(8) != 0 {
+        play.take(Step::Resize(List::Image, image::length(room)))?;
     }
     Ok(())
 }
@@ -213,6 +218,16 @@ pub fn set_store(play: &mut Play, store: &Store) -> Result<(), Difference> {
 /// Gives two bytes of the state a number.
 pub fn set_number(play: &mut Play, offset: usize, number: u16) -> Result<(), Difference> {
     set_bytes(play, List::State, offset, &number.to_be_bytes())
+}
+
+/// Gives the command of a place, from 1, these bytes.
+pub fn set_command(play: &mut Play, place: usize, bytes: &[u8]) -> Result<(), Difference> {
+    set_bytes(play, List::Commands, (place - 1) * LENGTH, bytes)
+}
+
+pub fn set_party(play: &mut Play, number: u8, party: Party) -> Result<(), Difference> {
+    let offset = PARTY + PARTY_BYTES * usize::from(number);
+    set_bytes(play, List::State, offset, &party_bytes(party))
 }
 
 /// Gives the bytes of a list from an offset on these values.

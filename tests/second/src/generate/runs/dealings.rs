@@ -138,6 +138,7 @@ pub mod testing {
     use crate::depot::Second;
     use crate::generate::runs;
     use crate::met::Met;
+    use crate::met::images::Scene;
 
     /// The steps of a run, and how it stands after them.
     pub struct Done {
@@ -155,6 +156,29 @@ pub mod testing {
             run: play.host().run().expect("the run goes on"),
             steps: play.steps,
             met: play.met,
+        }
+    }
+
+    /// Plays so many runs, from the first index on.
+    pub fn played(first: u64, count: u64) -> Vec<Done> {
+        let indexes = first..first + count;
+        indexes.map(|index| done(1, index)).collect()
+    }
+
+    /// What all these runs met, which is printed.
+    pub fn met(played: &[Done]) -> Met {
+        let mut met = Met::default();
+        played.iter().for_each(|done| met += &done.met);
+        println!("{}", met.lines().join("\n"));
+        met
+    }
+
+    /// Asserts that these runs met each scene so often at least.
+    pub fn assert_scenes(played: &[Done], scenes: &[(Scene, u64)]) {
+        let met = met(played);
+        for (scene, least) in scenes {
+            let count = met.images.count(*scene);
+            assert!(count >= *least, "{scene:?}: {count}");
         }
     }
 

@@ -7,6 +7,7 @@ use super::reports;
 use crate::bytes::{FREE, MOST_COMMANDS, NEXT, NUMBER, STATE};
 use crate::calls::{COUNTS, STATUSES};
 use crate::command::LENGTH;
+use crate::image;
 use crate::play::{Difference, Play};
 use crate::random::Random;
 use crate::script::{List, Step};
@@ -72,17 +73,31 @@ fn lists(random: &mut Random, play: &mut Play) -> Played {
     ] {
         open(play, 1, 1, 1, list[..length].to_vec())?;
     }
-    for wrong in 0..4 {
+    for wrong in 0..6 {
         for by in [-16, -8, -2, -1, 0, 1, 2, 8, 16] {
             let opening = with_example_settings(commands(random, 2));
+            let mut source = image::zeros(opening.room as u16);
             let mut lengths = opening.lengths();
-            lengths[wrong] = lengths[wrong].saturating_add_signed(by);
-            play.take(Step::Lend(lengths))?;
-            play.take(opening.step())?;
+            match lengths.get_mut(wrong) {
+                Some(length) => *length = length.saturating_add_signed(by),
+                None => source.resize(source.len().saturating_add_signed(by), 0),
+            }
+            for step in [opening.clone().step(), opening.step_from(source)] {
+                play.take(Step::Lend(lengths))?;
+                play.take(step)?;
+            }
         }
     }
     Ok(())
 }
+
+/// Lists of a wrong length for the example.
+const WRONG: [(List, usize); 4] = [
+    (List::Answers, 3 * NUMBER),
+    (List::State, STATE - 1),
+    (List::Image, 5 * image::RECORD - 1),
+    (List::Image, 6 * image::RECORD),
+];
 
 /// Refusals 6, 12 and 11 of the calls on a handed-back run.
 fn handed_back(play: &mut Play) -> Played {
@@ -95,7 +110,7 @@ fn handed_back(play: &mut Play) -> Played {
         play.take(Step::WorkerStatus(length))?;
     }
     for turns in 0..=schedule.len() {
-        for (list, length) in [(List::Answers, 3 * NUMBER), (List::State, STATE - 1)] {
+        for (list, length) in WRONG {
             apart(play, |play| {
                 play.take(Step::Resize(list, length))?;
                 try_calls(play, &[3])

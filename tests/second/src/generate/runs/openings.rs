@@ -4,13 +4,14 @@
 use crate::bytes::{KEY, MOST_COMMANDS, NUMBER, STATE};
 use crate::command::{Kind, LENGTH};
 use crate::generate::commands::{perhaps_wrong, with_key};
-use crate::generate::{random_key, repeat};
+use crate::generate::{images, random_key, repeat};
 use crate::identifier::LARGEST_KEY;
+use crate::image::RECORD;
 use crate::play::{Difference, Play};
 use crate::random::Random;
 use crate::refusal::answer_words;
 use crate::run::Settings;
-use crate::script::Step;
+use crate::script::{Open, Step};
 use crate::text::input;
 
 /// Graph sizes at the ends, and on both sides of a word of the sets.
@@ -41,6 +42,7 @@ const KINDS: [&[Kind]; 5] = [
         Kind::Update,
         Kind::Update,
         Kind::Workers,
+        Kind::Checkpoint,
     ],
 ];
 
@@ -115,20 +117,34 @@ impl Opening {
         }
     }
 
-    /// The lengths of state, keys, chutes and answers that are lent to it.
-    pub fn lengths(&self) -> [usize; 4] {
+    /// The lengths of state, keys, chutes, answers and image that are lent to it.
+    pub fn lengths(&self) -> [usize; 5] {
         let room = self.room as usize;
         let count = self.commands.len() / LENGTH;
-        [STATE, room * KEY, room * NUMBER, count * NUMBER]
+        let image = (room + 1) * RECORD;
+        [STATE, room * KEY, room * NUMBER, count * NUMBER, image]
     }
 
     pub fn step(self) -> Step {
-        Step::Open {
-            size: self.size,
-            workers: self.workers,
-            room: self.room,
+        self.step_with(None)
+    }
+
+    /// Opens from an image.
+    pub fn step_from(self, source: Vec<u8>) -> Step {
+        self.step_with(Some(source))
+    }
+
+    fn step_with(self, source: Option<Vec<u8>>) -> Step {
+        Step::Open(Open {
+            settings: [self.size, self.workers, self.room],
             commands: self.commands,
-        }
+            source,
+        })
+    }
+
+    /// Lends what it needs and opens from an image.
+    pub fn steps_from(self, source: Vec<u8>) -> [Step; 2] {
+        [Step::Lend(self.lengths()), self.step_from(source)]
     }
 
     /// Lends what it needs and opens.
@@ -138,13 +154,12 @@ impl Opening {
 
     /// Lends what it needs and opens, which is accepted.
     pub fn open(self, play: &mut Play) -> Result<(), Difference> {
-        match play.take_all(self.steps())? {
-            0 => Ok(()),
-            answer => Err(format!(
-                "a right opening, on both sides: {}",
-                answer_words(answer)
-            )),
-        }
+        accepted(play.take_all(self.steps())?)
+    }
+
+    /// The same from an image.
+    pub fn open_from(self, source: Vec<u8>, play: &mut Play) -> Result<(), Difference> {
+        accepted(play.take_all(self.steps_from(source))?)
     }
 
     /// The input of the program that opens so and then has this schedule.
@@ -158,10 +173,22 @@ impl Opening {
     }
 }
 
-/// An opening with any set of faults, perhaps none.
+fn accepted(answer: u64) -> Result<(), Difference> {
+    match answer {
+        0 => Ok(()),
+        answer => Err(format!(
+            "a right opening, on both sides: {}",
+            answer_words(answer)
+        )),
+    }
+}
+
+/// An opening with any set of faults, perhaps none; every other one is from an image, which may be
+/// right too.
 pub fn refused(random: &mut Random, play: &mut Play) -> Result<(), Difference> {
     let mut opening = Opening::any(random);
     let mut lengths = opening.lengths();
+    let source = images::perhaps_wrong(random, opening.room as u16);
     let faults = random.below(64) & random.below(64);
     if faults & 1 != 0 {
         opening.size = random.pick(&[0, 151, 152, 255, 256, 257, 1 << 32, u64::MAX]);
@@ -176,7 +203,7 @@ pub fn refused(random: &mut Random, play: &mut Play) -> Result<(), Difference> {
         damage_list(random, &mut opening.commands);
     }
     if faults & 16 != 0 {
-        let length = &mut lengths[random.below(4) as usize];
+        let length = &mut lengths[random.below(5) as usize];
         *length = length.saturating_add_signed(random.pick(&[-16, -8, -2, -1, 1, 2, 8, 16]));
     }
     if faults & 32 != 0 {
@@ -187,7 +214,10 @@ pub fn refused(random: &mut Random, play: &mut Play) -> Result<(), Difference> {
         lengths[3] += more * NUMBER;
     }
     play.take(Step::Lend(lengths))?;
-    play.take(opening.step())?;
+    play.take(match random.below(2) {
+        0 => opening.step(),
+        _ => opening.step_from(source),
+    })?;
     Ok(())
 }
 

@@ -197,15 +197,12 @@ mod tests {
     use crate::depot::Second;
     use crate::generate::runs::PASSES;
     use crate::generate::runs::dealings::testing::{
-        Done, assert_made_from_the_seed, assert_nearly_all_finish, done,
+        Done, assert_made_from_the_seed, assert_nearly_all_finish, played,
     };
     use crate::generate::runs::services::{self, Beside, CLEARING, LOOKED_UP, Service, counts};
     use crate::generate::text;
 
-    static PLAYED: LazyLock<Vec<Done>> = LazyLock::new(|| {
-        let indexes = PASSES..PASSES + COUNT;
-        indexes.map(|index| done(1, index)).collect()
-    });
+    static PLAYED: LazyLock<Vec<Done>> = LazyLock::new(|| played(PASSES, COUNT));
 
     static SERVICES: LazyLock<Vec<Service>> = LazyLock::new(|| services::services(&PLAYED));
 

@@ -4,7 +4,9 @@ use super::limits::{example, with_example_settings};
 use super::openings::{Opening, commands};
 use super::schedules;
 use crate::command::{LENGTH, encode};
-use crate::generate::commands::{FAULTS, each_character, perhaps_wrong, with_faults, workers};
+use crate::generate::commands::{
+    FAULTS, checkpoint, each_character, perhaps_wrong, with_faults, workers,
+};
 use crate::generate::{Case, with_byte};
 use crate::play::{Difference, Play};
 use crate::random::Random;
@@ -46,6 +48,11 @@ fn wrong_lists(random: &mut Random) -> Vec<Vec<u8>> {
         workers(65),
         encode(5, FIRST, 1),
         encode(5, b"0000000000010", 1),
+        checkpoint(1),
+        checkpoint(512),
+        encode(6, FIRST, 0),
+        encode(6, b"0000000000010", 0),
+        encode(7, FIRST, 0),
     ];
     wrong.extend(each_character(random, &right));
     let mut lists = Vec::new();

@@ -3,18 +3,18 @@
 //! dealing leaves them: looked-up with any finding, beside a worker that is about to write the same
 //! item, with another command, a refused one or none.
 
-use super::changes::{set_bytes, set_number, step_on};
+use super::changes::{set_command, set_number, set_party, step_on};
 use super::dealings::{Change, Dealing, Entry, Played, WAYS, commands, keys};
 use super::openings::Opening;
 use super::{reports, schedules};
-use crate::bytes::{NUMBER, PARTY, PARTY_BYTES, PLACE, party_bytes};
+use crate::bytes::{NUMBER, PLACE};
 use crate::command::Kind::{self, Delete, Insert, Read, Update};
-use crate::command::{LARGEST_CHUTE, LENGTH};
+use crate::command::LARGEST_CHUTE;
 use crate::generate::commands::{FAULTS, with_faults, with_key};
 use crate::play::Play;
 use crate::random::Random;
 use crate::run::{Party, Run, Settings};
-use crate::script::{List, Step};
+use crate::script::Step;
 
 /// How many runs there are: each form of a list twice in each way of dealing.
 pub const COUNT: u64 = FORMS * WAYS * 2;
@@ -215,16 +215,6 @@ fn deal_each(turns: &[u8], random: &mut Random, play: &mut Play) -> Played {
     step_on(random, play)
 }
 
-fn set_party(play: &mut Play, number: u8, party: Party) -> Played {
-    let offset = PARTY + PARTY_BYTES * usize::from(number);
-    set_bytes(play, List::State, offset, &party_bytes(party))
-}
-
-/// Gives the command of a place, from 1, these bytes.
-fn set_command(play: &mut Play, place: usize, bytes: &[u8]) -> Played {
-    set_bytes(play, List::Commands, (place - 1) * LENGTH, bytes)
-}
-
 /// A number from 1 to the most, which is 2 or more, but not this one of them.
 fn other_than(random: &mut Random, it: usize, most: usize) -> usize {
     (it + random.below(most as u64 - 1) as usize) % most + 1
@@ -239,16 +229,13 @@ mod tests {
     use crate::depot::Second;
     use crate::generate::runs::READS;
     use crate::generate::runs::dealings::testing::{
-        Done, assert_made_from_the_seed, assert_nearly_all_finish, done, noted,
+        Done, assert_made_from_the_seed, assert_nearly_all_finish, noted, played,
     };
     use crate::generate::runs::services::{
         self, CLEARING, HOLDING, LOOKED_UP, Service, WALKING, WRITTEN, counts, service,
     };
 
-    static PLAYED: LazyLock<Vec<Done>> = LazyLock::new(|| {
-        let indexes = READS..READS + COUNT;
-        indexes.map(|index| done(1, index)).collect()
-    });
+    static PLAYED: LazyLock<Vec<Done>> = LazyLock::new(|| played(READS, COUNT));
 
     static SERVICES: LazyLock<Vec<Service>> = LazyLock::new(|| services::services(&PLAYED));
 
@@ -278,7 +265,7 @@ mod tests {
         let counts = counts(met.into_iter());
         let states = |kind: Kind| match kind {
             Read => vec![HOLDING, WRITTEN, WALKING, CLEARING],
-            Insert | Delete | Update | Kind::Workers => {
+            Insert | Delete | Update | Kind::Workers | Kind::Checkpoint => {
                 vec![HOLDING, LOOKED_UP, WRITTEN, WALKING, CLEARING]
             }
         };

@@ -4,15 +4,12 @@
 //! searching or an idle worker above the count beside a record that may be taken, another finding,
 //! another worker change or a refused one, and a worker at work past the largest count.
 
-use super::changes::{set_bytes, step_on};
+use super::changes::{set_bytes, set_command, set_party, step_on};
 use super::dealings::{Change, Dealing, Played, WAYS, keys};
 use super::openings::Opening;
 use super::{reports, schedules};
-use crate::bytes::{
-    CHAIN, EXECUTING, IN_FORCE, LARGEST, LOCKED, PARTY, PARTY_BYTES, SETS, party_bytes,
-};
+use crate::bytes::{CHAIN, EXECUTING, IN_FORCE, LARGEST, LOCKED, SETS};
 use crate::command::Kind::{self, Delete, Insert, Read, Update};
-use crate::command::LENGTH;
 use crate::generate::commands::{TEXT, with_key, workers};
 use crate::generate::with_byte;
 use crate::host::Host;
@@ -298,16 +295,6 @@ fn set_byte(play: &mut Play, offset: usize, value: u8) -> Played {
     set_bytes(play, List::State, offset, &[value])
 }
 
-fn set_party(play: &mut Play, number: u8, party: Party) -> Played {
-    let offset = PARTY + PARTY_BYTES * usize::from(number);
-    set_bytes(play, List::State, offset, &party_bytes(party))
-}
-
-/// Gives the command of a place, from 1, these bytes.
-fn set_command(play: &mut Play, place: usize, bytes: &[u8]) -> Played {
-    set_bytes(play, List::Commands, (place - 1) * LENGTH, bytes)
-}
-
 #[cfg(test)]
 mod tests {
     use std::collections::BTreeSet;
@@ -317,21 +304,16 @@ mod tests {
     use crate::command::Command;
     use crate::generate::runs::SHIFTS;
     use crate::generate::runs::dealings::testing::{
-        Done, assert_made_from_the_seed, assert_nearly_all_finish, done, noted,
+        Done, assert_made_from_the_seed, assert_nearly_all_finish, met, noted, played,
     };
-    use crate::met::{Event, Met};
+    use crate::met::Event;
 
-    static PLAYED: LazyLock<Vec<Done>> = LazyLock::new(|| {
-        let indexes = SHIFTS..SHIFTS + COUNT;
-        indexes.map(|index| done(1, index)).collect()
-    });
+    static PLAYED: LazyLock<Vec<Done>> = LazyLock::new(|| played(SHIFTS, COUNT));
 
     /// Each situation of document 02's A.2 often enough; refusals of commands are met elsewhere.
     #[test]
     fn every_situation_is_met() {
-        let mut met = Met::default();
-        PLAYED.iter().for_each(|done| met += &done.met);
-        println!("{}", met.lines().join("\n"));
+        let met = met(&PLAYED);
         for event in Event::ALL.into_iter().filter(|it| *it != Event::Refused14) {
             assert!(met.count(event) >= 50, "{event:?}: {}", met.count(event));
         }
@@ -382,7 +364,7 @@ mod tests {
             let steps = &PLAYED[number as usize].steps;
             let opened: Vec<&Step> = steps
                 .iter()
-                .filter(|step| matches!(step, Step::Open { .. }))
+                .filter(|step| matches!(step, Step::Open(_)))
                 .collect();
             assert_eq!(opened.len(), ORDERS as usize);
             assert!(opened.iter().all(|step| *step == opened[0]));
