@@ -62,12 +62,12 @@ answer-in : (l : Lists) (c : ℕ) → stateIn l .service .answers c ≡ getD (0 
 unfolding stateIn
 answer-in l c = refl
 
--- a call on lists that fit performs its schedule on what is read of them, or refuses an unknown thread
 -- lists hold nothing of the opening's entries
 lists-without : (o : Setup) (s : State) → listsOf (withoutEntries o) s ≡ listsOf o s
 unfolding listsOf stateBytes headBytes
 lists-without o s = refl
 
+-- a call on lists that fit performs its schedule on what is read of them, or refuses an unknown thread
 advance-is : (l : Lists) (commands schedule : List ℕ) (o : Setup) (s : State) → handedBackFit l commands ≡ true → imageFits (setupIn (l .state) commands .capacity) l ≡ true
     → stateFits l ≡ true → setupIn (l .state) commands ≡ withoutEntries o → stateIn l ≡ s
     → advanceOn l commands schedule ≡ cond (allWithin (o .largest) schedule) (accepted (listsOf o (steps o schedule s))) (refused (plain 11))
