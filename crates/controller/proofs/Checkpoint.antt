@@ -1,4 +1,4 @@
--- The promises on checkpoints over calls, proved: the lent image is that of the state which the calls reach, and an opening from it with the
+-- The promise on restarts over calls, proved: the lent image is that of the state which the calls reach, and an opening from it with the
 -- rest of the list is the model's. Assumes nothing.
 use Prim.Native.Nat.{ℕ, zero, suc, _+_, _-_, _*_, _/_, _%_, _≤_}
 use native.Mathlib.Omega.{arith}
@@ -17,38 +17,26 @@ use Rattle.model.specs.Setup.{Setup}
 use Rattle.model.specs.Image.{imageLength, seqIn}
 use Rattle.model.specs.Step.{opened, steps}
 use Rattle.model.specs.Statement.{Accepted, wrote, serialAnswer}
-use Rattle.model.specs.Checkpoint.{lastCheckpoint, imageAt, resumed, Resumes}
-use Rattle.model.specs.Proof.Checkpoint.{checkpoints-are-kept, restart}
+use Rattle.model.specs.Checkpoint.{resumed, Resumes}
+use Rattle.model.specs.Proof.Checkpoint.{restart}
 use Rattle.state_bytes.specs.Layout.{Lists, listsOf, lengthsFit, imageFits}
-use Rattle.state_bytes.proofs.RoundTrip.{lists-image}
 use Rattle.controller.specs.Calls.{accepted, imageFrom, sourceLong, sourceChained, sourceFits, firstEntries, openedWith, openOn, setupOf}
 use Rattle.controller.specs.Demand3.{Call, listsAfter, schedules, HoldsAfter}
-use Rattle.controller.specs.Checkpoint.{CheckpointsAreKeptOverCalls, GoesOn, RestartOverCalls}
+use Rattle.controller.specs.Checkpoint.{GoesOn, RestartOverCalls}
 use Rattle.controller.proofs.OpeningTests.{five-passed, reads-list}
-use Rattle.controller.proofs.Demand3.{Reach, formed, opening-and-calls-reach, demand-3-over-calls}
+use Rattle.controller.proofs.Demand3.{Reach, formed, image-is, opening-and-calls-reach, demand-3-over-calls}
 
 -- ---- the image that calls leave
 
 module _ (o : Setup) (acc : Accepted o) (l : Lists) (ts : List ℕ) (r : Reach o l ts) where
-  -- it is the reached state's, as long as the capacity asks, and that of the last checkpoint written
-  image-is : l .image ≡ steps o ts (opened o) .service .image
-  image-is = ap (λ (m : Lists). m .image) (r .1) ∙ lists-image o (steps o ts (opened o))
-
+  -- it is as long as the capacity asks
   image-long : length (l .image) ≡ imageLength (o .capacity)
-  image-long = ap length image-is ∙ formed o acc ts (r .0) .service .image
-
-  image-kept : l .image ≡ imageAt o (lastCheckpoint o (λ c. wrote o c ts (opened o)))
-  image-kept = image-is ∙ checkpoints-are-kept o acc ts (r .0)
+  image-long = ap length (image-is o l ts r) ∙ formed o acc ts (r .0) .service .image
 
   -- so the model's run goes on from it
   image-resumes : 1 ≤ seqIn (l .image) → (size workers : ℕ) → (1 ≤ size) × (size ≤ 150) → (1 ≤ workers) × (workers ≤ 64) → Resumes o size workers (l .image)
   image-resumes some-place size workers sizes counts =
-      rw image-is (restart o acc ts (r .0) (rw image-is at some-place) size workers sizes counts)
-
-pub checkpoints-are-kept-over-calls : CheckpointsAreKeptOverCalls
-checkpoints-are-kept-over-calls size workers capacity commands source lent l e calls proper =
-    let r = opening-and-calls-reach size workers capacity commands source lent l e calls proper in
-    image-kept _ (r .0 .setup) (listsAfter calls l) (schedules calls) (r .1)
+      rw (image-is o l ts r) (restart o acc ts (r .0) (rw (image-is o l ts r) at some-place) size workers sizes counts)
 
 -- ---- an opening from an image
 

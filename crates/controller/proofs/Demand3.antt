@@ -1,4 +1,4 @@
--- Demand 3 over calls, proved: the lists kept are always those of the state that the performed schedules reach, so that the three parts of
+-- Demand 3 over calls, proved: the lists kept are always those of the state that the performed schedules reach, so that the five parts of
 -- the model's theorem are read off them. Assumes nothing.
 use Prim.Native.Nat.{ℕ, zero, suc, _+_, _*_, _≤_, _<_}
 use native.Mathlib.Numerals.{add-one}
@@ -28,7 +28,7 @@ use Rattle.state_bytes.specs.Layout.{Lists, headBytes, stateBytes, listsOf, set
 use Rattle.controller.specs.Calls.{Source, CallOutcome, accepted, refused, kept, openOn, advanceOn, setupOf}
 use Rattle.controller.specs.Demand3.{Call, callOn, listsAfter, ProperCall, Proper, accepts, schedules, HoldsAfter, Demand3OverCalls}
 use Rattle.byte_fields.proofs.Bytes.{below-or-past, each-all-below}
-use Rattle.state_bytes.proofs.RoundTrip.{lists-state, state-read-back, setup-read-back, lists-fit, image-fits, state-fits}
+use Rattle.state_bytes.proofs.RoundTrip.{lists-state, lists-image, state-read-back, setup-read-back, lists-fit, image-fits, state-fits}
 use Rattle.controller.proofs.AcceptedOpening.{passed, IsOpened, accepted-opening}
 
 -- ---- the store's keys ascend
@@ -77,6 +77,10 @@ advance-is l commands schedule o s fit imaged whole setup state = rw (fit, image
 -- the lists are those that a schedule reaches from the opening
 abbrev pub Reach : Setup → Lists → List ℕ → Type 0
 Reach o l ts = (allWithin (o .largest) ts ≡ true) × (l ≡ listsOf o (steps o ts (opened o)))
+
+-- their image is the reached state's
+pub image-is : (o : Setup) (l : Lists) (ts : List ℕ) → Reach o l ts → l .image ≡ steps o ts (opened o) .service .image
+image-is o l ts r = ap (λ (m : Lists). m .image) (r .1) ∙ lists-image o (steps o ts (opened o))
 
 -- the opening reaches its lists by no step
 pub opening-reaches : (o : Setup) (l : Lists) → l ≡ listsOf o (opened o) → Reach o l []
@@ -135,7 +139,7 @@ module _ (o : Setup) (acc : Accepted o) (commands : List ℕ) (same : o .command
       rw (← append-assoc ts (accepts (callOn call) (call .schedule)) (schedules calls))
       (calls-reach calls (kept (callOn call) l) (ts ++ accepts (callOn call) (call .schedule)) (call-reaches call l ts (callOn call) refl (proper .0) r) (proper .1))
 
-  -- ---- the three parts
+  -- ---- the five parts
 
   module _ (l : Lists) (ts : List ℕ) (r : Reach o l ts) where
     -- what is read of the lists is the reached state
@@ -160,6 +164,8 @@ module _ (o : Setup) (acc : Accepted o) (commands : List ℕ) (same : o .command
           answer = λ c low high. answer-is c ∙ model .answer c low high;
           table = λ all. (λ c low high. rw (answer-is c) (model .table all .0 c low high), ap (λ (s : State). s .service .store) state-is ∙ model .table all .1);
           finish = (f .0, listsOf o last, more-accepted (f .0) (f .1), f .2, λ t h. ap (λ (s : State). s .threads t) read-last ∙ f .3 t h);
+          moment = ap (λ (s : State). s .service .store) state-is ∙ model .moment;
+          image = image-is o l ts r ∙ model .image;
         }
 
 -- the opening's lists are those of the empty schedule, and every proper list of calls goes on from there

@@ -1,5 +1,5 @@
--- Checkpoints (02, A.3) over calls: what the lent image holds after any calls, and that a run opened from it with the rest of the list is
--- accepted and gives the answers and the table of the unbroken run. Proved in proofs/Checkpoint. Assumes nothing.
+-- Restart (02, A.3) over calls: a run opened from the image that any calls leave, with the rest of the list, is accepted and gives the answers
+-- and the table of the unbroken run. What the image holds is the fifth part of demand 3. Proved in proofs/Checkpoint. Assumes nothing.
 use Prim.Native.Nat.{ℕ, _+_, _*_, _/_, _≤_}
 use mathlib.Core.Path.{_≡_}
 use mathlib.Core.Bool.{true, cond}
@@ -11,19 +11,9 @@ use Rattle.model.specs.Setup.{Setup}
 use Rattle.model.specs.Step.{opened}
 use Rattle.model.specs.Image.{seqIn}
 use Rattle.model.specs.Statement.{wrote, removed, EachCommand, serialAnswer}
-use Rattle.model.specs.Checkpoint.{lastCheckpoint, imageAt}
 use Rattle.state_bytes.specs.Layout.{Lists, stateIn, lengthsFit, imageFits}
 use Rattle.controller.specs.Calls.{accepted, Source, imageFrom, openOn, setupOf}
 use Rattle.controller.specs.Demand3.{Call, listsAfter, Proper, schedules}
-
--- "at its writing turn puts the store into a lent image; the last one stands": the image is that of the last kind 6 written, with what the
--- commands delivered before it leave and its place, and all zeros where there is none
-abbrev pub CheckpointsAreKeptOverCalls : Type 0
-CheckpointsAreKeptOverCalls =
-    (size workers capacity : ℕ) (commands : List ℕ) (source : Source) (lent l : Lists) → openOn size workers capacity commands source lent ≡ accepted l →
-    (calls : List Call) → Proper commands l calls →
-    let o : Setup = setupOf size workers capacity commands source in
-    listsAfter calls l .image ≡ imageAt o (lastCheckpoint o (λ c. wrote o c (schedules calls) (opened o)))
 
 -- "A run opened from an image with the rest of the list must give the answers and table of the unbroken run": the run r, opened with the
 -- commands after place p of the run o, whatever calls deal it; "its delivery places begin again at 1"

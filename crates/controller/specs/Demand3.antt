@@ -1,4 +1,5 @@
--- Demand 3 over calls: "a single claim about the whole list of dealing calls, and not one for each call". Assumes nothing.
+-- Demand 3 over calls: "a single claim about the whole list of dealing calls, and not one for each call"; with document 02's A.10, the table and
+-- the image at any moment. Assumes nothing.
 use Prim.Native.Nat.{ℕ, _≤_}
 use mathlib.Core.Path.{_≡_}
 use mathlib.Core.Bool.{true, cond}
@@ -9,6 +10,7 @@ use Rattle.model.specs.Serial.{serialEntries}
 use Rattle.model.specs.Store.{layOut}
 use Rattle.model.specs.Setup.{Setup}
 use Rattle.model.specs.Step.{opened}
+use Rattle.model.specs.Moment.{tableOf, lastCheckpoint, imageAt}
 use Rattle.model.specs.Statement.{wrote, removed, EachCommand, serialAnswer}
 use Rattle.state_bytes.specs.Layout.{Lists, stateIn}
 use Rattle.controller.specs.Calls.{Source, CallOutcome, accepted, refused, kept, openOn, advanceOn, setupOf}
@@ -45,7 +47,7 @@ unfoldable pub schedules : List Call → List ℕ
 schedules [] = []
 schedules (call ∷ calls) = accepts (callOn call) (call .schedule) ++ schedules calls
 
--- the three parts, of the lists that the calls leave and the schedules that were performed
+-- the five parts, of the lists that the calls leave and the schedules that were performed
 pub record HoldsAfter (o : Setup) (commands : List ℕ) (l : Lists) (ts : List ℕ) : Type 0 where
   -- "Each answer is 0 before its command's writing turn, and from that turn on the one that running the whole list of commands [..] gives."
   pub answer : EachCommand o (λ c. getD (0 ∷ l .answers) c 0 ≡ cond (wrote o c ts (opened o)) (serialAnswer o c) 0)
@@ -55,6 +57,11 @@ pub record HoldsAfter (o : Setup) (commands : List ℕ) (l : Lists) (ts : List �
   -- "And some further dealing is accepted and leaves every command removed and every party idle"
   pub finish : (more : List ℕ) × (m : Lists) × (advanceOn l commands more ≡ accepted m) × EachCommand o (λ c. removed o c (ts ++ more) (opened o) ≡ true)
       × ((t : ℕ) → t ≤ o .largest → stateIn m .threads t ≡ Idle)
+  -- "after every turn of every dealing, the store shall equal what the commands already written give when run alone in delivery order, from the
+  -- opening store or the image": keys, chutes and the number used
+  pub moment : stateIn l .service .store ≡ tableOf o (λ c. wrote o c ts (opened o))
+  -- "the image written holds what the commands delivered before the last written kind 6 leave, with its place, and zeros before any"
+  pub image : l .image ≡ imageAt o (lastCheckpoint o (λ c. wrote o c ts (opened o)))
 
 -- every accepted opening, and every proper list of calls from what it left
 abbrev pub Demand3OverCalls : Type 0

@@ -1,5 +1,5 @@
 -- Demand 3 over the calls of a host in C, proved: the numbers of the lists that calls reach fit their bytes, so the byte lists kept are
--- always read as the lists of the state that the performed schedules reach, and the three parts are those over calls on numbers. Assumes nothing.
+-- always read as the lists of the state that the performed schedules reach, and the five parts are those over calls on numbers. Assumes nothing.
 use Prim.Native.Nat.{ℕ, zero, suc, _-_, _*_, _%_, _^_, _≤_, _<_}
 use native.Mathlib.Omega.{arith}
 use mathlib.Core.Path.{_≡_, refl, sym, ap, _∙_}
@@ -122,7 +122,7 @@ module _ (o : Setup) (acc : Accepted o) (commands : List ℕ) (same : o .command
       rw (← append-assoc ts performed (bytesSchedules calls))
       (calls-reach calls (afterCall call b) (ts ++ performed) (call-reaches call b ts (proper .0) r) (proper .1))
 
-  -- ---- the three parts
+  -- ---- the five parts
 
   -- the bytes of a thread that is read as idle are an idle one's: they are laid out so
   idle-read : (l : Lists) (ts : List ℕ) → Reach o l ts → (t : ℕ) → t ≤ o .largest → stateIn l .threads t ≡ Idle → IsIdle t (encoded l)
@@ -156,6 +156,11 @@ module _ (o : Setup) (acc : Accepted o) (commands : List ℕ) (same : o .command
       used = ap (λ (st : Store). st .used) e;
     }
 
+    -- an image is bytes as it stands
+    image-read : encoded l .image ≡ l .image
+    unfolding encoded
+    image-read = refl
+
     -- a call on the bytes is one on the lists
     call-read : (more : List ℕ) (m : Lists) → advanceOn l commands more ≡ accepted m
         → (advanceAnswer (encoded l) commands more ≡ 0) × (advanceLeft (encoded l) commands more ≡ encoded m)
@@ -174,6 +179,8 @@ module _ (o : Setup) (acc : Accepted o) (commands : List ℕ) (same : o .command
           answer = λ c low high. answer-read c low high ∙ numbers .answer c low high;
           table = λ all. (λ c low high. rw (answer-read c low high) (numbers .table all .0 c low high), table-read _ (numbers .table all .1));
           finish = (f .0, call .0, f .3, λ t h. rw (call .1) (idle-read m (ts ++ f .0) last t h (f .4 t h)));
+          moment = table-read _ (numbers .moment);
+          image = image-read ∙ numbers .image;
         }
 
 -- the opening's byte lists are those of the lists that no step has left, and every proper list of calls goes on from there

@@ -12,6 +12,7 @@ use Rattle.model.specs.Serial.{serialEntries}
 use Rattle.model.specs.Store.{Store, layOut}
 use Rattle.model.specs.Setup.{Setup}
 use Rattle.model.specs.Step.{opened}
+use Rattle.model.specs.Moment.{tableOf, lastCheckpoint, imageAt}
 use Rattle.model.specs.Statement.{wrote, removed, EachCommand, serialAnswer}
 use Rattle.byte_fields.specs.Bytes.{numberAt}
 use Rattle.state_bytes.specs.Layout.{Lists, threadBytes}
@@ -64,7 +65,7 @@ IsIdle t b = take 5 (drop (4393 + 5 * t) (b .state)) ≡ threadBytes Idle
 
 -- ---- the claim
 
--- the three parts, of the byte lists that the calls leave and the schedules that were performed
+-- the five parts, of the byte lists that the calls leave and the schedules that were performed
 pub record BytesHoldAfter (o : Setup) (commands : List ℕ) (b : Lists) (ts : List ℕ) : Type 0 where
   -- "Each answer is 0 before its command's writing turn, and from that turn on the one that running the whole list of commands [..] gives."
   pub answer : EachCommand o (λ c. answerAt c b ≡ cond (wrote o c ts (opened o)) (serialAnswer o c) 0)
@@ -74,6 +75,10 @@ pub record BytesHoldAfter (o : Setup) (commands : List ℕ) (b : Lists) (ts : Li
   -- "And some further dealing is accepted and leaves every command removed and every party idle"
   pub finish : (more : List ℕ) × (advanceAnswer b commands more ≡ 0) × EachCommand o (λ c. removed o c (ts ++ more) (opened o) ≡ true)
       × ((t : ℕ) → t ≤ o .largest → IsIdle t (advanceLeft b commands more))
+  -- "the store shall equal what the commands already written give when run alone in delivery order, from the opening store or the image" (02, A.10)
+  pub moment : TableIs (tableOf o (λ c. wrote o c ts (opened o))) b
+  -- "the image written holds what the commands delivered before the last written kind 6 leave, with its place, and zeros before any"
+  pub image : b .image ≡ imageAt o (lastCheckpoint o (λ c. wrote o c ts (opened o)))
 
 -- every opening, from an image or not, that is answered 0 and leaves b, and every proper list of calls from there
 abbrev pub Demand3OverBytes : Type 0

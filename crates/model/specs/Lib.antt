@@ -4,6 +4,7 @@ pub mod Setup
 pub mod Store
 pub mod Image
 pub mod ImageLaws
+pub mod Moment
 pub mod Graph
 pub mod Service
 pub mod Step

@@ -1,5 +1,6 @@
 -- Demand 3 for the model: whatever the order of steps, each answer is the serial run's, the last table is the serial run's, and no order
--- can block for good. Cites Serial, Service and Step alone; proved in Proof/. Assumes nothing.
+-- can block for good; with document 02's A.10, the table and the image at any moment. Cites Serial, Service, Step and Moment alone; proved in
+-- Proof/. Assumes nothing.
 use Prim.Native.Nat.{ℕ, _≤_}
 use mathlib.Core.Path.{_≡_}
 use mathlib.Core.Bool.{Bool, true, false, cond, _&&_, _||_}
@@ -18,6 +19,7 @@ use Rattle.model.specs.Store.{layOut}
 use Rattle.model.specs.Setup.{Setup, commandAt}
 use Rattle.model.specs.Service.{inOneStep}
 use Rattle.model.specs.Step.{State, commandOf, opened, step, steps}
+use Rattle.model.specs.Moment.{tableOf, lastCheckpoint, imageAt}
 
 -- what an accepted opening has been tested for, as far as the theorem needs it
 pub record Accepted (o : Setup) : Type 0 where
@@ -78,7 +80,7 @@ EachCommand o P = (c : ℕ) → 1 ≤ c → c ≤ length (o .commands) → P c
 unfoldable pub serialAnswer : Setup → ℕ → ℕ
 serialAnswer o c = getD (0 ∷ serialAnswers (o .capacity) (o .entries) (o .commands)) c 0
 
--- the three parts, after a schedule
+-- the five parts, after a schedule
 pub record Holds (o : Setup) (ts : List ℕ) : Type 0 where
   -- "Each answer is 0 before its command's writing turn, and from that turn on the one that running the whole list [..] gives."
   pub answer : EachCommand o (λ c. steps o ts (opened o) .service .answers c ≡ cond (wrote o c ts (opened o)) (serialAnswer o c) 0)
@@ -88,6 +90,10 @@ pub record Holds (o : Setup) (ts : List ℕ) : Type 0 where
   -- "And some further dealing is accepted and leaves every command removed and every party idle"
   pub finish : (more : List ℕ) × (allWithin (o .largest) more ≡ true) × EachCommand o (λ c. removed o c (ts ++ more) (opened o) ≡ true)
       × ((t : ℕ) → t ≤ o .largest → steps o (ts ++ more) (opened o) .threads t ≡ Idle)
+  -- "the store shall equal what the commands already written give when run alone in delivery order, from the opening store or the image"
+  pub moment : steps o ts (opened o) .service .store ≡ tableOf o (λ c. wrote o c ts (opened o))
+  -- "the image written holds what the commands delivered before the last written kind 6 leave, with its place, and zeros before any"
+  pub image : steps o ts (opened o) .service .image ≡ imageAt o (lastCheckpoint o (λ c. wrote o c ts (opened o)))
 
 -- the statement: "A dealing may name parties up to the largest count of the opening and the list" (02, A.2)
 abbrev pub Demand3 : Type 0

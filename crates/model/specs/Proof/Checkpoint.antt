@@ -1,9 +1,9 @@
--- The promises on checkpoints (specs/Checkpoint), proved: the image is that of the last kind 6 written, and from it, with the rest of the list, a
--- run goes on as the unbroken one would. Assumes nothing.
+-- The promise on restarts (specs/Checkpoint), proved: from the image of a checkpoint, with the rest of the list, a run goes on as the unbroken
+-- one would. Assumes nothing.
 use Prim.Native.Nat.{ℕ, suc, _+_, _-_, _≤_}
 use native.Mathlib.Omega.{arith}
 use mathlib.Core.Path.{_≡_, refl, sym, ap, subst, _∙_}
-use mathlib.Core.Bool.{Bool, true, _&&_}
+use mathlib.Core.Bool.{Bool, true}
 use mathlib.Core.List.{List}
 use mathlib.Core.Option.{some}
 use mathlib.Core.Logic.{⊎-elim}
@@ -17,19 +17,13 @@ use Rattle.model.specs.Image.{seqIn}
 use Rattle.model.specs.ImageLaws.{ReadsAs}
 use Rattle.model.specs.Step.{opened, steps}
 use Rattle.model.specs.Statement.{Accepted, wrote}
-use Rattle.model.specs.Checkpoint.{lastCheckpoint, entriesBefore, imageAt, CheckpointsAreKept, resumed, Resumes, Restart}
-use Rattle.model.specs.Proof.Last.{Stands, last-agrees, last-stands}
+use Rattle.model.specs.Moment.{lastCheckpoint, entriesBefore, imageAt}
+use Rattle.model.specs.Checkpoint.{resumed, Resumes, Restart}
+use Rattle.model.specs.Proof.Last.{Stands, last-stands}
 use Rattle.model.specs.Proof.Places.{command-within}
-use Rattle.model.specs.Proof.Theorem.{reached, written-is}
+use Rattle.model.specs.Proof.Theorem.{image-kept}
 use Rattle.model.specs.Proof.ImageLaws.{written-reads-back, zeros-read-as-empty}
 use Rattle.model.specs.Proof.Resume.{stored-after, entries-in-parts, answers-in-parts, entries-up-to, command-dropped}
-
--- the image is that of the last kind 6 written
-pub checkpoints-are-kept : CheckpointsAreKept
-unfolding lastCheckpoint
-checkpoints-are-kept o acc ts within =
-    reached o acc ts within .service .imaged
-    ∙ ap (imageAt o) (last-agrees _ (λ c. wrote o c ts (opened o)) 1 (o .commands) 0 (λ n c e. ap (λ (b : Bool). b && isCheckpoint (c .kind)) (written-is o acc ts within (1 + n) (omega arith))))
 
 -- ---- the image of a checkpoint
 
@@ -90,7 +84,7 @@ restart o acc ts within some-place size workers sizes counts =
     image = steps o ts (opened o) .service .image
 
     kept : image ≡ imageAt o (lastCheckpoint o written)
-    kept = checkpoints-are-kept o acc ts within
+    kept = image-kept o acc ts within
 
     no-checkpoint : lastCheckpoint o written ≡ 0 → ⊥
     no-checkpoint e =

@@ -18,7 +18,7 @@ use Rattle.model.specs.Image.{imageOf}
 use Rattle.model.specs.Service.{Service, openedService, foundFor, write, writeKind, imageAfter, writeFor}
 use Rattle.model.specs.Statement.{Accepted, EachCommand, serialAnswer}
 use Rattle.model.specs.Count.{countOf}
-use Rattle.model.specs.Checkpoint.{lastCheckpoint, imageAt}
+use Rattle.model.specs.Moment.{lastCheckpoint, imageAt}
 use Rattle.model.specs.Proof.Tests.{true-false, none-some, cond-cases}
 use Rattle.model.specs.Proof.Upd.{upd-at, upd-other, upd-cases}
 use Rattle.model.specs.Proof.Commute.{look-keeps}

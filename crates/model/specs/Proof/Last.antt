@@ -10,7 +10,7 @@ use mathlib.Core.Logic.{_⊎_, inl, inr, ⊎-elim}
 use lib.ListN.{length, getElem?}
 use Rattle.command.specs.declared.Command.{Command}
 use Rattle.command.specs.Dependent.{isCheckpoint}
-use Rattle.model.specs.Checkpoint.{lastFrom}
+use Rattle.model.specs.Moment.{lastFrom}
 use Rattle.model.specs.Proof.Tests.{none-some}
 
 -- sets that have the same checkpoints of the list have the same last one

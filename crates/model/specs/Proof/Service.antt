@@ -21,6 +21,8 @@ use Rattle.model.specs.Upd.{upd}
 use Rattle.model.specs.Setup.{Setup, commandAt}
 use Rattle.model.specs.Statement.{Accepted, EachCommand, serialAnswer}
 use Rattle.model.specs.Count.{countFrom, countOf, countBefore}
+use Rattle.model.specs.Store.{layOut}
+use Rattle.model.specs.Moment.{onlyFrom, tableOf}
 use Rattle.model.specs.Proof.Tests.{none-some, eqb-cases, cond-cases}
 use Rattle.model.specs.Proof.Upd.{upd-same, upd-other}
 use Rattle.model.specs.Proof.Trace.{Placed, Closed, run, runOnly}
@@ -98,6 +100,21 @@ pub entries-all : (o : Setup) (W : ℕ → Bool) → EachCommand o (λ c. W c �
 unfolding entriesOf serialEntries
 entries-all o W all =
     runOnly-all (effectOf (o .capacity)) W 1 (o .commands) (o .entries) (λ k l h. all k l (omega arith)) ∙ entries-after (o .capacity) (o .commands) (o .entries)
+
+-- they are those of the set's commands run alone
+only-run : (capacity : ℕ) (W : ℕ → Bool) (i : ℕ) (cs : List Command) (es : List Entry) → runOnly (effectOf capacity) W i cs es ≡ entriesAfter capacity (onlyFrom W i cs) es
+unfolding runOnly entriesAfter onlyFrom
+only-run capacity W i [] es = refl
+only-run capacity W i (c ∷ cs) es = first (W i) (only-run capacity W (suc i) cs)
+  where
+    first : (b : Bool) → ((fs : List Entry) → runOnly (effectOf capacity) W (suc i) cs fs ≡ entriesAfter capacity (onlyFrom W (suc i) cs) fs)
+        → runOnly (effectOf capacity) W (suc i) cs (cond b (effectOf capacity c es) es) ≡ entriesAfter capacity (cond b (c ∷ onlyFrom W (suc i) cs) (onlyFrom W (suc i) cs)) es
+    first true same = same (effectOf capacity c es)
+    first false same = same es
+
+pub table-of : (o : Setup) (W : ℕ → Bool) → layOut (o .capacity) (entriesOf o W) ≡ tableOf o W
+unfolding entriesOf tableOf serialEntries
+table-of o W = ap (layOut (o .capacity)) (only-run (o .capacity) W 1 (o .commands) (o .entries))
 
 pub entries-none : (o : Setup) → entriesOf o (λ c. false) ≡ o .entries
 unfolding entriesOf

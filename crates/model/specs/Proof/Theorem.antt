@@ -1,18 +1,21 @@
--- Demand 3 for the model, proved: the opening state meets the invariant, every step keeps it, and from it the three parts follow.
+-- Demand 3 for the model, proved: the opening state meets the invariant, every step keeps it, and from it the five parts follow.
 -- Assumes nothing.
 use Prim.Native.Nat.{ℕ, _+_, _*_, _≤_}
 use native.Mathlib.Omega.{arith}
 use mathlib.Core.Path.{_≡_, refl, ap, _∙_}
-use mathlib.Core.Bool.{Bool, true, cond, or-false}
+use mathlib.Core.Bool.{Bool, true, cond, or-false, _&&_}
 use mathlib.Core.List.{List}
 use mathlib.Core.Logic.{inl, ⊎-elim}
 use lib.ListN.{length}
+use Rattle.command.specs.Dependent.{isCheckpoint}
 use Rattle.model.specs.Store.{layOut}
 use Rattle.model.specs.Setup.{Setup}
 use Rattle.model.specs.Step.{State, opened, steps}
+use Rattle.model.specs.Moment.{tableOf, lastCheckpoint, imageAt}
 use Rattle.model.specs.Statement.{Accepted, allWithin, wrote, removed, EachCommand, serialAnswer, Demand3}
 use Rattle.model.specs.Proof.Tests.{true-false, eqb-cases}
-use Rattle.model.specs.Proof.Service.{entriesOf, entries-all, serial-positive}
+use Rattle.model.specs.Proof.Service.{entriesOf, entries-agree, entries-all, table-of, serial-positive}
+use Rattle.model.specs.Proof.Last.{last-agrees}
 use Rattle.model.specs.Proof.Chain.Invariant.{Ghost, Inv}
 use Rattle.model.specs.Proof.Chain.Ghost.{ghostSteps}
 use Rattle.model.specs.Proof.Chain.Keep.{steps-keep}
@@ -40,6 +43,20 @@ module _ (o : Setup) (acc : Accepted o) (ts : List ℕ) (within : allWithin (o .
   -- "the table at any moment": the store is what the answered commands give when run alone in delivery order, after every step
   pub table-at-any-moment : s .service .store ≡ layOut (o .capacity) (entriesOf o (g .written))
   table-at-any-moment = reached .service .stored
+
+  -- the commands that it means are those already written
+  table-written : s .service .store ≡ tableOf o (λ c. wrote o c ts (opened o))
+  table-written =
+      table-at-any-moment
+      ∙ (ap (layOut (o .capacity)) (entries-agree o (g .written) (λ c. wrote o c ts (opened o)) (λ c low high. written-is c low))
+      ∙ table-of o (λ c. wrote o c ts (opened o)))
+
+  -- and the image is that of the last kind 6 among them
+  pub image-kept : s .service .image ≡ imageAt o (lastCheckpoint o (λ c. wrote o c ts (opened o)))
+  unfolding lastCheckpoint
+  image-kept =
+      reached .service .imaged
+      ∙ ap (imageAt o) (last-agrees (g .written) (λ c. wrote o c ts (opened o)) 1 (o .commands) 0 (λ n c e. ap (λ (b : Bool). b && isCheckpoint (c .kind)) (written-is (1 + n) (omega arith))))
 
   answers-serial : EachCommand o (λ c. s .service .answers c ≡ cond (wrote o c ts (opened o)) (serialAnswer o c) 0)
   answers-serial c low high = reached .service .answered c low high ∙ ap (λ (b : Bool). cond b (serialAnswer o c) 0) (written-is c low)
@@ -72,6 +89,8 @@ demand-3 o acc ts within = record {
   answer = answers-serial o acc ts within;
   table = λ all. (all-answered o acc ts within all, table-at-any-moment o acc ts within ∙ ap (layOut (o .capacity)) (entries-all o (g o acc ts within .written) (all-written o acc ts within all)));
   finish = schedule-finishes o acc (opened o) (openedGhost o) (opened-meets o acc) (λ c. refl) ts within;
+  moment = table-written o acc ts within;
+  image = image-kept o acc ts within;
 }
 
 -- from every state reached the strategy finishes within a bound on its steps
