@@ -1,5 +1,5 @@
-/* A small belt host: it opens a dozen commands, deals turns call by call in a changing order, shows the panel now and then, and
- * prints answers and table. An identifier as argument is looked up in the table. */
+/* A small belt host: it opens a dozen commands, deals turns call by call in a changing order, shows the panel and the table now and
+ * then, and prints answers and table. An identifier as argument is looked up in the table. */
 #include <depot.h>
 
 #include <stdio.h>
@@ -92,6 +92,27 @@ static void print_panel(unsigned calls)
     printf("\n");
 }
 
+/* The table, with something before and after each entry. A place is in use if its chute is not 0. */
+static void print_table(const char *before, const char *after)
+{
+    for (size_t i = 0; i < CAPACITY && depot_short_at(chutes, i) != 0; i++) {
+        uint8_t text[DEPOT_IDENTIFIER_LENGTH];
+        must_accept("depot_write_identifier", depot_write_identifier(depot_key_at(keys, i), text, sizeof text));
+        printf("%s%.13s chute %u%s", before, (const char *)text, depot_short_at(chutes, i), after);
+    }
+}
+
+/* Which commands are written, and the table: at every moment it is what just these give when run alone in their order. */
+static void print_moment(void)
+{
+    printf("    written");
+    for (size_t i = 0; i < COMMANDS; i++)
+        if (depot_short_at(answers, i) != DEPOT_NOT_YET)
+            printf(" %lu", (unsigned long)i + 1);
+    print_table("; ", "");
+    printf("\n");
+}
+
 static int all_answered(void)
 {
     for (size_t i = 0; i < COMMANDS; i++)
@@ -124,8 +145,10 @@ static void run(void)
     while ((length = next_schedule(calls, schedule)) > 0) {
         deal(schedule, length);
         calls++;
-        if (calls % 10 == 0)
+        if (calls % 10 == 0) {
             print_panel(calls);
+            print_moment();
+        }
         if (calls == MOST_CALLS) {
             printf("not done after %u calls\n", calls);
             exit(EXIT_FAILURE);
@@ -138,15 +161,6 @@ static void print_answers(void)
 {
     for (size_t i = 0; i < COMMANDS; i++)
         printf("%lu %s %s %u\n", (unsigned long)i + 1, kinds[labelled[i].kind], labelled[i].text, depot_short_at(answers, i));
-}
-
-static void print_table(void)
-{
-    for (size_t i = 0; i < CAPACITY && depot_short_at(chutes, i) != 0; i++) {
-        uint8_t text[DEPOT_IDENTIFIER_LENGTH];
-        must_accept("depot_write_identifier", depot_write_identifier(depot_key_at(keys, i), text, sizeof text));
-        printf("%.13s chute %u\n", (const char *)text, depot_short_at(chutes, i));
-    }
 }
 
 static void look_up(const char *text)
@@ -166,7 +180,7 @@ int main(int argc, char **argv)
     open_list();
     run();
     print_answers();
-    print_table();
+    print_table("", "\n");
     look_up(argc > 1 ? argv[1] : "RR473124829GB");
     return EXIT_SUCCESS;
 }

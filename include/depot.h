@@ -238,10 +238,20 @@ uint64_t depot_open_from(uint8_t *state, size_t state_length, uint8_t *keys, siz
  * delivered after a worker change, up to and including the next one, is taken by a worker above its count, and none before the
  * first change by a worker above the opening's.
  *
+ * Keys and chutes may be read between any two calls. Proved over the same lists of calls: they are what the commands already written
+ * give when run alone in delivery order, from the opening's store; a command is written when its answer is not DEPOT_NOT_YET, and
+ * no entry shows a part of a command. An update may be written before an earlier insert of another item, so the table need not be
+ * one that the commands one after another have at some moment. After insert A 3, insert B 7 and update A 9 with the answers 1000,
+ * 0, 1000 it is
+ *
+ *     keys A, 0    chutes 9, 0
+ *
+ * and when the second answer is given too, A with 9 and B with 7.
+ *
  * At the writing turn of a checkpoint the store goes into the image, which is zeros before the first one and stands until the
- * next. Proved over the same lists of calls (crates/controller/specs/Checkpoint.antt): the image is always that of the last
- * checkpoint written, with what the commands delivered before it leave. Save it between calls, when depot_image_place(image) has
- * changed, as you save the other lists.
+ * next. Proved over the same lists of calls: the image is always that of the last checkpoint written, with its place and with what
+ * the commands delivered before it leave. Save it between calls, when depot_image_place(image) has changed, as you save the other
+ * lists.
  *
  * That some dealing finishes does not mean that each repeated pattern does. With one worker, 1 0 1 repeated from the opening never
  * loads a command: the loader's turn always falls while the worker stands on the head. Two turns each, 0 0 1 1, never load the

@@ -282,6 +282,41 @@ static void test_passing(void)
     free_all(&l);
 }
 
+/* Whether the first places of the table are these items in their chutes, and the next one, if there is one, is empty. */
+static int table_is(const struct lists *l, size_t used, const uint64_t *keys, const unsigned *chutes)
+{
+    for (size_t i = 0; i < used; i++)
+        if (depot_key_at(l->at[KEYS].bytes, i) != keys[i] || depot_short_at(l->at[CHUTES].bytes, i) != chutes[i])
+            return 0;
+    return 2 * used == l->at[CHUTES].length || depot_short_at(l->at[CHUTES].bytes, used) == 0;
+}
+
+/* Document 02, A.10, and README's example: an update passes an insert of another item, so that the table is what commands 1 and 3
+ * give alone, which the serial run has after no command. */
+static void test_moments(void)
+{
+    const struct settings s = {3, 2, 2};
+    const uint8_t schedule[27] = {0, 0, 0, 0, 0, 0, 0, 0, 0, 1, 1, 1, 1, 1, 1, 1, 1, 1, 1, 1, 1, 2, 2, 2, 2, 2, 1};
+    const uint64_t keys[2] = {0, 5};
+    const unsigned first[1] = {3}, passed[1] = {9}, last[2] = {9, 7};
+    struct lists l = make_all(3, 2);
+    put_command(&l, 0, DEPOT_INSERT, 0, 3);
+    put_command(&l, 1, DEPOT_INSERT, 5, 7);
+    put_command(&l, 2, DEPOT_UPDATE, 0, 9);
+    expect(OPEN, &l, s, 0, "refused two inserts and an update");
+    advance(&l, schedule, 12, 0, "up to the first insert's lookup");
+    check(table_is(&l, 0, keys, first), "moments", "the table before any writing", 0);
+    advance(&l, schedule + 12, 9, 0, "up to the second insert's lookup");
+    check(table_is(&l, 1, keys, first), "moments", "the table of the first insert", 0);
+    advance(&l, schedule + 21, 5, 0, "the update");
+    check(depot_short_at(l.at[ANSWERS].bytes, 1) == DEPOT_NOT_YET, "moments", "the second insert is written", 0);
+    check(depot_short_at(l.at[ANSWERS].bytes, 2) == DEPOT_DONE, "moments", "answer of the update", 0);
+    check(table_is(&l, 1, keys, passed), "moments", "the table of the first insert and the update", 0);
+    advance(&l, schedule + 26, 1, 0, "the second insert's writing");
+    check(table_is(&l, 2, keys, last), "moments", "the table of all three", 0);
+    free_all(&l);
+}
+
 /* What a call answers that refuses at a character, of a command of a place. */
 static uint64_t refused(unsigned number, size_t place, unsigned character)
 {
@@ -820,6 +855,7 @@ int main(void)
     test_empty_lists();
     test_example();
     test_passing();
+    test_moments();
     test_wrong_changes();
     test_workers();
     test_wrong_checkpoints();
