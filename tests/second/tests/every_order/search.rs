@@ -31,6 +31,7 @@ pub fn every_order_by(judge: &Judge, first: Run, met: &mut Met) {
     let mut left = Vec::from([(search.meet(&first), first)]);
     while let Some((number, run)) = left.pop() {
         judge.hold(&run);
+        met.note_tables(judge.others(&run));
         for party in 0..=run.largest {
             let mut after = run.clone();
             let moved = after.turn(party);
