@@ -1,6 +1,6 @@
 //! How often the compared inputs meet what document 02's A.2 brings: its refusals, and the turns at
-//! which the worker count decides; in `images`, what A.3 does; and in `moments`, what A.10 does. One
-//! that no input met would leave the comparison blind there.
+//! which the worker count decides; in `images`, what A.3 does; and in `moments`, what A.10 does.
+//! One that no input met would leave the comparison blind there.
 
 /// An enum of what is counted, with the words for each.
 macro_rules! named {

@@ -11,7 +11,7 @@ use crate::host::{GUARD, Host};
 use crate::image;
 use crate::met::Met;
 use crate::refusal::answer_words;
-use crate::run::Run;
+use crate::run::{Party, Run};
 use crate::script::{List, Step};
 use crate::serial::{self, Entries, written};
 use crate::store::Store;
@@ -122,7 +122,8 @@ impl<'a> Play<'a> {
     }
 
     /// How the judged side's lists differ from what serial runs give, if they do: the answers from
-    /// those of the whole list, the table and the image from those of the written commands.
+    /// those of the whole list, the table from that of the written commands alone, and the image
+    /// from that of the last written checkpoint.
     fn serial_differs(&self) -> Option<Difference> {
         let Some(run) = self.found.run() else {
             return Some("the lists are no run".to_string());
@@ -170,21 +171,40 @@ impl<'a> Play<'a> {
     }
 }
 
-/// How the answers of a run differ from the right ones: those that are given, and all once all
-/// commands are removed.
+/// How the answers of a run differ from the right ones, and from 0 before the writing turn.
 fn answer_differs(run: &Run, right: &[u16]) -> Option<Difference> {
-    let loaded = usize::from(run.loaded) == run.commands.len();
-    let removed = loaded && run.records.place.iter().all(|place| *place == 0);
+    let unwritten = unwritten(run);
     let pairs = run.answers.iter().zip(right);
-    for (index, (answer, right)) in pairs.enumerate() {
-        if answer != right && (removed || *answer != 0) {
-            let place = index + 1;
+    for (place, (answer, right)) in (1..).zip(pairs) {
+        let written = place <= run.loaded && !unwritten.contains(&place);
+        if !written && *answer != 0 {
+            return Some(format!(
+                "answer {place} is {answer} before its writing turn"
+            ));
+        }
+        if written && answer != right {
             return Some(format!(
                 "answer {place} is {answer}, of the serial run {right}"
             ));
         }
     }
     None
+}
+
+/// The places of the loaded commands whose writing turn is to come: they have records, of which no
+/// worker is written or removes them.
+fn unwritten(run: &Run) -> Vec<u16> {
+    let records = 1..=run.settings.size;
+    let writers = run.parties.iter().filter(|party| {
+        matches!(
+            party,
+            Party::Written { .. } | Party::Walking { .. } | Party::Clearing { .. }
+        )
+    });
+    let written: Vec<u8> = writers.filter_map(|party| party.own()).collect();
+    let open = records.filter(|record| !written.contains(record));
+    open.map(|record| run.records.place[usize::from(record)])
+        .collect()
 }
 
 /// How a table differs from that of the written commands alone.
@@ -394,8 +414,8 @@ mod tests {
         play.take(judgement).expect_err("it is told")
     }
 
-    /// Document 02, A.10, at the moment of document 01's case (l), whose insert alone is written: an
-    /// entry, how many there are, and a place past them.
+    /// Document 02, A.10, at the moment of document 01's case (l), whose insert alone is written:
+    /// an entry, how many there are, and a place past them.
     #[test]
     fn a_wrong_table_is_told_in_the_middle_of_a_run() {
         let told = |list, offset| told(example(2, None, 9), Step::Serial, list, offset, 1);
@@ -415,7 +435,8 @@ mod tests {
         );
     }
 
-    /// The same before the insert's writing turn and, with the answers as they should be, at the end.
+    /// The same before the insert's writing turn and, with the answers as they should be, at the
+    /// end.
     #[test]
     fn a_wrong_table_is_told_at_every_turn() {
         for turns in 0..=19 {
@@ -440,14 +461,20 @@ mod tests {
         }
     }
 
-    /// Demand 3: "When all commands are removed, every answer is given", also while a worker searches.
+    /// Demand 3: "Each answer is 0 before its command's writing turn, and from that turn on the one
+    /// that running the whole list of commands one after another gives." The read of the example is
+    /// written at turn 16, and removed at the last; then a worker may search.
     #[test]
-    fn a_lacking_answer_is_told_when_all_commands_are_removed() {
-        for more in [vec![], vec![1]] {
-            let mut play = example(2, None, 19);
-            assert_eq!(play.take(Step::Advance(more)), Ok(0));
+    fn an_answer_before_or_behind_its_writing_turn_is_told() {
+        for turns in 0..=20 {
+            let mut play = example(2, None, turns.min(19));
+            assert_eq!(play.take(Step::Advance(vec![1; turns / 20])), Ok(0));
             let words = told(play, Step::Serial, List::Answers, 3, 7);
-            assert_eq!(words, "step 7: answer 2 is 0, of the serial run 7");
+            let right = match turns {
+                ..16 => "step 7: answer 2 is 7 before its writing turn",
+                _ => "step 7: answer 2 is 0, of the serial run 7",
+            };
+            assert_eq!(words, right, "{turns}");
         }
     }
 }

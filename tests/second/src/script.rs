@@ -110,8 +110,8 @@ pub enum Step {
     /// Holds the answers against the serial run, and the table and the image against that of the
     /// written commands alone.
     Serial,
-    /// Holds the answers and the table against serial runs of a whole list, of which the run has the
-    /// last commands.
+    /// Holds the answers and the table against serial runs of a whole list, of which the run has
+    /// the last commands.
     Unbroken(Vec<u8>),
     /// Runs the program on this input.
     Program(Vec<u8>),

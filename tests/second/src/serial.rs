@@ -59,8 +59,8 @@ pub fn table_of(
     table(room, &outcome.entries)
 }
 
-/// Which places, from 1 on, are those of written commands: a command has its answer from its writing
-/// turn on.
+/// Which places, from 1 on, are those of written commands: a command has its answer from its
+/// writing turn on.
 pub fn written(answers: &[u16]) -> impl Fn(usize) -> bool {
     |place| answers[place - 1] != 0
 }
@@ -251,8 +251,8 @@ mod tests {
         assert_eq!(run(2, &commands).answers, [1000, 1000, 1000, 1002, 1000]);
     }
 
-    /// Document 02, A.10: commands that are left out leave nothing, not even a full store, and those
-    /// that are run keep their order; none leaves the entries that were there at first.
+    /// Document 02, A.10: commands that are left out leave nothing, not even a full store, and
+    /// those that are run keep their order; none leaves the entries that were there at first.
     #[test]
     fn the_table_of_some_commands_is_theirs_alone() {
         let commands = [

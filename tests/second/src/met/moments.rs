@@ -1,5 +1,5 @@
-//! How often the compared inputs meet what document 02's A.10 brings: moments in the middle of runs at
-//! which the table is judged, and those of them that tell its rule from others that are near it.
+//! How often the compared inputs meet what document 02's A.10 brings: moments in the middle of runs
+//! at which the table is judged, and those of them that tell its rule from others that are near it.
 
 use crate::command::Kind;
 use crate::host::Host;

@@ -71,8 +71,8 @@ impl Judge {
         [up_to_the_last, loaded].map(|set| *self.table(run, set) != run.store)
     }
 
-    /// Document 02, A.3 and A.10: the image is that of the last checkpoint that is written, with what
-    /// the commands delivered before it leave, and zeros before any.
+    /// Document 02, A.3 and A.10: the image is that of the last checkpoint that is written, with
+    /// what the commands delivered before it leave, and zeros before any.
     fn hold_image(&self, run: &Run, written: usize) {
         let last = (1..=run.commands.len()).rfind(|place| {
             let kind = run.commands[place - 1].kind;

@@ -2,8 +2,8 @@
 //! serial run, and all turns that lead from one to another. Demand 3 of document 00 is what is held
 //! against the states, and the order of a worker's states against the turns; the sets of the
 //! records, and who is written before whom, are held against the dependence of documents 01 and 02,
-//! who begins a search and takes a command against the worker counts of document 02's A.2, the image
-//! against its A.3, and the table of every state against its A.10.
+//! who begins a search and takes a command against the worker counts of document 02's A.2, the
+//! image against its A.3, and the table of every state against its A.10.
 
 mod judge;
 mod lists;
@@ -252,8 +252,8 @@ fn every_order_from_the_image_of_every_checkpoint() {
     assert!(met.settings > 500 && met.states > 100_000, "{}", met.states);
 }
 
-/// The judge notices an image that is written at the look-up, that is not written at the writing turn,
-/// that has the place of the next command or none, and that keeps records of an earlier one.
+/// The judge notices an image that is written at the look-up, that is not written at the writing
+/// turn, that has the place of the next command or none, and that keeps records of an earlier one.
 #[test]
 fn the_judge_notices_a_wrong_image() {
     let mut run = Run::open(settings(1, 1, 1), insert_and_delete());
@@ -295,8 +295,8 @@ fn passing() -> Vec<Command> {
 }
 
 /// Tables of the list of `passing` that are not those of its written commands: without the last of
-/// them, with the insert, of all up to the last of them, of all loaded, of all, and without what the
-/// run was opened from.
+/// them, with the insert, of all up to the last of them, of all loaded, of all, and without what
+/// the run was opened from.
 fn other_tables(run: &Run, entries: &Entries) -> [Store; 6] {
     let written = |place: usize| judge::is_written(run, place as u16);
     let last = (1..=5).rfind(|place| written(*place)).unwrap_or(0);
@@ -313,8 +313,8 @@ fn other_tables(run: &Run, entries: &Entries) -> [Store; 6] {
 }
 
 /// Document 02, A.10: the judge notices each of these tables in every state in which it is another,
-/// however soon it is the right one again; and nothing where it is not. The insert is taken, and the
-/// update and the read are removed before it.
+/// however soon it is the right one again; and nothing where it is not. The insert is taken, and
+/// the update and the read are removed before it.
 #[test]
 fn the_judge_notices_a_wrong_table() {
     let entries = Entries::from([(9, 4)]);

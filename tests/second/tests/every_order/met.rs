@@ -1,5 +1,5 @@
-//! What the turns of searches meet: commands that pass others, and entries that move; and the states,
-//! tables that tell the written commands from others.
+//! What the turns of searches meet: commands that pass others, and entries that move; and the
+//! states, tables that tell the written commands from others.
 
 use std::cmp::Ordering;
 use std::collections::HashMap;

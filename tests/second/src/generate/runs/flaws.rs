@@ -1,5 +1,5 @@
-//! Depots with one flaw each in what document 02's A.3 asks for: the comparison finds every one, and
-//! serial runs tell each wrong image without the second program.
+//! Depots with one flaw each in what document 02's A.3 asks for: the comparison finds every one,
+//! and serial runs tell each wrong image without the second program.
 
 use super::{CHECKPOINTS, SWAPS, play};
 use crate::bytes::{self, Lists};
@@ -19,7 +19,8 @@ enum Flaw {
     NextPlace,
     /// The image has no place.
     NoPlace,
-    /// The image is written by the first dealing that leaves a command behind the checkpoint written.
+    /// The image is written by the first dealing that leaves a command behind the checkpoint
+    /// written.
     Late,
     /// Records behind the entries keep what they had.
     Stale,

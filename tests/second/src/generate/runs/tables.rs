@@ -1,7 +1,7 @@
-//! Depots that show another table than document 02's A.10 asks for, each by a rule that is near it, as
-//! long as a run is not at its end: what they do, and how the run ends, is the second program's. They
-//! are played on both sides, so that nothing but serial runs can tell. Two written commands whose
-//! effects are exchanged are no such rule where they are independent: the table is the same.
+//! Depots that show another table than document 02's A.10 asks for, each by a rule that is near it,
+//! as long as a run is not at its end: what they do, and how the run ends, is the second program's.
+//! They are played on both sides, so that nothing but serial runs can tell. Two written commands
+//! whose effects are exchanged are no such rule where they are independent: the table is the same.
 
 use std::cell::RefCell;
 use std::collections::HashMap;
@@ -212,8 +212,8 @@ fn ways(first: u64, forms: u64, ways: u64) -> impl Iterator<Item = Vec<u64>> {
     starts.map(move |start| (start..start + forms).collect())
 }
 
-/// Runs of every sort that deals turns, and of every way of dealing them: whole, wide and long ones,
-/// ones whose lists are changed later, ones with a call for each turn, swaps, and the rest.
+/// Runs of every sort that deals turns, and of every way of dealing them: whole, wide and long
+/// ones, ones whose lists are changed later, ones with a call for each turn, swaps, and the rest.
 fn sorts() -> Vec<Vec<u64>> {
     let mut sorts = vec![
         rounds(0..16),
@@ -232,8 +232,8 @@ fn sorts() -> Vec<Vec<u64>> {
 }
 
 /// Document 02, A.10: "after every turn of every dealing, the store shall equal what the commands
-/// already written give when run alone in delivery order". A table that lacks one of them, or has one
-/// that is not written, is told in runs of every sort.
+/// already written give when run alone in delivery order". A table that lacks one of them, or has
+/// one that is not written, is told in runs of every sort.
 #[test]
 fn a_table_behind_or_ahead_is_told_in_every_sort_of_runs() {
     for shown in [Shown::Behind, Shown::Ahead, Shown::Loaded] {
