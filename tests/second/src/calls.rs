@@ -38,7 +38,7 @@ pub struct LentLists<'a> {
 
 impl LentLists<'_> {
     /// The lists as they were handed over, with the commands.
-    fn handed<'a>(&'a self, commands: &'a [u8]) -> Lists<'a> {
+    pub fn handed<'a>(&'a self, commands: &'a [u8]) -> Lists<'a> {
         Lists {
             state: self.state,
             keys: self.keys,

@@ -1,8 +1,30 @@
 //! How often the compared inputs meet what document 02's A.2 brings: its refusals, and the turns at
-//! which the worker count decides; and, in `images`, what A.3 does. One that no input met would leave
-//! the comparison blind there.
+//! which the worker count decides; in `images`, what A.3 does; and in `moments`, what A.10 does.
+//! One that no input met would leave the comparison blind there.
+
+/// An enum of what is counted, with the words for each.
+macro_rules! named {
+    ($(#[$doc:meta])* $name:ident: $($it:ident $words:literal,)+) => {
+        $(#[$doc])*
+        #[derive(Clone, Copy, Debug, PartialEq, Eq)]
+        pub enum $name {
+            $($it),+
+        }
+
+        impl $name {
+            pub const ALL: &[$name] = &[$($name::$it),+];
+
+            pub fn name(self) -> &'static str {
+                match self {
+                    $($name::$it => $words),+
+                }
+            }
+        }
+    };
+}
 
 pub mod images;
+pub mod moments;
 
 use std::ops::AddAssign;
 
@@ -11,6 +33,7 @@ use crate::command::{Kind, LENGTH};
 use crate::host::Host;
 use crate::identifier;
 use crate::met::images::Images;
+use crate::met::moments::Moments;
 use crate::run::{HEAD, Party, Run};
 use crate::script::{List, Step};
 
@@ -126,6 +149,7 @@ pub struct Met {
     /// Worker changes refused 8 at each character from 1.
     pub characters: [u64; identifier::LENGTH],
     pub images: Images,
+    pub moments: Moments,
 }
 
 impl Default for Met {
@@ -134,6 +158,7 @@ impl Default for Met {
             events: [0; Event::ALL.len()],
             characters: [0; identifier::LENGTH],
             images: Images::default(),
+            moments: Moments::default(),
         }
     }
 }
@@ -146,6 +171,7 @@ impl AddAssign<&Met> for Met {
             *count += more;
         }
         self.images.add(&other.images);
+        self.moments.add(&other.moments);
     }
 }
 
@@ -161,13 +187,14 @@ impl Met {
             .map(|event| format!("{}: {}", event.name(), self.events[event as usize]))
             .chain(characters)
             .chain(self.images.lines())
+            .chain(self.moments.lines())
             .collect()
     }
 
     /// Whether something was never met.
     pub fn lacks_any(&self) -> bool {
         let changes = self.events.contains(&0) || self.characters.contains(&0);
-        changes || self.images.lacks_any()
+        changes || self.images.lacks_any() || self.moments.lacks_any()
     }
 
     pub fn count(&self, event: Event) -> u64 {
@@ -185,6 +212,7 @@ impl Met {
             Step::Open(open) => self.note_opening(&open.commands, answer),
             Step::Advance(schedule) => self.note_dealing(host, schedule, answer),
             Step::WorkerStatus(_) if answer == 0 => self.note_report(host),
+            Step::Serial => self.moments.note_judged(host),
             _ => {}
         }
     }
@@ -330,6 +358,8 @@ mod tests {
         met.characters.fill(3);
         assert!(met.lacks_any(), "no image is met");
         met.images = Images::met(2);
+        assert!(met.lacks_any(), "no moment is met");
+        met.moments = Moments::met(2);
         assert!(!met.lacks_any());
         for index in 0..Event::ALL.len() {
             assert_eq!(Event::ALL[index] as usize, index);
@@ -346,9 +376,9 @@ mod tests {
         sum += &met;
         assert_eq!(sum.count(Event::Opened), 4);
         let lines = sum.lines();
-        let images = sum.images.lines().count();
+        let others = sum.images.lines().count() + sum.moments.lines().count();
         let counts = Event::ALL.len() + identifier::LENGTH;
-        assert_eq!(lines.len(), counts + images);
+        assert_eq!(lines.len(), counts + others);
         assert_eq!(lines[1], "counts refused 14: 4");
         let last = "worker changes refused 8 at character 13: 6";
         assert_eq!(lines[counts - 1], last);

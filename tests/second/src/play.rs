@@ -1,5 +1,5 @@
 //! Takes each step of a run with the second program and with the code that it judges, and tells
-//! the first difference in words.
+//! the first difference between them, or from what serial runs give, in words.
 
 use crate::bytes::{
     CHAIN, COUNT, EXECUTING, FREE, IN_FORCE, KEY, LARGEST, LOADED, LOCKED, NEXT, NUMBER, PARTY,
@@ -11,15 +11,17 @@ use crate::host::{GUARD, Host};
 use crate::image;
 use crate::met::Met;
 use crate::refusal::answer_words;
-use crate::run::Run;
+use crate::run::{Party, Run};
 use crate::script::{List, Step};
-use crate::serial::{self, Outcome};
+use crate::serial::{self, Entries, written};
+use crate::store::Store;
 
 /// What differs, in words.
 pub type Difference = String;
 
 /// Two callers, one of each side, that take the same steps.
 pub struct Play<'a> {
+    second: &'a dyn Depot,
     judged: &'a dyn Depot,
     expected: Host,
     found: Host,
@@ -32,11 +34,21 @@ pub struct Play<'a> {
 impl<'a> Play<'a> {
     pub fn new(judged: &'a dyn Depot) -> Play<'a> {
         Play {
+            second: &Second,
             judged,
             expected: Host::default(),
             found: Host::default(),
             steps: Vec::new(),
             met: Met::default(),
+        }
+    }
+
+    /// A depot on both sides, so that nothing but serial runs can tell what is wrong with it.
+    #[cfg(test)]
+    pub fn alone(depot: &'a dyn Depot) -> Play<'a> {
+        Play {
+            second: depot,
+            ..Play::new(depot)
         }
     }
 
@@ -68,16 +80,18 @@ impl<'a> Play<'a> {
     }
 
     /// Takes a step on the second program's side, and notes what it meets. Only a call on lists as
-    /// they stood before it can be noted.
+    /// they stood before it can be noted, and a judgement, which leaves them as they are.
     fn take_expected(&mut self, step: &Step) -> u64 {
         let noted = matches!(
             step,
             Step::Lend(_) | Step::Open(_) | Step::Advance(_) | Step::WorkerStatus(_)
         );
         let before = noted.then(|| self.expected.clone());
-        let answer = self.expected.take(&Second, step);
+        let answer = self.expected.take(self.second, step);
         if let Some(before) = before {
             self.met.note_step(&before, step, answer);
+        } else if *step == Step::Serial {
+            self.met.note_step(&self.expected, step, answer);
         }
         answer
     }
@@ -107,18 +121,24 @@ impl<'a> Play<'a> {
         "the lists differ in length".to_string()
     }
 
-    /// How the judged side's lists differ from what the serial run gives, if they do.
+    /// How the judged side's lists differ from what serial runs give, if they do: the answers from
+    /// those of the whole list, the table from that of the written commands alone, and the image
+    /// from that of the last written checkpoint.
     fn serial_differs(&self) -> Option<Difference> {
         let Some(run) = self.found.run() else {
             return Some("the lists are no run".to_string());
         };
-        let entries = self.found.entries().clone();
-        let outcome = serial::run_from(entries, run.settings.room.into(), &run.commands);
-        outcome_differs(&run, &outcome).or_else(|| self.image_differs(&run))
+        let (entries, room) = (self.found.entries(), run.settings.room);
+        let outcome = serial::run_from(entries.clone(), room.into(), &run.commands);
+        let table = serial::table_of(entries, room, &run.commands, written(&run.answers));
+        answer_differs(&run, &outcome.answers)
+            .or_else(|| table_differs(&run.store, &table))
+            .or_else(|| self.image_differs(&run))
     }
 
-    /// How they differ from what the serial run of a whole list gives, of which the run has the last
-    /// commands; each answer is that of the same command there.
+    /// How they differ from what serial runs give of a whole list, of which the run has the last
+    /// commands. Each answer is that of the same command there; the table is that of the commands
+    /// before the run and of those that it has written.
     fn unbroken_differs(&self, commands: &[u8]) -> Option<Difference> {
         let whole = command::read_list(commands).ok();
         let (Some(run), Some(whole)) = (self.found.run(), whole) else {
@@ -128,41 +148,83 @@ impl<'a> Play<'a> {
         let Some(before) = before.filter(|it| whole[*it..] == run.commands) else {
             return Some("the run has not the last commands of the list".to_string());
         };
-        let mut outcome = serial::run(run.settings.room.into(), &whole);
-        outcome.answers.drain(..before);
-        outcome_differs(&run, &outcome)
+        let room = run.settings.room;
+        let outcome = serial::run(room.into(), &whole);
+        let written = written(&run.answers);
+        let chosen = |place: usize| place <= before || written(place - before);
+        let table = serial::table_of(&Entries::new(), room, &whole, chosen);
+        let answers = &outcome.answers[before..];
+        answer_differs(&run, answers).or_else(|| table_differs(&run.store, &table))
     }
+
     /// How the judged side's image differs from what the commands before the last checkpoint that is
-    /// answered leave, with its place; from zeros where none is.
+    /// written leave, with its place; from zeros where none is.
     fn image_differs(&self, run: &Run) -> Option<Difference> {
-        let written = |place: &usize| {
-            run.commands[place - 1].kind == Kind::Checkpoint && run.answers[place - 1] != 0
-        };
-        let place = (1..=run.commands.len()).rfind(written).unwrap_or(0);
-        let entries = self.found.entries().clone();
+        let written = written(&run.answers);
+        let checkpoint =
+            |place: &usize| run.commands[place - 1].kind == Kind::Checkpoint && written(*place);
+        let place = (1..=run.commands.len()).rfind(checkpoint).unwrap_or(0);
+        let entries = self.found.entries();
         let right = serial::image(entries, run.settings.room, &run.commands, place);
         let same = self.found.list(List::Image) == right;
         (!same).then(|| format!("the image is not the serial run's before place {place}"))
     }
 }
 
-/// How the answers of a run, and where it is finished its table, differ from what serial runs give.
-fn outcome_differs(run: &Run, outcome: &Outcome) -> Option<Difference> {
-    let finished = run.is_finished();
-    let pairs = run.answers.iter().zip(&outcome.answers);
-    for (index, (answer, right)) in pairs.enumerate() {
-        if answer != right && (finished || *answer != 0) {
-            let place = index + 1;
+/// How the answers of a run differ from the right ones, and from 0 before the writing turn.
+fn answer_differs(run: &Run, right: &[u16]) -> Option<Difference> {
+    let unwritten = unwritten(run);
+    let pairs = run.answers.iter().zip(right);
+    for (place, (answer, right)) in (1..).zip(pairs) {
+        let written = place <= run.loaded && !unwritten.contains(&place);
+        if !written && *answer != 0 {
+            return Some(format!(
+                "answer {place} is {answer} before its writing turn"
+            ));
+        }
+        if written && answer != right {
             return Some(format!(
                 "answer {place} is {answer}, of the serial run {right}"
             ));
         }
     }
-    let table = serial::table(run.settings.room.into(), &outcome.entries);
-    let same = run.store.keys == table.keys
-        && run.store.chutes == table.chutes
-        && usize::from(run.store.used) == table.used;
-    (finished && !same).then(|| "the table is not the serial run's".to_string())
+    None
+}
+
+/// The places of the loaded commands whose writing turn is to come: they have records, of which no
+/// worker is written or removes them.
+fn unwritten(run: &Run) -> Vec<u16> {
+    let records = 1..=run.settings.size;
+    let writers = run.parties.iter().filter(|party| {
+        matches!(
+            party,
+            Party::Written { .. } | Party::Walking { .. } | Party::Clearing { .. }
+        )
+    });
+    let written: Vec<u8> = writers.filter_map(|party| party.own()).collect();
+    let open = records.filter(|record| !written.contains(record));
+    open.map(|record| run.records.place[usize::from(record)])
+        .collect()
+}
+
+/// How a table differs from that of the written commands alone.
+fn table_differs(table: &Store, right: &Store) -> Option<Difference> {
+    let alone = "of the written commands alone";
+    if table.used != right.used {
+        let (used, right) = (table.used, right.used);
+        return Some(format!("the table uses {used} places, {alone} {right}"));
+    }
+    let entry = |store: &Store, index: usize| (store.keys[index], store.chutes[index]);
+    let mut places = 0..right.keys.len();
+    let index = places.find(|index| entry(table, *index) != entry(right, *index))?;
+    let place = index + 1;
+    let [found, right] = [table, right].map(|store| {
+        let (key, chute) = entry(store, index);
+        format!("key {key} with chute {chute}")
+    });
+    Some(format!(
+        "entry {place} of the table is {found}, {alone} {right}"
+    ))
 }
 
 fn answers_differ(expected: u64, found: u64) -> Difference {
@@ -241,9 +303,11 @@ fn field(offset: usize) -> String {
 #[cfg(test)]
 mod tests {
     use super::*;
-    use crate::bytes::Lists;
+    use crate::bytes::{Lists, STATE};
     use crate::calls::{Given, LentLists};
+    use crate::command::LENGTH;
     use crate::script::Open;
+    use crate::text::input::{EXAMPLE, HEADER};
 
     /// The second program with some bits of its answers turned round.
     struct Turned(u64);
@@ -316,5 +380,101 @@ mod tests {
         let expected = "step 1: refused 13, character 2; \
                         by the second program refused 13, character 3";
         assert_eq!(words, Err(expected.to_string()));
+    }
+
+    /// The last commands of document 01's example, opened from an image or an empty store, with the
+    /// first so many of its turns.
+    fn example(count: usize, source: Option<Vec<u8>>, turns: usize) -> Play<'static> {
+        let (commands, schedule) = EXAMPLE[HEADER..].split_at(2 * LENGTH);
+        let mut play = Play::new(&Second);
+        let steps = [
+            Step::Lend([
+                STATE,
+                4 * KEY,
+                4 * NUMBER,
+                count * NUMBER,
+                5 * image::RECORD,
+            ]),
+            Step::Open(Open {
+                settings: [2, 1, 4],
+                commands: commands[(2 - count) * LENGTH..].to_vec(),
+                source,
+            }),
+            Step::Advance(schedule[..turns].to_vec()),
+        ];
+        assert_eq!(play.take_all(steps), Ok(0));
+        play
+    }
+
+    /// What a judgement tells behind a change of one byte on both sides, and nothing before it.
+    fn told(mut play: Play, judgement: Step, list: List, offset: usize, bits: u8) -> Difference {
+        assert_eq!(play.take(judgement.clone()), Ok(0));
+        let change = Step::Change { list, offset, bits };
+        assert_eq!(play.take(change), Ok(0));
+        play.take(judgement).expect_err("it is told")
+    }
+
+    /// Document 02, A.10, at the moment of document 01's case (l), whose insert alone is written:
+    /// an entry, how many there are, and a place past them.
+    #[test]
+    fn a_wrong_table_is_told_in_the_middle_of_a_run() {
+        let told = |list, offset| told(example(2, None, 9), Step::Serial, list, offset, 1);
+        assert_eq!(
+            told(List::Chutes, 1),
+            "step 6: entry 1 of the table is key 0 with chute 6, \
+             of the written commands alone key 0 with chute 7"
+        );
+        assert_eq!(
+            told(List::State, USED + 1),
+            "step 6: the table uses 0 places, of the written commands alone 1"
+        );
+        assert_eq!(
+            told(List::Keys, 2 * KEY - 1),
+            "step 6: entry 2 of the table is key 1 with chute 0, \
+             of the written commands alone key 0 with chute 0"
+        );
+    }
+
+    /// The same before the insert's writing turn and, with the answers as they should be, at the
+    /// end.
+    #[test]
+    fn a_wrong_table_is_told_at_every_turn() {
+        for turns in 0..=19 {
+            let words = told(example(2, None, turns), Step::Serial, List::Chutes, 7, 1);
+            assert!(words.contains("entry 4 of the table"), "{words}");
+        }
+    }
+
+    /// A run with the read alone, from an image with the insert's entry, against the whole list.
+    #[test]
+    fn a_wrong_table_behind_a_swap_is_told() {
+        let mut source = image::zeros(4);
+        source[1] = 1;
+        source[image::RECORD + image::CHUTE + 1] = 7;
+        let whole = EXAMPLE[HEADER..][..2 * LENGTH].to_vec();
+        for turns in [0, 2, 19] {
+            let play = || example(1, Some(source.clone()), turns);
+            for judgement in [Step::Serial, Step::Unbroken(whole.clone())] {
+                let words = told(play(), judgement, List::Chutes, 1, 1);
+                assert!(words.contains("is key 0 with chute 6, of"), "{words}");
+            }
+        }
+    }
+
+    /// Demand 3: "Each answer is 0 before its command's writing turn, and from that turn on the one
+    /// that running the whole list of commands one after another gives." The read of the example is
+    /// written at turn 16, and removed at the last; then a worker may search.
+    #[test]
+    fn an_answer_before_or_behind_its_writing_turn_is_told() {
+        for turns in 0..=20 {
+            let mut play = example(2, None, turns.min(19));
+            assert_eq!(play.take(Step::Advance(vec![1; turns / 20])), Ok(0));
+            let words = told(play, Step::Serial, List::Answers, 3, 7);
+            let right = match turns {
+                ..16 => "step 7: answer 2 is 7 before its writing turn",
+                _ => "step 7: answer 2 is 0, of the serial run 7",
+            };
+            assert_eq!(words, right, "{turns}");
+        }
     }
 }

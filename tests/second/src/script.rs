@@ -107,10 +107,11 @@ pub enum Step {
     Keep,
     /// Takes the copy back.
     Restore,
-    /// Holds the answers, the image and the table of a finished run against the serial run.
+    /// Holds the answers against the serial run, and the table and the image against that of the
+    /// written commands alone.
     Serial,
-    /// Holds the answers and the table of a finished run against the serial run of a whole list, of
-    /// which the run has the last commands.
+    /// Holds the answers and the table against serial runs of a whole list, of which the run has
+    /// the last commands.
     Unbroken(Vec<u8>),
     /// Runs the program on this input.
     Program(Vec<u8>),

@@ -22,14 +22,6 @@ pub struct Outcome {
     pub entries: Entries,
 }
 
-/// Entries laid out as the store is: ascending keys and their chutes, then 0 up to the capacity.
-#[derive(Clone, Debug, PartialEq, Eq)]
-pub struct Table {
-    pub keys: Vec<u64>,
-    pub chutes: Vec<u16>,
-    pub used: usize,
-}
-
 /// The chute of each key that is there.
 pub type Entries = BTreeMap<u64, u16>;
 
@@ -52,34 +44,50 @@ pub fn run_from(entries: Entries, capacity: usize, commands: &[Command]) -> Outc
     outcome
 }
 
+/// The table of some of the commands, those of the places that are chosen, from 1 on: what they
+/// leave when they alone are run, in delivery order, on a store that has these entries at first.
+/// Document 02, A.10, has it so of the commands already written, at every moment of a run.
+pub fn table_of(
+    entries: &Entries,
+    room: u16,
+    commands: &[Command],
+    chosen: impl Fn(usize) -> bool,
+) -> Store {
+    let places = (1..=commands.len()).filter(|place| chosen(*place));
+    let alone: Vec<Command> = places.map(|place| commands[place - 1]).collect();
+    let outcome = run_from(entries.clone(), room.into(), &alone);
+    table(room, &outcome.entries)
+}
+
+/// Which places, from 1 on, are those of written commands: a command has its answer from its
+/// writing turn on.
+pub fn written(answers: &[u16]) -> impl Fn(usize) -> bool {
+    |place| answers[place - 1] != 0
+}
+
 /// The image that a run has once its last written checkpoint is that of a place, 0 for none: what
 /// the commands before it leave of these entries, with its place; zeros where there is none.
-pub fn image(entries: Entries, room: u16, commands: &[Command], place: usize) -> Vec<u8> {
-    let Some(before) = place.checked_sub(1) else {
+pub fn image(entries: &Entries, room: u16, commands: &[Command], place: usize) -> Vec<u8> {
+    if place == 0 {
         return image::zeros(room);
-    };
-    let outcome = run_from(entries, room.into(), &commands[..before]);
-    let table = table(room.into(), &outcome.entries);
-    let store = Store {
-        keys: table.keys,
-        chutes: table.chutes,
-        used: table.used as u16,
-    };
+    }
+    let table = table_of(entries, room, commands, |earlier| earlier < place);
     let mut image = Vec::new();
-    image::write(&store, place as u16, &mut image);
+    image::write(&table, place as u16, &mut image);
     image
 }
 
-/// Lays entries out in a table of `capacity` places; there are no more entries than that.
-pub fn table(capacity: usize, entries: &Entries) -> Table {
+/// Lays entries out as the store is: ascending keys and their chutes, then 0 up to the room. There
+/// are no more entries than that.
+pub fn table(room: u16, entries: &Entries) -> Store {
     let mut keys: Vec<u64> = entries.keys().copied().collect();
     let mut chutes: Vec<u16> = entries.values().copied().collect();
-    keys.resize(capacity, 0);
-    chutes.resize(capacity, 0);
-    Table {
+    keys.resize(room.into(), 0);
+    chutes.resize(room.into(), 0);
+    Store {
         keys,
         chutes,
-        used: entries.len(),
+        used: entries.len() as u16,
     }
 }
 
@@ -174,7 +182,7 @@ mod tests {
     fn the_commands_of_the_example_answer_1000_and_7() {
         let outcome = run(4, &[insert(0, 7), command(Kind::Read, 0, 0)]);
         assert_eq!(outcome.answers, [1000, 7]);
-        let expected = Table {
+        let expected = Store {
             keys: vec![0; 4],
             chutes: vec![7, 0, 0, 0],
             used: 1,
@@ -233,7 +241,7 @@ mod tests {
         assert_eq!(outcome.answers, [1000, 1000, 1003, 4, 1000]);
         assert_eq!(outcome.entries, Entries::from([(5, 7), (9, 4)]));
         let read = |place| {
-            let image = image(first.clone(), 2, &commands, place);
+            let image = image(&first, 2, &commands, place);
             let store = image::read(&image).expect("an image");
             (store.keys, store.chutes, image::place(&image))
         };
@@ -241,6 +249,35 @@ mod tests {
         assert_eq!(read(2), (vec![5, 9], vec![7, 4], 2));
         assert_eq!(read(5), (vec![5, 9], vec![7, 4], 5));
         assert_eq!(run(2, &commands).answers, [1000, 1000, 1000, 1002, 1000]);
+    }
+
+    /// Document 02, A.10: commands that are left out leave nothing, not even a full store, and
+    /// those that are run keep their order; none leaves the entries that were there at first.
+    #[test]
+    fn the_table_of_some_commands_is_theirs_alone() {
+        let commands = [
+            insert(5, 7),
+            command(Kind::Delete, 9, 0),
+            Command::workers(2),
+            insert(3, 8),
+            command(Kind::Update, 5, 6),
+        ];
+        let first = Entries::from([(9, 4)]);
+        let of = |places: &[usize]| {
+            let table = table_of(&first, 2, &commands, |place| places.contains(&place));
+            assert_eq!((table.keys.len(), table.chutes.len()), (2, 2));
+            let used = usize::from(table.used);
+            assert!(table.keys[used..].iter().all(|key| *key == 0));
+            assert!(table.chutes[used..].iter().all(|chute| *chute == 0));
+            table.entries().collect::<Vec<_>>()
+        };
+        assert_eq!(of(&[]), [(9, 4)]);
+        assert_eq!(of(&[1, 5]), [(5, 6), (9, 4)]);
+        assert_eq!(of(&[5, 3]), [(9, 4)]);
+        assert_eq!(of(&[1, 4]), [(5, 7), (9, 4)]);
+        assert_eq!(of(&[2, 4]), [(3, 8)]);
+        assert_eq!(of(&[1, 2, 3, 4, 5]), [(3, 8), (5, 6)]);
+        assert_eq!(of(&[2, 3]), []);
     }
 
     /// Document 01, section "Command list and store": keys ascend, and freed places serve again.
@@ -258,7 +295,7 @@ mod tests {
             ],
         );
         assert_eq!(outcome.answers, [1000, 1000, 1000, 1000, 1000, 4]);
-        let expected = Table {
+        let expected = Store {
             keys: vec![1, 3],
             chutes: vec![512, 4],
             used: 2,

@@ -4,11 +4,11 @@
 
 use std::collections::BTreeSet;
 
-use super::commands::{checkpoint, perhaps_wrong as command};
+use super::commands::{self, checkpoint};
 use super::runs::openings::Opening;
 use super::{Case, every_byte_everywhere, random_key, with_byte};
 use crate::bytes::MOST_COMMANDS;
-use crate::command::LARGEST_CHUTE;
+use crate::command::{self, LARGEST_CHUTE};
 use crate::identifier::LARGEST_KEY;
 use crate::image::{self, RECORD, Record};
 use crate::random::Random;
@@ -221,15 +221,25 @@ pub fn cases(random: &mut Random) -> Vec<Case> {
         every_length(random),
         largest(random),
     ];
-    let cases = images.concat().into_iter().map(|(room, image)| {
-        let mut case = opening(room, checkpoint(0)).steps_from(image).to_vec();
-        case.push(Step::Advance(vec![0, 0, 1, 1, 1, 1]));
-        case
-    });
+    let cases = images
+        .concat()
+        .into_iter()
+        .map(|image| dealt(image, checkpoint(0), &[0, 0, 1, 1, 1, 1]));
     cases
         .chain(with_commands(random))
         .chain(with_settings(random))
         .collect()
+}
+
+/// Opens from an image and deals turns, which are refused where the opening is; else the lists are
+/// held against the serial run.
+fn dealt((room, image): Image, commands: Vec<u8>, schedule: &[u8]) -> Case {
+    let right = image.len() == image::length(room) && image::read(&image).is_ok();
+    let judged = right && command::read_list(&commands).is_ok();
+    let mut case = opening(room, commands).steps_from(image).to_vec();
+    case.push(Step::Advance(schedule.to_vec()));
+    case.extend(judged.then_some(Step::Serial));
+    case
 }
 
 /// An image for an opening of a room.
@@ -329,10 +339,8 @@ pub fn with_commands(random: &mut Random) -> Vec<Case> {
     for _ in 0..5000 {
         let room = random.pick(&ROOMS);
         let image = perhaps_wrong(random, room);
-        let commands = [command(random), command(random)].concat();
-        let mut case = opening(room, commands).steps_from(image).to_vec();
-        case.push(Step::Advance([0, 0, 0, 1, 1, 1, 1, 1, 1].to_vec()));
-        cases.push(case);
+        let list = [(); 2].map(|()| commands::perhaps_wrong(random)).concat();
+        cases.push(dealt((room, image), list, &[0, 0, 0, 1, 1, 1, 1, 1, 1]));
     }
     cases
 }

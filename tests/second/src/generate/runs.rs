@@ -1,7 +1,8 @@
 //! Compared runs of the whole depot, made from a seed: openings, schedules of every sort fed whole
-//! and in pieces, refused calls between them, items announced again, reads beside other commands,
-//! commands that pass inserts and deletes, worker counts that change, checkpoints, runs that are
-//! opened from the images of others, handed-back lists that were changed, and the program.
+//! and in pieces, with judgements by the serial run and refused calls between them, items announced
+//! again, reads beside other commands, commands that pass inserts and deletes, worker counts that
+//! change, checkpoints, runs that are opened from the images of others, handed-back lists that were
+//! changed, and the program.
 
 mod announcements;
 mod changes;
@@ -19,6 +20,8 @@ mod schedules;
 mod services;
 mod shifts;
 mod swaps;
+#[cfg(test)]
+mod tables;
 
 use super::Sort;
 use crate::calls::{COUNTS, STATUSES};
@@ -46,6 +49,8 @@ const ROUND: u64 = 23;
 const PROGRAM: u64 = ROUND - 1;
 /// Schedules up to this length may be fed turn by turn.
 const SHORT: usize = 300;
+/// Of how many calls in the middle of a dealing one is followed by a judgement.
+const MOMENTS: u64 = 3;
 
 /// What the run of an index is.
 pub fn sort(index: u64) -> Sort {
@@ -144,15 +149,22 @@ fn long_run(number: u64, random: &mut Random, play: &mut Play) -> Result<(), Dif
     Ok(())
 }
 
-/// Feeds a schedule whole, in pieces or turn by turn.
+/// Feeds a schedule whole, in two parts with a judgement between them, in pieces or turn by turn.
 fn feed(random: &mut Random, play: &mut Play, schedule: &[u8]) -> Result<(), Difference> {
     match random.below(4) {
-        0 | 1 => {
+        0 => {
             play.take(Step::Advance(schedule.to_vec()))?;
+        }
+        1 => {
+            let at = random.below(schedule.len() as u64 + 1) as usize;
+            play.take(Step::Advance(schedule[..at].to_vec()))?;
+            play.take(Step::Serial)?;
+            play.take(Step::Advance(schedule[at..].to_vec()))?;
         }
         2 if schedule.len() <= SHORT => {
             for party in schedule {
                 play.take(Step::Advance(vec![*party]))?;
+                moment(random, play)?;
             }
         }
         _ => feed_in_pieces(random, play, schedule)?,
@@ -169,7 +181,16 @@ fn feed_in_pieces(random: &mut Random, play: &mut Play, schedule: &[u8]) -> Resu
         let (piece, later) = rest.split_at(length);
         play.take(Step::Advance(piece.to_vec()))?;
         rest = later;
+        moment(random, play)?;
         interlude(random, play)?;
+    }
+    Ok(())
+}
+
+/// Holds the lists, which are as the calls left them, against the serial run behind some calls.
+fn moment(random: &mut Random, play: &mut Play) -> Result<(), Difference> {
+    if random.below(MOMENTS) == 0 {
+        play.take(Step::Serial)?;
     }
     Ok(())
 }
@@ -228,7 +249,7 @@ mod tests {
     use crate::bytes::Lists;
     use crate::calls::{Given, LentLists};
     use crate::depot::{Depot, Second};
-    use crate::generate::images;
+    use crate::generate::{counts, images};
 
     /// The second program, which counts how often each call gives each refusal number.
     #[derive(Default)]
@@ -301,11 +322,11 @@ mod tests {
         for index in (0..limits::COUNT).chain(FIXED..FIXED + 4000) {
             play(1, index, &mut Play::new(&depot)).expect("the second program is itself");
         }
-        let openings = images::with_commands(&mut Random::new(1));
-        for case in programs::limits(&mut Random::new(1))
-            .into_iter()
-            .chain(openings)
-        {
+        // Random openings seldom meet refusal 14 and those of images.
+        let random = &mut Random::new(1);
+        let changes = counts::cases(random).into_iter().flat_map(|it| it.1);
+        let openings = changes.chain(images::with_commands(random));
+        for case in programs::limits(random).into_iter().chain(openings) {
             let played = Play::new(&depot).take_all(case);
             played.expect("the second program is itself");
         }

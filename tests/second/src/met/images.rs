@@ -14,27 +14,9 @@ use crate::met::refused_kind;
 use crate::run::{Party, Run};
 use crate::script::{List, Step};
 
-macro_rules! scenes {
-    ($($scene:ident $name:literal,)+) => {
-        /// What is counted besides refusal 8.
-        #[derive(Clone, Copy, Debug, PartialEq, Eq)]
-        pub enum Scene {
-            $($scene),+
-        }
-
-        impl Scene {
-            pub const ALL: &[Scene] = &[$(Scene::$scene),+];
-
-            pub fn name(self) -> &'static str {
-                match self {
-                    $(Scene::$scene => $name),+
-                }
-            }
-        }
-    };
-}
-
-scenes! {
+named! {
+    /// What is counted besides refusal 8.
+    Scene:
     Opened "lists with a checkpoint opened",
     Refused10 "checkpoints refused 10",
     LookBesideKey0 "looks of a checkpoint beside an item of key 0",

@@ -1,16 +1,23 @@
 //! What is held against each state and each turn of a search.
 
+use std::cell::OnceCell;
+
 use second::command::Kind;
 use second::run::{HEAD, Party, Run};
-use second::serial::{self, Entries, Outcome, Table};
+use second::serial::{self, Entries, Outcome};
+use second::store::Store;
 
 use crate::met::Pass;
 
-/// What the serial run gives.
+/// What serial runs give.
 #[derive(Debug)]
 pub struct Judge {
     pub outcome: Outcome,
-    table: Table,
+    /// What the store had at the opening.
+    entries: Entries,
+    /// The table of each set of commands, once it is asked for. In the number of a set, the command
+    /// of place 1 is the lowest bit.
+    tables: Vec<OnceCell<Store>>,
     /// The image once the checkpoint of a place is the last that is written; the first is that of
     /// none, and those of other commands are of no use.
     images: Vec<Vec<u8>>,
@@ -20,48 +27,72 @@ impl Judge {
     /// The judge of a run whose store had these entries at its opening.
     pub fn of(run: &Run, entries: &Entries) -> Judge {
         let room = run.settings.room;
-        let outcome = serial::run_from(entries.clone(), room.into(), &run.commands);
-        let table = serial::table(room.into(), &outcome.entries);
         let places = 0..=run.commands.len();
-        let image = |place| serial::image(entries.clone(), room, &run.commands, place);
+        let image = |place| serial::image(entries, room, &run.commands, place);
         Judge {
-            outcome,
-            table,
+            outcome: serial::run_from(entries.clone(), room.into(), &run.commands),
+            entries: entries.clone(),
+            tables: vec![OnceCell::new(); 1 << run.commands.len()],
             images: places.map(image).collect(),
         }
     }
 
     pub fn hold(&self, run: &Run) {
+        let written = written(run);
         for (index, answer) in run.answers.iter().enumerate() {
-            let place = index as u16 + 1;
-            let right = if is_written(run, place) {
+            let place = index + 1;
+            let right = if has(written, place) {
                 self.outcome.answers[index]
             } else {
                 0
             };
             assert_eq!(*answer, right, "answer {place} of {:?}", run.commands);
         }
-        let count = run.commands.len() as u16;
-        if (1..=count).all(|place| is_removed(run, place)) {
-            assert_eq!(run.store.keys, self.table.keys);
-            assert_eq!(run.store.chutes, self.table.chutes);
-            assert_eq!(usize::from(run.store.used), self.table.used);
-        }
+        let table = self.table(run, written);
+        assert_eq!(run.store, *table, "{written:b} of {:?}", run.commands);
         run.chain().for_each(|record| hold_set(run, record));
         assert_eq!(run.in_force, in_force(run), "{:?}", run.commands);
-        self.hold_image(run);
+        self.hold_image(run, written);
     }
 
-    /// Document 02, A.3: the image is that of the last checkpoint that is written, with what the
-    /// commands delivered before it leave, and zeros before any.
-    fn hold_image(&self, run: &Run) {
+    /// Document 02, A.10: the table of the commands of a set, run alone.
+    fn table(&self, run: &Run, set: usize) -> &Store {
+        self.tables[set].get_or_init(|| {
+            let chosen = |place| has(set, place);
+            serial::table_of(&self.entries, run.settings.room, &run.commands, chosen)
+        })
+    }
+
+    /// Whether the table is another than that of all commands up to the last that is written, and
+    /// than that of all that are loaded.
+    pub fn others(&self, run: &Run) -> [bool; 2] {
+        let up_to_the_last = (written(run) + 1).next_power_of_two() - 1;
+        let loaded = (1 << run.loaded) - 1;
+        [up_to_the_last, loaded].map(|set| *self.table(run, set) != run.store)
+    }
+
+    /// Document 02, A.3 and A.10: the image is that of the last checkpoint that is written, with
+    /// what the commands delivered before it leave, and zeros before any.
+    fn hold_image(&self, run: &Run, written: usize) {
         let last = (1..=run.commands.len()).rfind(|place| {
             let kind = run.commands[place - 1].kind;
-            kind == Kind::Checkpoint && is_written(run, *place as u16)
+            kind == Kind::Checkpoint && has(written, *place)
         });
         let right = &self.images[last.unwrap_or(0)];
         assert_eq!(run.image.as_ref(), Some(right), "{:?}", run.commands);
     }
+}
+
+/// The number of the set of commands whose writing turn is over.
+fn written(run: &Run) -> usize {
+    let places = 1..=run.commands.len();
+    let written = places.filter(|place| is_written(run, *place as u16));
+    written.map(|place| 1 << (place - 1)).sum()
+}
+
+/// Whether the set of a number has the command of a place.
+fn has(set: usize, place: usize) -> bool {
+    set >> (place - 1) & 1 == 1
 }
 
 /// Document 02, A.2: the count of the last worker change that is written, else the opening's. These

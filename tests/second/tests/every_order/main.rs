@@ -2,8 +2,8 @@
 //! serial run, and all turns that lead from one to another. Demand 3 of document 00 is what is held
 //! against the states, and the order of a worker's states against the turns; the sets of the
 //! records, and who is written before whom, are held against the dependence of documents 01 and 02,
-//! who begins a search and takes a command against the worker counts of document 02's A.2, and the
-//! image against its A.3.
+//! who begins a search and takes a command against the worker counts of document 02's A.2, the
+//! image against its A.3, and the table of every state against its A.10.
 
 mod judge;
 mod lists;
@@ -21,6 +21,7 @@ use second::command::Kind::{self, Delete, Insert, Read, Update};
 use second::image;
 use second::run::{Party, Run};
 use second::serial::{self, Entries};
+use second::store::Store;
 
 /// What the settings of these sizes meet, with these commands, and up to two workers and two
 /// entries.
@@ -46,11 +47,13 @@ fn every_order_of_up_to_two_commands() {
 }
 
 /// Also: each command passes, in one order of turns or another, each that it does not depend on.
-/// That it passes no other is held at each turn.
+/// That it passes no other is held at each turn. And there are states whose table tells the written
+/// commands from all up to the last of them, and from all that are loaded.
 #[test]
 fn every_order_of_three_commands() {
     let met = met_by(&[1, 2, 3], &lists(3, 2));
     assert!(met.states > 1_000_000);
+    assert!(met.others.iter().all(|it| *it > 1000), "{:?}", met.others);
     for earlier in Kind::OF_ITEMS {
         for later in Kind::OF_ITEMS {
             for same_item in [true, false] {
@@ -249,8 +252,8 @@ fn every_order_from_the_image_of_every_checkpoint() {
     assert!(met.settings > 500 && met.states > 100_000, "{}", met.states);
 }
 
-/// The judge notices an image that is written at the look-up, that has the place of the next command,
-/// that keeps records of an earlier one, and that is not written at all.
+/// The judge notices an image that is written at the look-up, that is not written at the writing
+/// turn, that has the place of the next command or none, and that keeps records of an earlier one.
 #[test]
 fn the_judge_notices_a_wrong_image() {
     let mut run = Run::open(settings(1, 1, 1), insert_and_delete());
@@ -272,8 +275,65 @@ fn the_judge_notices_a_wrong_image() {
         judge.hold(&run);
         assert!(notices(&run, &|image| image.clone_from(&before)));
         assert!(notices(&run, &|image| image[image::KEY + 7] += 1));
+        assert!(notices(&run, &|image| image[image::KEY + 7] = 0));
         let stale = |image: &mut Vec<u8>| image[image::RECORD..].fill(1);
         assert!(notices(&run, &stale));
         assert!(!notices(&run, &|_| {}));
     }
+}
+
+/// A list on a store with item 9: the second and the third command pass the first where it is held.
+fn passing() -> Vec<Command> {
+    let item = |kind, key, chute| Command { kind, key, chute };
+    vec![
+        item(Insert, 5, 7),
+        item(Update, 9, 8),
+        item(Read, 9, 0),
+        Command::workers(1),
+        item(Delete, 9, 0),
+    ]
+}
+
+/// Tables of the list of `passing` that are not those of its written commands: without the last of
+/// them, with the insert, of all up to the last of them, of all loaded, of all, and without what
+/// the run was opened from.
+fn other_tables(run: &Run, entries: &Entries) -> [Store; 6] {
+    let written = |place: usize| judge::is_written(run, place as u16);
+    let last = (1..=5).rfind(|place| written(*place)).unwrap_or(0);
+    let loaded = usize::from(run.loaded);
+    let of = |chosen: &dyn Fn(usize) -> bool| serial::table_of(entries, 2, &run.commands, chosen);
+    [
+        of(&|place| written(place) && place != last),
+        of(&|place| written(place) || place == 1),
+        of(&|place| place <= last),
+        of(&|place| place <= loaded),
+        of(&|_| true),
+        serial::table_of(&Entries::new(), 2, &run.commands, written),
+    ]
+}
+
+/// Document 02, A.10: the judge notices each of these tables in every state in which it is another,
+/// however soon it is the right one again; and nothing where it is not. The insert is taken, and
+/// the update and the read are removed before it.
+#[test]
+fn the_judge_notices_a_wrong_table() {
+    let entries = Entries::from([(9, 4)]);
+    let store = serial::table(2, &entries);
+    let mut run = Run::open_with(settings(4, 2, 2), passing(), store);
+    let judge = Judge::of(&run, &entries);
+    let mut noticed = [0; 6];
+    let first = [[0; 14].as_slice(), &[1, 1, 1], &[2; 30]].concat();
+    for party in [first, [0, 1, 2].repeat(40)].concat() {
+        run.turn(party);
+        judge.hold(&run);
+        for (count, table) in noticed.iter_mut().zip(other_tables(&run, &entries)) {
+            let mut other = run.clone();
+            other.store = table;
+            let notices = catch_unwind(AssertUnwindSafe(|| judge.hold(&other))).is_err();
+            assert_eq!(notices, other.store != run.store);
+            *count += usize::from(notices);
+        }
+    }
+    assert!((1..=5).all(|place| judge::is_written(&run, place)));
+    assert!(noticed.iter().all(|states| *states >= 3), "{noticed:?}");
 }

@@ -1,4 +1,5 @@
-//! What the turns of searches meet: commands that pass others, and entries that move.
+//! What the turns of searches meet: commands that pass others, and entries that move; and the
+//! states, tables that tell the written commands from others.
 
 use std::cmp::Ordering;
 use std::collections::HashMap;
@@ -174,6 +175,9 @@ pub struct Met {
     /// Turns at which an entry goes up, and goes down, while a worker is between the look-up and
     /// the writing of a command of its item.
     pub moves: [usize; 2],
+    /// States whose table is not that of all commands up to the last that is written, and states
+    /// whose table is not that of all loaded ones.
+    pub others: [usize; 2],
 }
 
 impl Met {
@@ -185,6 +189,13 @@ impl Met {
 
     pub fn note_pass(&mut self, pass: Pass) {
         *self.passes.entry(pass).or_default() += 1;
+    }
+
+    /// Notes whether the table of a state is another than each of those.
+    pub fn note_tables(&mut self, others: [bool; 2]) {
+        for (count, other) in self.others.iter_mut().zip(others) {
+            *count += usize::from(other);
+        }
     }
 
     /// Notes a turn of a worker.

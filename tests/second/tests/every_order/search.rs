@@ -31,14 +31,11 @@ pub fn every_order_by(judge: &Judge, first: Run, met: &mut Met) {
     let mut left = Vec::from([(search.meet(&first), first)]);
     while let Some((number, run)) = left.pop() {
         judge.hold(&run);
+        met.note_tables(judge.others(&run));
         for party in 0..=run.largest {
             let mut after = run.clone();
             let moved = after.turn(party);
-            if party > 0 {
-                hold_count(&run, party, &after);
-                met.note_count(&run, party, &after);
-                met.note_image(&run, party);
-            }
+            hold_worker(&run, party, &after, met);
             if !moved {
                 assert_eq!(after, run, "a wait changes nothing");
                 continue;
@@ -64,6 +61,15 @@ pub fn every_order_by(judge: &Judge, first: Run, met: &mut Met) {
     assert_eq!(search.leading_to_a_finish(), states, "{judge:?}");
     met.states += states;
     met.settings += 1;
+}
+
+/// Judges a turn by the worker counts, and notes it, if it is a worker's.
+fn hold_worker(run: &Run, party: u8, after: &Run, met: &mut Met) {
+    if party > 0 {
+        hold_count(run, party, after);
+        met.note_count(run, party, after);
+        met.note_image(run, party);
+    }
 }
 
 impl Search {

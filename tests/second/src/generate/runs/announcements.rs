@@ -12,7 +12,7 @@ use crate::run::{Party, Run};
 
 /// How many runs there are: each form of a list four times in each way of dealing.
 pub const COUNT: u64 = FORMS * WAYS * 4;
-const FORMS: u64 = 128;
+pub const FORMS: u64 = 128;
 
 const SIZES: [u64; 6] = [1, 2, 3, 4, 6, 12];
 const WORKERS: [u64; 6] = [1, 2, 2, 3, 4, 8];

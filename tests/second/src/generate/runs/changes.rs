@@ -86,12 +86,13 @@ pub fn found(
     step_on(random, play)
 }
 
-/// A run that was opened and is somewhere in its middle.
+/// A run that was opened and is somewhere in its middle, where it is judged.
 fn middle(random: &mut Random, play: &mut Play) -> Result<(), Difference> {
     Opening::any(random).open(play)?;
     let mut schedule = schedules::any(random, play.host());
     schedule.truncate(random.below(schedule.len() as u64 + 1) as usize);
     play.take(Step::Advance(schedule))?;
+    play.take(Step::Serial)?;
     Ok(())
 }
 

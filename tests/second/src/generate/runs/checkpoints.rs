@@ -21,7 +21,7 @@ use crate::store::Store;
 
 /// How many runs there are: each form of a list once in each way of dealing.
 pub const COUNT: u64 = FORMS * WAYS;
-const FORMS: u64 = 128;
+pub const FORMS: u64 = 128;
 
 const SIZES: [u64; 5] = [2, 3, 4, 6, 8];
 const WORKERS: [u64; 5] = [1, 2, 2, 3, 4];

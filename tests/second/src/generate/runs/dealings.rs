@@ -3,7 +3,7 @@
 use std::mem;
 
 use super::openings::Opening;
-use super::{apart, feed, reports, schedules};
+use super::{apart, feed, moment, reports, schedules};
 use crate::command::Kind;
 use crate::generate::commands::with_key;
 use crate::generate::random_key;
@@ -82,7 +82,7 @@ impl<T: Copy> Dealing<T> {
     }
 
     /// To the end; behind each turn after which something is seen of its party, the lists are
-    /// handed over with each of the changes, on a copy.
+    /// perhaps judged, and handed over with each of the changes, on a copy.
     fn with_changes(&self, random: &mut Random, play: &mut Play) -> Played {
         let Some(mut run) = play.host().run() else {
             return Ok(());
@@ -93,6 +93,7 @@ impl<T: Copy> Dealing<T> {
             piece.push(party);
             if let Some(seen) = (self.seen)(&run, party) {
                 play.take(Step::Advance(mem::take(&mut piece)))?;
+                moment(random, play)?;
                 for change in self.changes {
                     apart(play, |play| change(party, seen, random, play))?;
                 }

@@ -1,4 +1,5 @@
-//! Depots with one flaw each in what document 02's A.3 asks for: the comparison finds every one.
+//! Depots with one flaw each in what document 02's A.3 asks for: the comparison finds every one,
+//! and serial runs tell each wrong image without the second program.
 
 use super::{CHECKPOINTS, SWAPS, play};
 use crate::bytes::{self, Lists};
@@ -16,6 +17,11 @@ enum Flaw {
     AtTheLook,
     /// The image has the place of the next command.
     NextPlace,
+    /// The image has no place.
+    NoPlace,
+    /// The image is written by the first dealing that leaves a command behind the checkpoint
+    /// written.
+    Late,
     /// Records behind the entries keep what they had.
     Stale,
     /// The last entry leads to the record behind it.
@@ -40,9 +46,11 @@ enum Flaw {
     Unmeasured,
 }
 
-const FLAWS: [Flaw; 13] = [
+const FLAWS: [Flaw; 15] = [
     Flaw::AtTheLook,
     Flaw::NextPlace,
+    Flaw::NoPlace,
+    Flaw::Late,
     Flaw::Stale,
     Flaw::NoEnd,
     Flaw::OpeningKeeps,
@@ -62,14 +70,7 @@ struct Flawed(Flaw);
 impl Flawed {
     /// Spoils an image that a dealing has written.
     fn spoil(&self, before: &[u8], lent: &mut LentLists, commands: &[u8]) {
-        let handed = Lists {
-            state: lent.state,
-            keys: lent.keys,
-            chutes: lent.chutes,
-            answers: lent.answers,
-            commands,
-        };
-        let Ok(run) = bytes::read(handed) else {
+        let Ok(run) = bytes::read(lent.handed(commands)) else {
             return;
         };
         let end = RECORD * (usize::from(run.store.used) + 1);
@@ -83,6 +84,8 @@ impl Flawed {
                 }
             }
             Flaw::NextPlace if written => lent.image[image::KEY + 7] += 1,
+            Flaw::NoPlace => lent.image[image::KEY..image::ZEROS].fill(0),
+            Flaw::Late => late(before, lent.image, &run),
             Flaw::Stale if written => {
                 let length = chain_length(lent.image);
                 lent.image[length..].copy_from_slice(&before[length..]);
@@ -151,6 +154,23 @@ fn looked_up(run: &Run) -> Option<u16> {
     checkpoint.then_some(run.records.place[usize::from(own)])
 }
 
+/// Leaves an image as it was before a call until a command behind its checkpoint is written.
+fn late(before: &[u8], image: &mut [u8], run: &Run) {
+    let checkpoint = |index: &usize| run.commands[*index].kind == Kind::Checkpoint;
+    let mut written = (0..run.commands.len()).filter(|index| run.answers[*index] != 0);
+    let Some(last) = written.clone().rfind(checkpoint) else {
+        return;
+    };
+    let place = last as u16 + 1;
+    if !written.any(|index| index > last) {
+        image.copy_from_slice(before);
+    } else if image::place(image) != u64::from(place) {
+        let mut other = Vec::new();
+        image::write(&run.store, place, &mut other);
+        image.copy_from_slice(&other);
+    }
+}
+
 /// The bytes of record 0 and of the entries, where these stand in order.
 fn chain_length(image: &[u8]) -> usize {
     let used = image::read(image).map_or(0, |store| store.used);
@@ -201,6 +221,13 @@ impl Depot for Flawed {
     }
 }
 
+/// What serial runs alone tell of a flaw in runs from an index on.
+fn told(flaw: Flaw, first: u64) -> Option<Difference> {
+    let depot = Flawed(flaw);
+    let mut indexes = (first..first + 500).step_by(9);
+    indexes.find_map(|index| play(1, index, &mut Play::alone(&depot)).err())
+}
+
 /// What is found of a flaw in runs from an index on, or else in images.
 fn found(flaw: Flaw, first: u64, images: &[Vec<crate::script::Step>]) -> Option<Difference> {
     let depot = Flawed(flaw);
@@ -226,4 +253,26 @@ fn every_flaw_is_found() {
         let difference = found(flaw, SWAPS + 1, &[]).expect("it is found by swaps");
         println!("{flaw:?}, in swaps: {difference}");
     }
+}
+
+/// Document 02, A.10: "the image written holds what the commands delivered before the last written
+/// kind 6 leave, with its place, and zeros before any".
+#[test]
+fn wrong_images_are_told_by_serial_runs_alone() {
+    let flaws = [
+        Flaw::AtTheLook,
+        Flaw::NextPlace,
+        Flaw::NoPlace,
+        Flaw::Late,
+        Flaw::Stale,
+        Flaw::NoEnd,
+        Flaw::OpeningKeeps,
+    ];
+    for flaw in flaws {
+        let difference = told(flaw, CHECKPOINTS).expect("it is told");
+        println!("{flaw:?}: {difference}");
+        assert!(difference.contains("the image is not"), "{flaw:?}");
+    }
+    let difference = told(Flaw::SourceStays, SWAPS + 1).expect("it is told");
+    assert!(difference.contains("the image is not"), "{difference}");
 }

@@ -18,7 +18,7 @@ use crate::store::Store;
 
 /// How many runs there are: each form of a list once in each way of dealing.
 pub const COUNT: u64 = FORMS * WAYS;
-const FORMS: u64 = 256;
+pub const FORMS: u64 = 256;
 
 const SIZES: [u64; 6] = [4, 6, 8, 8, 12, 12];
 const WORKERS: [u64; 6] = [2, 3, 3, 4, 4, 8];

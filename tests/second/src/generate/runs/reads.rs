@@ -18,7 +18,7 @@ use crate::script::Step;
 
 /// How many runs there are: each form of a list twice in each way of dealing.
 pub const COUNT: u64 = FORMS * WAYS * 2;
-const FORMS: u64 = 128;
+pub const FORMS: u64 = 128;
 
 const SIZES: [u64; 6] = [2, 3, 4, 6, 8, 12];
 const WORKERS: [u64; 6] = [1, 2, 3, 4, 4, 8];

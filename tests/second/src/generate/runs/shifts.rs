@@ -7,7 +7,7 @@
 use super::changes::{set_bytes, set_command, set_party, step_on};
 use super::dealings::{Change, Dealing, Played, WAYS, keys};
 use super::openings::Opening;
-use super::{reports, schedules};
+use super::{moment, reports, schedules};
 use crate::bytes::{CHAIN, EXECUTING, IN_FORCE, LARGEST, LOCKED, SETS};
 use crate::command::Kind::{self, Delete, Insert, Read, Update};
 use crate::generate::commands::{TEXT, with_key, workers};
@@ -20,7 +20,7 @@ use crate::script::{List, Step};
 
 /// How many runs there are: each form of a list twice in each way of dealing.
 pub const COUNT: u64 = FORMS * (WAYS + 1) * 2;
-const FORMS: u64 = 128;
+pub const FORMS: u64 = 128;
 /// In how many orders a list is dealt by the last way.
 const ORDERS: u64 = 4;
 /// Calls of such an order, and turns to its end, at the most.
@@ -134,7 +134,8 @@ fn opening(form: u64, random: &mut Random) -> Opening {
     }
 }
 
-/// The same list to its end in other orders of turns, each in pieces with the reports behind them.
+/// The same list to its end in other orders of turns, each in pieces with the reports, and some
+/// judgements, behind them.
 fn in_several_orders(opening: Opening, random: &mut Random, play: &mut Play) -> Played {
     for _ in 0..ORDERS {
         opening.clone().open(play)?;
@@ -142,6 +143,7 @@ fn in_several_orders(opening: Opening, random: &mut Random, play: &mut Play) -> 
         for piece in schedule.chunks(schedule.len() / CALLS + 1) {
             play.take(Step::Advance(piece.to_vec()))?;
             reports(play)?;
+            moment(random, play)?;
         }
         play.take(Step::Serial)?;
     }
