@@ -20,10 +20,11 @@ use Rattle.model.specs.Statement.{Accepted, wrote, serialAnswer}
 use Rattle.model.specs.Checkpoint.{resumed, Resumes}
 use Rattle.model.specs.Proof.Checkpoint.{restart}
 use Rattle.state_bytes.specs.Layout.{Lists, listsOf, lengthsFit, imageFits}
-use Rattle.controller.specs.Calls.{accepted, imageFrom, sourceLong, sourceChained, sourceFits, firstEntries, openedWith, openOn, setupOf}
+use Rattle.state_bytes.specs.Outcome.{accepted}
+use Rattle.opening.specs.Calls.{imageFrom, sourceLong, sourceChained, sourceFits, firstEntries, openedWith, openOn, setupOf}
 use Rattle.controller.specs.Demand3.{Call, listsAfter, schedules, HoldsAfter}
 use Rattle.controller.specs.Checkpoint.{GoesOn, RestartOverCalls}
-use Rattle.controller.proofs.OpeningTests.{five-passed, reads-list}
+use Rattle.opening.proofs.Tests.{five-passed, reads-list}
 use Rattle.controller.proofs.Demand3.{Reach, formed, image-is, opening-and-calls-reach, demand-3-over-calls}
 
 -- ---- the image that calls leave

@@ -25,11 +25,13 @@ use Rattle.model.specs.Proof.Formed.Opening.{opened-formed, accepted-formed}
 use Rattle.s10.specs.Refusal.{plain}
 use Rattle.command.specs.Read.{commandsIn}
 use Rattle.state_bytes.specs.Layout.{Lists, headBytes, stateBytes, listsOf, setupIn, stateIn, ascends, stateFits, handedBackFit, imageFits}
-use Rattle.controller.specs.Calls.{Source, CallOutcome, accepted, refused, kept, openOn, advanceOn, setupOf}
+use Rattle.opening.specs.Calls.{Source, openOn, setupOf}
+use Rattle.state_bytes.specs.Outcome.{CallOutcome, accepted, refused, kept}
+use Rattle.controller.specs.Calls.{advanceOn}
 use Rattle.controller.specs.Demand3.{Call, callOn, listsAfter, ProperCall, Proper, accepts, schedules, HoldsAfter, Demand3OverCalls}
 use Rattle.byte_fields.proofs.Bytes.{below-or-past, each-all-below}
 use Rattle.state_bytes.proofs.RoundTrip.{lists-state, lists-image, state-read-back, setup-read-back, lists-fit, image-fits, state-fits}
-use Rattle.controller.proofs.AcceptedOpening.{passed, IsOpened, accepted-opening}
+use Rattle.opening.proofs.Accepted.{passed, IsOpened, accepted-opening}
 
 -- ---- the store's keys ascend
 

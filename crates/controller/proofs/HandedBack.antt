@@ -17,7 +17,8 @@ use Rattle.model.specs.Statement.{allWithin}
 use Rattle.command.specs.Read.{commandsIn}
 use Rattle.byte_fields.specs.Bytes.{bytesOf, numberAt, tabulate, fields}
 use Rattle.state_bytes.specs.Layout.{Lists, flagByte, setBytes, threadBytes, stateBytes, listsOf, threadOf, threadAt, setAt, setupIn, countIn, stateIn, stateLength, threadFits, threadFitsAt, stateFits, handedBackFit, imageFits}
-use Rattle.controller.specs.Calls.{accepted, advanceOn}
+use Rattle.state_bytes.specs.Outcome.{accepted}
+use Rattle.controller.specs.Calls.{advanceOn}
 use Rattle.byte_fields.proofs.Bytes.{_▸_, Bytes, number-read-below, number-stands, one-byte, next-stands, parts-of, StandAt, fields-of, tabulate-elements}
 use Rattle.state_bytes.proofs.StateParts.{tagOf, atOf, ownOf, foundOf, thread-parts, setParts, set-parts, partLengths, partsOf, parts-joined}
 use Rattle.state_bytes.proofs.RoundTrip.{lists-state, lists-answers, lists-keys, lists-chutes, lists-image}
@@ -25,7 +26,7 @@ use Rattle.graph.proofs.Commands.{commands-length}
 use Rattle.state_bytes.proofs.Tested.{each-passed}
 use Rattle.state_bytes.proofs.Shown.{word-again}
 use Rattle.state_bytes.proofs.Passed.{Long, InRange, lengths-passed, state-passed}
-use Rattle.controller.proofs.Performing.{same-lists}
+use Rattle.runner.proofs.Performing.{same-lists}
 
 -- ---- a thread's parts
 

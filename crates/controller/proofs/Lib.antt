@@ -1,15 +1,8 @@
-pub mod AcceptedOpening
 pub mod Demand3
 pub mod Turn
 pub mod OneTurn
 pub mod WaitsFor
 pub mod HandedBack
-pub mod OpeningAnswer
-pub mod OpeningTests
-pub mod OpeningState
-pub mod Source
-pub mod Handed
-pub mod Performing
-pub mod Advancing
+pub mod Answer
 pub mod Count
 pub mod Checkpoint

@@ -11,7 +11,8 @@ use Rattle.model.specs.Step.{State, opened, step, steps}
 use Rattle.model.specs.Statement.{Accepted, allWithin}
 use Rattle.model.specs.Proof.Finish.Schedule.{steps-append, within-append}
 use Rattle.state_bytes.specs.Layout.{Lists, listsOf, stateIn}
-use Rattle.controller.specs.Calls.{accepted, advanceOn, AfterTurn}
+use Rattle.state_bytes.specs.Outcome.{accepted}
+use Rattle.controller.specs.Calls.{advanceOn, AfterTurn}
 use Rattle.controller.proofs.Demand3.{Reach, read-back, more-accepted}
 
 module _ (o : Setup) (acc : Accepted o) (commands : List ℕ) (same : o .commands ≡ commandsIn commands) (long : length commands ≡ 16 * length (o .commands)) (l : Lists) (ts : List ℕ)

@@ -8,7 +8,7 @@ use Rattle.model.specs.Proof.WaitsFor.{waits-only-for-dependent}
 use Rattle.controller.specs.Demand3.{listsAfter, schedules}
 use Rattle.controller.specs.WaitsFor.{WaitsOnlyForDependentOverCalls}
 use Rattle.controller.proofs.Demand3.{state-is, opening-and-calls-reach}
-use Rattle.controller.specs.Calls.{setupOf}
+use Rattle.opening.specs.Calls.{setupOf}
 
 pub waits-only-for-dependent-over-calls : WaitsOnlyForDependentOverCalls
 waits-only-for-dependent-over-calls size workers capacity commands source lent l e calls proper x y waits =

@@ -12,7 +12,8 @@ use Rattle.model.specs.Step.{opened}
 use Rattle.model.specs.Image.{seqIn}
 use Rattle.model.specs.Statement.{wrote, removed, EachCommand, serialAnswer}
 use Rattle.state_bytes.specs.Layout.{Lists, stateIn, lengthsFit, imageFits}
-use Rattle.controller.specs.Calls.{accepted, Source, imageFrom, openOn, setupOf}
+use Rattle.state_bytes.specs.Outcome.{accepted}
+use Rattle.opening.specs.Calls.{Source, imageFrom, openOn, setupOf}
 use Rattle.controller.specs.Demand3.{Call, listsAfter, Proper, schedules}
 
 -- "A run opened from an image with the rest of the list must give the answers and table of the unbroken run": the run r, opened with the

@@ -12,7 +12,9 @@ use Rattle.model.specs.Step.{opened, step}
 use Rattle.model.specs.Statement.{wrote}
 use Rattle.model.specs.Count.{countOf, countBefore, nodeOf, withLimit}
 use Rattle.state_bytes.specs.Layout.{Lists, stateIn}
-use Rattle.controller.specs.Calls.{Source, accepted, openOn, advanceOn, AfterTurn, setupOf}
+use Rattle.opening.specs.Calls.{Source, openOn, setupOf}
+use Rattle.state_bytes.specs.Outcome.{accepted}
+use Rattle.controller.specs.Calls.{advanceOn, AfterTurn}
 use Rattle.controller.specs.Demand3.{Call, listsAfter, Proper, schedules}
 
 -- in lists, the commands of `written` being answered

@@ -13,7 +13,9 @@ use Rattle.model.specs.Step.{opened}
 use Rattle.model.specs.Moment.{tableOf, lastCheckpoint, imageAt}
 use Rattle.model.specs.Statement.{wrote, removed, EachCommand, serialAnswer}
 use Rattle.state_bytes.specs.Layout.{Lists, stateIn}
-use Rattle.controller.specs.Calls.{Source, CallOutcome, accepted, refused, kept, openOn, advanceOn, setupOf}
+use Rattle.opening.specs.Calls.{Source, openOn, setupOf}
+use Rattle.state_bytes.specs.Outcome.{CallOutcome, accepted, refused, kept}
+use Rattle.controller.specs.Calls.{advanceOn}
 
 -- what is handed over: the caller's lists, commands and a schedule
 pub record Call : Type 0 where

@@ -1,6 +1,4 @@
 pub mod Calls
-pub mod Performed
-pub mod Opened
 pub mod Demand3
 pub mod OneTurn
 pub mod WaitsFor

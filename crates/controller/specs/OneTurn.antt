@@ -12,7 +12,9 @@ use Rattle.model.specs.Setup.{Setup}
 use Rattle.model.specs.Step.{commandOf}
 use Rattle.model.specs.OneTurn.{ReadDone, OnlyLooked}
 use Rattle.state_bytes.specs.Layout.{Lists, stateIn}
-use Rattle.controller.specs.Calls.{Source, accepted, openOn, AfterTurn, setupOf}
+use Rattle.opening.specs.Calls.{Source, openOn, setupOf}
+use Rattle.state_bytes.specs.Outcome.{accepted}
+use Rattle.controller.specs.Calls.{AfterTurn}
 use Rattle.controller.specs.Demand3.{Call, listsAfter, Proper}
 
 -- worker t, whose node has command c in the lists

@@ -7,7 +7,8 @@ use mathlib.Core.List.{List}
 use Rattle.model.specs.Setup.{Setup}
 use Rattle.model.specs.WaitsFor.{WaitsFor}
 use Rattle.state_bytes.specs.Layout.{Lists, stateIn}
-use Rattle.controller.specs.Calls.{Source, accepted, openOn, setupOf}
+use Rattle.opening.specs.Calls.{Source, openOn, setupOf}
+use Rattle.state_bytes.specs.Outcome.{accepted}
 use Rattle.controller.specs.Demand3.{Call, listsAfter, Proper}
 
 -- every accepted opening, and every proper list of calls from what it left: a node in another's set is of a command delivered before, and

@@ -20,7 +20,8 @@ use Rattle.model.specs.Step.{opened, steps}
 use Rattle.model.specs.Statement.{allWithin}
 use Rattle.byte_fields.specs.Bytes.{numberAt, tabulate, fields}
 use Rattle.state_bytes.specs.Layout.{listsOf, stateLength, lengthsFit, imageFits}
-use Rattle.controller.specs.Calls.{accepted, sourceLong, sourceChained, sourceFits, firstEntries, openedWith, openOn}
+use Rattle.state_bytes.specs.Outcome.{accepted}
+use Rattle.opening.specs.Calls.{sourceLong, sourceChained, sourceFits, firstEntries, openedWith, openOn}
 use Rattle.depot.specs.Cases.{command, full, corrected, writtenInFull, input, stopped, Marked}
 use Rattle.depot.specs.Program.{decimalWithin, decimal, zeros, commandLine, commandLines, totals, scheduleOf, opening}
 use Rattle.depot.specs.Reached.{inputSetup, InputPasses}

@@ -7,9 +7,11 @@ use native.Mathlib.Omega.{arith}
 use Rattle.s10.specs.Refusal.{Refusal, plain}
 use Rattle.model.specs.Statement.{allWithin}
 use Rattle.state_bytes.specs.Layout.{Lists, setupIn, stateFits, handedBackFit, imageFits}
-use Rattle.controller.specs.Calls.{Source, accepted, refused, openOn, advanceOn}
+use Rattle.opening.specs.Calls.{Source, openOn}
+use Rattle.state_bytes.specs.Outcome.{accepted, refused}
+use Rattle.controller.specs.Calls.{advanceOn}
 use Rattle.controller.specs.Demand3.{listsAfter}
-use Rattle.controller.proofs.AcceptedOpening.{passed}
+use Rattle.opening.proofs.Accepted.{passed}
 use Rattle.controller.proofs.Demand3.{demand-3-over-calls}
 
 -- a test that fails is the only way to its number

@@ -22,7 +22,9 @@ use Rattle.model.specs.Setup.{Setup}
 use Rattle.model.specs.Image.{imageLength, emptyImage}
 use Rattle.model.specs.Statement.{allWithin}
 use Rattle.state_bytes.specs.Layout.{Lists, stateLength, setupIn, stateFits, lengthsFit, handedBackFit, imageFits}
-use Rattle.controller.specs.Calls.{CallOutcome, accepted, refused, refusalIn, kept, Source, sourceLong, sourceChained, sourceFits, openedWith, openOn, advanceOn}
+use Rattle.state_bytes.specs.Outcome.{CallOutcome, accepted, refused, refusalIn, kept}
+use Rattle.opening.specs.Calls.{Source, sourceLong, sourceChained, sourceFits, openedWith, openOn}
+use Rattle.controller.specs.Calls.{advanceOn}
 use Rattle.byte_fields.proofs.Bytes.{below-or-past}
 use Rattle.depot.specs.Program.{refusal, printed, zeros}
 

@@ -14,10 +14,11 @@ use Rattle.model.specs.Setup.{Setup}
 use Rattle.model.specs.Step.{State}
 use Rattle.byte_fields.specs.Bytes.{tabulate}
 use Rattle.state_bytes.specs.Layout.{listsOf, stateIn}
-use Rattle.controller.specs.Calls.{accepted, nothing, firstEntries}
+use Rattle.state_bytes.specs.Outcome.{accepted}
+use Rattle.opening.specs.Calls.{nothing, firstEntries}
 use Rattle.state_bytes.proofs.RoundTrip.{lists-answers}
 use Rattle.byte_fields.proofs.Bytes.{tabulate-is}
-use Rattle.controller.proofs.AcceptedOpening.{accepted-opening}
+use Rattle.opening.proofs.Accepted.{accepted-opening}
 use Rattle.controller.proofs.Demand3.{opening-performs}
 use Rattle.depot.specs.Text.{ascii}
 use Rattle.depot.specs.Program.{newline, decimalWithin, decimal, commandLines, totals, report, printed, advanced, sizeOf, workersOf, capacityOf, commandsOf, scheduleOf, performed}

@@ -13,7 +13,9 @@ use Rattle.model.specs.Image.{emptyImage}
 use Rattle.model.specs.Step.{State}
 use Rattle.byte_fields.specs.Bytes.{numberAt, fields}
 use Rattle.state_bytes.specs.Layout.{Lists, allLists, stateLength, stateIn}
-use Rattle.controller.specs.Calls.{CallOutcome, accepted, refused, nothing, openOn, advanceOn}
+use Rattle.state_bytes.specs.Outcome.{CallOutcome, accepted, refused}
+use Rattle.opening.specs.Calls.{nothing, openOn}
+use Rattle.controller.specs.Calls.{advanceOn}
 use Rattle.depot.specs.Text.{ascii}
 
 -- ---- words

@@ -13,7 +13,8 @@ use Rattle.model.specs.Serial.{serialAnswers, serialEntries}
 use Rattle.model.specs.Statement.{allWithin, removed, EachCommand}
 use Rattle.byte_fields.specs.Bytes.{tabulate}
 use Rattle.state_bytes.specs.Layout.{Lists}
-use Rattle.controller.specs.Calls.{accepted, nothing, setupOf}
+use Rattle.state_bytes.specs.Outcome.{accepted}
+use Rattle.opening.specs.Calls.{nothing, setupOf}
 use Rattle.depot.specs.Text.{ascii}
 use Rattle.depot.specs.Program.{decimal, commandLines, totals, sizeOf, workersOf, capacityOf, countOf, commandsOf, scheduleOf, opening, output}
 

@@ -4,14 +4,14 @@ ghost use mathlib.Core.Path.{_≡_};
 ghost use lib.ListN.{length};
 ghost use Rattle.state_bytes.specs.Layout.{allAtEntry};
 ghost use Rattle.model.specs.Image.{imageLength};
-ghost use Rattle.controller.specs.Calls.{nothing, openOn};
+ghost use Rattle.opening.specs.Calls.{nothing, openOn};
 ghost use Rattle.depot.specs.Program.{printed, advanced, zeros};
 ghost use Rattle.depot.specs.Wrote.{Wrote};
 use crate::report::put_refusal;
 use crate::report::put_report;
 use controller::advance;
-use controller::open;
 use image::SLOT;
+use opening::open;
 
 // The most that a store may have room for.
 const LARGEST_CAPACITY: u64 = 4096;

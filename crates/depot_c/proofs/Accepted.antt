@@ -13,7 +13,9 @@ use Rattle.model.specs.Setup.{Setup}
 use Rattle.model.specs.Statement.{allWithin}
 use Rattle.model.specs.Proof.Tests.{cond-cases}
 use Rattle.state_bytes.specs.Layout.{Lists, setupIn, lengthsFit, stateFits, handedBackFit, imageFits}
-use Rattle.controller.specs.Calls.{CallOutcome, accepted, refused, refusalIn, Source, sourceLong, sourceChained, sourceFits, openedWith, openOn, advanceOn, setupOf}
+use Rattle.state_bytes.specs.Outcome.{CallOutcome, accepted, refused, refusalIn}
+use Rattle.opening.specs.Calls.{Source, sourceLong, sourceChained, sourceFits, openedWith, openOn, setupOf}
+use Rattle.controller.specs.Calls.{advanceOn}
 use Rattle.depot_c.specs.Boundary.{answerOf}
 
 -- an accepted call answers 0

@@ -20,9 +20,11 @@ use Rattle.state_bytes.specs.Layout.{Lists, threadBytes, listsOf, stateIn}
 use Rattle.byte_fields.proofs.Bytes.{below-or-past, lies-taken, lies-field, tabulate-length, tabulate-at, tabulate-past}
 use Rattle.state_bytes.proofs.StateParts.{thread-length, part-lies}
 use Rattle.state_bytes.proofs.RoundTrip.{lists-state, lists-answers, lists-keys, lists-chutes}
-use Rattle.controller.specs.Calls.{CallOutcome, accepted, advanceOn, setupOf}
+use Rattle.state_bytes.specs.Outcome.{CallOutcome, accepted}
+use Rattle.controller.specs.Calls.{advanceOn}
+use Rattle.opening.specs.Calls.{setupOf}
 use Rattle.controller.specs.Demand3.{Call}
-use Rattle.controller.proofs.AcceptedOpening.{IsOpened, accepted-opening}
+use Rattle.opening.proofs.Accepted.{IsOpened, accepted-opening}
 use Rattle.controller.proofs.Demand3.{Reach, opening-reaches, formed, accepted-reaches, state-is, holds}
 use Rattle.depot_c.specs.Numbers.{bytesIn}
 use Rattle.depot_c.specs.Boundary.{areWhole, numberLists, decoded, encoded, left, advanceAnswer, advanceLeft}

@@ -16,9 +16,11 @@ use Rattle.model.specs.Setup.{Setup}
 use Rattle.model.specs.Proof.Tests.{fails}
 use Rattle.byte_fields.specs.Bytes.{numberAt}
 use Rattle.state_bytes.specs.Layout.{Lists, allLists, lists, stateLength, setupIn, countIn, stateFits, lengthsFit, handedBackFit, imageFits}
-use Rattle.controller.specs.Calls.{CallOutcome, accepted, refused, refusalIn, kept, Source, sourceLong, sourceChained, sourceFits, openedWith, openOn, advanceRefusal, advanceOn, setupOf}
-use Rattle.controller.specs.declared.«advance_call».Advancing.{Advancing}
-use Rattle.controller.specs.declared.«advance_call».Advancing.the-variants.{Advanced, WrongLength, UnknownThread, WrongState}
+use Rattle.state_bytes.specs.Outcome.{CallOutcome, accepted, refused, refusalIn, kept}
+use Rattle.opening.specs.Calls.{Source, sourceLong, sourceChained, sourceFits, openedWith, openOn, setupOf}
+use Rattle.controller.specs.Calls.{advanceRefusal, advanceOn}
+use Rattle.controller.specs.declared.Advancing.{Advancing}
+use Rattle.controller.specs.declared.Advancing.the-variants.{Advanced, WrongLength, UnknownThread, WrongState}
 use Rattle.depot_c.specs.Numbers.{numbersIn, bytesIn}
 use Rattle.depot_c.specs.Boundary.{areWhole, numberLists, decoded, encoded, packed, answerOf, left}
 use Rattle.byte_fields.proofs.Bytes.{Bytes}

@@ -10,7 +10,9 @@ use Rattle.s10.specs.Outcome.{readText, refusalRead}
 use Rattle.s10.specs.Outcome as Identifier
 use Rattle.byte_fields.specs.Bytes.{bytesOf}
 use Rattle.state_bytes.specs.Layout.{Lists, allLists, lists, stateIn}
-use Rattle.controller.specs.Calls.{CallOutcome, accepted, refused, refusalIn, Source, openOn, advanceOn}
+use Rattle.state_bytes.specs.Outcome.{CallOutcome, accepted, refused, refusalIn}
+use Rattle.opening.specs.Calls.{Source, openOn}
+use Rattle.controller.specs.Calls.{advanceOn}
 use Rattle.panel.specs.Reports.{pendingCounts, workerStatusBytes, largestIn}
 use Rattle.depot_c.specs.Numbers.{numbersIn, bytesIn}
 use Rattle.depot_c.specs.declared.Wanted.{Wanted}

@@ -19,7 +19,7 @@ use Rattle.state_bytes.specs.Layout.{Lists, threadBytes}
 use Rattle.controller.specs.Demand3.{Call}
 use Rattle.depot_c.specs.Numbers.{bytesIn}
 use Rattle.depot_c.specs.Boundary.{openAnswer, openLeft, advanceAnswer, advanceLeft}
-use Rattle.controller.specs.Calls.{Source, setupOf}
+use Rattle.opening.specs.Calls.{Source, setupOf}
 
 -- ---- lists of calls
 

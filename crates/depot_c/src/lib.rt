@@ -1,10 +1,10 @@
 // The depot's calls for C: numbers and byte lists in, the proved call, bytes out.
-mod advancing;
+mod advance_call;
 mod answer;
 mod identifiers;
 mod lists;
 mod numbers;
-mod opening;
+mod open_calls;
 mod panel_calls;
 
 // Which of the panel's reports is asked for.

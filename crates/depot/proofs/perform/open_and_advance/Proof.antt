@@ -2,7 +2,7 @@
 use mathlib.Core.Path.{sym, ap, _∙_}
 use borrow.Author.Needs.{needs}
 use Rattle.state_bytes.specs.Layout.{allLists}
-use Rattle.controller.specs.Calls.{nothing, openOn}
+use Rattle.opening.specs.Calls.{nothing, openOn}
 use Rattle.depot.specs.Program.{advanced}
 use Rattle.s10.specs.Refusal.{Refusal}
 use Rattle.depot.proofs.Outcome.{printed-refused, printed-accepted, open-numbered}

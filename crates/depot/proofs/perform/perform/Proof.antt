@@ -7,7 +7,7 @@ use lib.ListN.{take}
 use lib.Seq.{length-take-le}
 use Rattle.model.specs.Image.{imageLength}
 use Rattle.state_bytes.specs.Layout.{allLists}
-use Rattle.controller.specs.Calls.{nothing}
+use Rattle.opening.specs.Calls.{nothing}
 use Rattle.depot.proofs.Outcome.{lent-as-zeros}
 use Rattle.depot.proofs.perform.perform.Statement.{statement}
 use Rattle.depot.proofs.perform.perform.Tie as tie

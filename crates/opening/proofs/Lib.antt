@@ -1,0 +1,5 @@
+pub mod Accepted
+pub mod Answer
+pub mod Tests
+pub mod FirstState
+pub mod Source
