@@ -1,4 +1,4 @@
--- `advance_call::advance` meets its contract: the first test that fails decides, and where none fails the schedule's steps are performed.
+-- `controller::advance` meets its contract: the first test that fails decides, and where none fails the schedule's steps are performed.
 -- Assumes nothing.
 use Prim.Native.Nat.{ℕ}
 use native.Mathlib.Omega.{arith}

@@ -1,4 +1,4 @@
--- `controller::open_call::answer_for` meets its contract: the tests come in the definition's order, and each answer is the definition's there.
+-- `opening::answer_for` meets its contract: the tests come in the definition's order, and each answer is the definition's there.
 -- Assumes nothing.
 use mathlib.Core.Path.{_≡_, sym, ap, _∙_}
 use mathlib.Core.Bool.{true, _&&_, and-eq-true-iff}

@@ -1,4 +1,4 @@
--- `controller::open_call::answer_of` meets its contract: each arm's answer is the one of its reading. Assumes nothing.
+-- `opening::answer_of` meets its contract: each arm's answer is the one of its reading. Assumes nothing.
 use mathlib.Core.Path.{_≡_, sym, _∙_}
 use borrow.Author.Needs.{needs}
 use Rattle.opening.specs.Calls.{openedWith}

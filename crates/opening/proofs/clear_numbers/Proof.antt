@@ -1,4 +1,4 @@
--- `controller::open_call::clear_numbers` meets its contract. The loop's invariant: the first i numbers are 0. Assumes nothing.
+-- `opening::clear_numbers` meets its contract. The loop's invariant: the first i numbers are 0. Assumes nothing.
 use Prim.Native.Nat.{ℕ, _-_}
 use native.Mathlib.Omega.{arith}
 use mathlib.Core.Path.{refl, _∙_}

@@ -1,4 +1,4 @@
--- `controller::open_call::fill_store` meets its contract: the image's entries, or zeros. Assumes nothing.
+-- `opening::fill_store` meets its contract: the image's entries, or zeros. Assumes nothing.
 use mathlib.Core.Path.{_∙_}
 use borrow.Author.Needs.{needs}
 use Rattle.opening.proofs.FirstState.{as-many-zeros, empty-store}

@@ -1,4 +1,4 @@
--- `controller::open_call::first_next` meets its contract. The loop's invariant: the next indexes are those of a graph of n nodes. Assumes nothing.
+-- `opening::first_next` meets its contract. The loop's invariant: the next indexes are those of a graph of n nodes. Assumes nothing.
 use Prim.Native.Nat.{ℕ, _-_, _≤_}
 use native.Mathlib.Omega.{arith}
 use mathlib.Core.Path.{_≡_, ap, _∙_}

@@ -1,4 +1,4 @@
--- `controller::open_call::is_image_long` meets its contract. Assumes nothing.
+-- `opening::is_image_long` meets its contract. Assumes nothing.
 use borrow.Author.Needs.{needs}
 use Rattle.model.specs.Image.{imageLength}
 use Rattle.opening.proofs.is_image_long.Statement.{statement}

@@ -1,4 +1,4 @@
--- `controller::open_call::is_within` meets its contract: each test is the definition's. Assumes nothing.
+-- `opening::is_within` meets its contract: each test is the definition's. Assumes nothing.
 use borrow.Author.Tests.{le-leb, lt-leb}
 use Rattle.opening.proofs.is_within.Statement.{statement}
 use Rattle.opening.proofs.is_within.Tie as tie

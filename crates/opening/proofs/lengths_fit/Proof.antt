@@ -1,4 +1,4 @@
--- `controller::open_call::lengths_fit` meets its contract: the first test that fails fails them all. Assumes nothing.
+-- `opening::lengths_fit` meets its contract: the first test that fails fails them all. Assumes nothing.
 use borrow.Author.Needs.{needs}
 use borrow.Author.Tests.{eq-eqb, ne-eqb}
 use Rattle.state_bytes.specs.Layout.{stateLength, lengthsFit, imageFits}

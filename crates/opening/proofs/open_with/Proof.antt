@@ -1,4 +1,4 @@
--- `controller::open_call::open_with` meets its contract: a refusal writes nothing, and an opening writes the lists of the opening state. Assumes nothing.
+-- `opening::open_with` meets its contract: a refusal writes nothing, and an opening writes the lists of the opening state. Assumes nothing.
 use native.Mathlib.Omega.{arith}
 use Prim.Native.Nat.{ℕ}
 use mathlib.Core.Path.{_≡_, refl, sym, ap, _∙_}

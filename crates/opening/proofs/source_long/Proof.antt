@@ -1,4 +1,4 @@
--- `controller::open_call::source_long` meets its contract: with no image there is nothing to test. Assumes nothing.
+-- `opening::source_long` meets its contract: with no image there is nothing to test. Assumes nothing.
 use borrow.Author.Needs.{needs}
 use borrow.Author.Tests.{not-true, not-false}
 use Rattle.opening.specs.Calls.{sourceLong}

@@ -1,4 +1,4 @@
--- `controller::open_call::write_opened` meets its contract: the arrays written are those of the opening state. Assumes nothing.
+-- `opening::write_opened` meets its contract: the arrays written are those of the opening state. Assumes nothing.
 use mathlib.Core.Path.{sym, ap, _∙_}
 use Prim.Native.Nat.{ℕ}
 use borrow.Author.Needs.{needs}

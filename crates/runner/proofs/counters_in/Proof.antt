@@ -1,4 +1,4 @@
--- `advance_call::counters_in` meets its contract: each counter is read where it stands. Assumes nothing.
+-- `runner::counters_in` meets its contract: each counter is read where it stands. Assumes nothing.
 use native.Mathlib.Omega.{arith}
 use mathlib.Core.Path.{sym, _∙_}
 use Rattle.state_bytes.specs.Layout.{stateLength}

@@ -1,4 +1,4 @@
--- `advance_call::perform` meets its contract. The loop's invariant: after i steps the arrays show the state after the schedule's first i steps.
+-- `runner::perform` meets its contract. The loop's invariant: after i steps the arrays show the state after the schedule's first i steps.
 -- Assumes nothing.
 use Prim.Native.Nat.{_+_, _-_, _^_, _<_}
 use native.Mathlib.Omega.{arith}

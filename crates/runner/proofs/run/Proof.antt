@@ -1,4 +1,4 @@
--- `advance_call::run` meets its contract: what is read from the lists shows their state, and is ready for the schedule's steps. Assumes nothing.
+-- `runner::run` meets its contract: what is read from the lists shows their state, and is ready for the schedule's steps. Assumes nothing.
 use Prim.Native.Nat.{ℕ}
 use native.Mathlib.Omega.{arith}
 use mathlib.Core.Path.{_≡_, refl, ap, _∙_}

@@ -1,4 +1,4 @@
--- `advance_call::settings_in` meets its contract: each setting is read where it stands. Assumes nothing.
+-- `runner::settings_in` meets its contract: each setting is read where it stands. Assumes nothing.
 use native.Mathlib.Omega.{arith}
 use mathlib.Core.Path.{sym, _∙_}
 use Rattle.state_bytes.specs.Layout.{stateLength, setupIn, countIn}

@@ -1,4 +1,4 @@
--- `depot_c::advancing::depot_advance` meets its contract: lists that end within a number or are too long are refused, others are lent rooms. Assumes nothing.
+-- `depot_c::advance_call::depot_advance` meets its contract: lists that end within a number or are too long are refused, others are lent rooms. Assumes nothing.
 use Prim.Native.Nat.{ℕ, _*_, _/_, _≤_}
 use mathlib.Core.Path.{_≡_, sym, ap, _∙_}
 use mathlib.Core.Bool.{cond}

@@ -1,4 +1,4 @@
--- `depot_c::opening::open_without` meets its contract: the call is made on empty lists. Assumes nothing.
+-- `depot_c::open_calls::open_without` meets its contract: the call is made on empty lists. Assumes nothing.
 use mathlib.Core.Path.{_∙_}
 use Rattle.depot_c.specs.Boundary.{answerOf}
 use Rattle.depot_c.proofs.Outcomes.{opening-place-below, no-list-opened}

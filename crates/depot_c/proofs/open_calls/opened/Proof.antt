@@ -1,4 +1,4 @@
--- `depot_c::opening::opened` meets its contract: lists that end within a number or are too long are refused, others are lent rooms. Assumes nothing.
+-- `depot_c::open_calls::opened` meets its contract: lists that end within a number or are too long are refused, others are lent rooms. Assumes nothing.
 use Prim.Native.Nat.{ℕ, _*_, _/_, _≤_}
 use mathlib.Core.Path.{sym, ap, _∙_}
 use lib.ListN.{length}
