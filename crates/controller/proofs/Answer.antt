@@ -9,7 +9,7 @@ use Rattle.model.specs.Statement.{allWithin}
 use Rattle.state_bytes.specs.Layout.{Lists, listsOf, setupIn, stateIn, stateFits, handedBackFit, imageFits}
 use Rattle.state_bytes.specs.Outcome.{CallOutcome, accepted, refused, refusalIn, kept}
 use Rattle.controller.specs.Calls.{advanceOn}
-use Rattle.runner.specs.Performed.{CallPasses}
+use Rattle.runner.specs.Performed.{CallPasses, given}
 
 module _ (l : Lists) (commands schedule : List ℕ) where
   -- whether the image is as long as the state's settings ask
@@ -35,7 +35,7 @@ module _ (l : Lists) (commands schedule : List ℕ) where
   refuses-thread e i f g = rw (e, i, f, g)
 
   -- where none fails, the schedule's steps are performed
-  pub accepts : CallPasses l commands schedule → advanceOn l commands schedule ≡ accepted (listsOf (setupIn (l .state) commands) (steps (setupIn (l .state) commands) schedule (stateIn l)))
+  pub accepts : {lent : List ℕ} → CallPasses l commands (given schedule) lent → advanceOn l commands schedule ≡ accepted (listsOf (setupIn (l .state) commands) (steps (setupIn (l .state) commands) schedule (stateIn l)))
   unfolding advanceOn
   accepts p = rw (p .lengths, p .image, p .state, p .named)
 

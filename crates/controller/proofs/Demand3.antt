@@ -127,7 +127,7 @@ module _ (o : Setup) (acc : Accepted o) (commands : List ℕ) (same : o .command
       (within-append (o .largest) ts schedule (r .0) (pass .0), (let q = pass .1 in cc))
 
   -- a refused call leaves the lists, and an accepted one leaves those that its schedule reaches
-  call-reaches : (call : Call) (l : Lists) (ts : List ℕ) (outcome : CallOutcome) → callOn call ≡ outcome → ProperCall commands l call outcome → Reach o l ts
+  pub call-reaches : (call : Call) (l : Lists) (ts : List ℕ) (outcome : CallOutcome) → callOn call ≡ outcome → ProperCall commands l call outcome → Reach o l ts
       → Reach o (kept outcome l) (ts ++ accepts outcome (call .schedule))
   unfolding callOn kept
   call-reaches call l ts (accepted m) e handed r = accepted-reaches l m ts (call .schedule) r (rw (handed .0, handed .1) at e)

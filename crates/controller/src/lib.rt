@@ -64,6 +64,18 @@ pub fn advance(
     if !threads_named(schedule, state[LARGEST]) {
         return Advancing::UnknownThread;
     }
-    run(state, keys, chutes, answers, image, commands, schedule);
+    let mut none = [0u8; 1]; // no step is chosen
+    run(
+        state,
+        keys,
+        chutes,
+        answers,
+        image,
+        commands,
+        schedule,
+        &mut none,
+        false,
+        0,
+    );
     Advancing::Advanced
 }

@@ -1,5 +1,6 @@
 pub mod Entries
 pub mod Outcomes
 pub mod Reporting
+pub mod Dispatched
 pub mod Accepted
 pub mod Demand3

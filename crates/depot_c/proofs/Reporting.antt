@@ -34,7 +34,7 @@ unlent-reported b commands lent wanted e = by (areWhole (length (b .keys)) (leng
     by false u = nothing-reported commands lent wanted
 
 -- lists that fit only with a state that does not are refused
-unfit-refused : (fit whole : Bool) → (fit ≡ true → whole ≡ false) → _≡_ {A = ℕ} (cond fit 12 6) (cond fit (cond whole 0 12) 6)
+pub unfit-refused : (fit whole : Bool) → (fit ≡ true → whole ≡ false) → _≡_ {A = ℕ} (cond fit 12 6) (cond fit (cond whole 0 12) 6)
 unfit-refused true whole unfit = rw (unfit refl)
 unfit-refused false whole unfit = refl
 

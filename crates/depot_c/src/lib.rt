@@ -1,6 +1,7 @@
 // The depot's calls for C: numbers and byte lists in, the proved call, bytes out.
 mod advance_call;
 mod answer;
+mod dispatch_calls;
 mod identifiers;
 mod lists;
 mod numbers;

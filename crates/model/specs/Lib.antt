@@ -8,7 +8,9 @@ pub mod Moment
 pub mod Graph
 pub mod Service
 pub mod Step
+pub mod Dispatch
 pub mod Statement
+pub mod Dispatching
 pub mod OneTurn
 pub mod WaitsFor
 pub mod Count

@@ -18,6 +18,7 @@ pub mod OneTurn
 pub mod WaitsFor
 pub mod Finish
 pub mod Theorem
+pub mod Dispatching
 pub mod Bounds
 pub mod Count
 pub mod Entries

@@ -20,7 +20,7 @@ use Rattle.graph.specs.Memory.{Ready, memory, shown}
 use Rattle.graph.proofs.Commands.{commands-length}
 use Rattle.byte_fields.specs.Bytes.{numberAt, tabulate}
 use Rattle.state_bytes.specs.Layout.{Lists, threadOf, threadAt, setAt, setupIn, countIn, stateIn, stateLength, threadFits, threadFitsAt, imageFits}
-use Rattle.runner.specs.Performed.{CountersIn}
+use Rattle.runner.specs.Performed.{CountersIn, turnsFrom, Named}
 use Rattle.byte_fields.proofs.Bytes.{below-or-past, tabulate-at, tabulate-past}
 use Rattle.byte_fields.proofs.Fill.{number-one}
 use Rattle.state_bytes.proofs.StateParts.{no-member}
@@ -89,9 +89,17 @@ module _ (l : Lists) (commands : List ℕ) where
   fit-count long = commands-length commands (countIn (l .state)) (long .commands-are)
 
   -- the schedule's threads are among the 65, and the setup is that of the lists
-  pub fit-named : InRange l → (schedule : List ℕ) → allWithin (setupIn (l .state) commands .largest) schedule ≡ true → allWithin 64 schedule ≡ true
+  fit-named : InRange l → (schedule : List ℕ) → allWithin (setupIn (l .state) commands .largest) schedule ≡ true → allWithin 64 schedule ≡ true
   unfolding setupIn
   fit-named range schedule = within-higher (numberAt 1 3 (l .state)) 64 (range .largest) schedule
+
+  pub fit-turns : InRange l → (b : Bool) (schedule : List ℕ) (limit : ℕ) (lent : List ℕ) → Named (setupIn (l .state) commands .largest) (turnsFrom b schedule limit) lent → Named 64 (turnsFrom b schedule limit) lent
+  fit-turns range false schedule limit lent named = fit-named range schedule named
+  fit-turns range true schedule limit lent named = named
+
+  pub fit-largest : InRange l → setupIn (l .state) commands .largest ≤ 64
+  unfolding setupIn
+  fit-largest range = range .largest
 
   pub fit-capacity : Long l commands → setupIn (l .state) commands .capacity ≡ length (l .keys)
   unfolding setupIn

@@ -1,14 +1,15 @@
--- What performing a schedule on the arrays needs and promises. Assumes nothing.
-use Prim.Native.Nat.{ℕ}
+-- What making steps on the arrays needs and promises. Assumes nothing.
+use Prim.Native.Nat.{ℕ, _≤_}
 use mathlib.Core.Path.{_≡_}
-use mathlib.Core.Bool.{true}
-use mathlib.Core.List.{List}
-use lib.ListN.{length, getD}
+use mathlib.Core.Bool.{Bool, true, false}
+use mathlib.Core.List.{List, _++_}
+use lib.ListN.{length, getD, drop}
 use Rattle.model.specs.declared.Thread.{Thread}
 use Rattle.model.specs.declared.Thread.the-variants.{Idle}
 use Rattle.model.specs.Setup.{Setup}
 use Rattle.model.specs.Image.{imageLength}
-use Rattle.model.specs.Step.{steps}
+use Rattle.model.specs.Step.{State, steps}
+use Rattle.model.specs.Dispatch.{fresh, dealt}
 use Rattle.model.specs.Statement.{allWithin}
 use Rattle.model.specs.declared.Counters.{Counters}
 use Rattle.graph.specs.Arrays.{NodesWithin}
@@ -16,7 +17,7 @@ use Rattle.command.specs.Read.{commandsIn}
 use Rattle.graph.specs.Memory.{Memory, Ready, shown}
 use Rattle.state_bytes.specs.declared.Settings.{Settings}
 use Rattle.byte_fields.specs.Bytes.{numberAt}
-use Rattle.state_bytes.specs.Layout.{Lists, stateLength, listsOf, setupIn, countIn, stateFits, handedBackFit, imageFits}
+use Rattle.state_bytes.specs.Layout.{Lists, stateLength, listsOf, setupIn, stateIn, countIn, stateFits, handedBackFit, imageFits}
 use Rattle.state_bytes.specs.Written.{Sets}
 
 -- the counters that stand in state bytes
@@ -30,23 +31,59 @@ pub record CountersIn (b : List ℕ) (k : Counters) : Type 0 where
 abbrev pub SettingsIn : List ℕ → Settings → Type 0
 SettingsIn b c = (commands : List ℕ) → length (commandsIn commands) ≡ countIn b → Sets c (setupIn b commands)
 
+-- ---- the steps
+
+-- the steps to make: those of a schedule, or those that the dispatcher chooses, at most so many
+pub data Turns : Type 0 where
+  given : List ℕ → Turns
+  chosen : ℕ → Turns
+
+abbrev pub turnsFrom : Bool → List ℕ → ℕ → Turns
+turnsFrom false schedule limit = given schedule
+turnsFrom true schedule limit = chosen limit
+
+unfoldable pub turnsOf : Setup → Turns → State → List ℕ
+unfolding dealt fresh
+turnsOf o (given ts) s = ts
+turnsOf o (chosen limit) s = dealt o limit (fresh o false s) s
+
+-- the threads of a schedule are there, and chosen steps have room in the lent list
+abbrev pub Named : ℕ → Turns → List ℕ → Type 0
+Named largest (given ts) lent = allWithin largest ts ≡ true
+Named largest (chosen limit) lent = limit ≤ length lent
+
+-- the lent list after the steps: chosen ones stand in it, and "bytes past the dealing stay untouched" (02, A.6)
+abbrev pub writtenIn : Turns → List ℕ → List ℕ → List ℕ
+writtenIn (given ts) steps lent = lent
+writtenIn (chosen limit) steps lent = steps ++ drop (length steps) lent
+
+-- ---- the contracts
+
 -- the lists pass the tests of a call
-pub record CallPasses (l : Lists) (commands schedule : List ℕ) : Type 0 where
+pub record CallPasses (l : Lists) (commands : List ℕ) (turns : Turns) (lent : List ℕ) : Type 0 where
   pub lengths : handedBackFit l commands ≡ true
   pub image : imageFits (setupIn (l .state) commands .capacity) l ≡ true
   pub state : stateFits l ≡ true
-  pub named : allWithin (setupIn (l .state) commands .largest) schedule ≡ true
+  pub named : Named (setupIn (l .state) commands .largest) turns lent
 
--- memory that is ready for a step of any thread, and a schedule of threads that there are
-pub record Performs (state commands schedule kinds itemKeys itemChutes : List ℕ) (m : Memory) (threads : List Thread) : Type 0 where
+-- what a call leaves and counts: the lists of the state after the steps, the steps in the lent list, and their number
+pub record Ran (l : Lists) (commands : List ℕ) (turns : Turns) (lent : List ℕ) (after : Lists) (lent′ : List ℕ) (count : ℕ) : Type 0 where
+  pub lists : after ≡ listsOf (setupIn (l .state) commands) (steps (setupIn (l .state) commands) (turnsOf (setupIn (l .state) commands) turns (stateIn l)) (stateIn l))
+  pub written : lent′ ≡ writtenIn turns (turnsOf (setupIn (l .state) commands) turns (stateIn l)) lent
+  pub counted : count ≡ length (turnsOf (setupIn (l .state) commands) turns (stateIn l))
+
+-- memory that is ready for a step of any thread, and steps that can be made
+pub record Performs (state commands : List ℕ) (turns : Turns) (lent kinds itemKeys itemChutes : List ℕ) (c : Settings) (m : Memory) (threads : List Thread) : Type 0 where
   pub long : length state ≡ stateLength
   pub ready : Ready commands kinds itemKeys itemChutes m Idle
   pub within : (t : ℕ) → NodesWithin (getD threads t Idle)
-  pub named : allWithin 64 schedule ≡ true
+  pub named : Named 64 turns lent
+  pub largest : c .largest ≤ 64
   pub imaged : length (m .service .image) ≡ imageLength (length (m .service .keys))
 
--- the lists are those of the state after the schedule
-abbrev pub Performed : Settings → List ℕ → List ℕ → Memory → List Thread → Lists → Type 0
-Performed c commands schedule m threads l =
+-- the same of the arrays, for every setup that the settings are of
+abbrev pub Performed : Settings → List ℕ → Turns → List ℕ → Memory → List Thread → Lists → List ℕ → ℕ → Type 0
+Performed c commands turns lent m threads after lent′ count =
     (o : Setup) → Sets c o → o .commands ≡ commandsIn commands → o .capacity ≡ length (m .service .keys)
-    → l ≡ listsOf o (steps o schedule (shown m (λ t. getD threads t Idle)))
+    → let s : State = shown m (λ t. getD threads t Idle) in
+    (after ≡ listsOf o (steps o (turnsOf o turns s) s)) × (lent′ ≡ writtenIn turns (turnsOf o turns s) lent) × (count ≡ length (turnsOf o turns s))

@@ -1,11 +1,14 @@
 // The turns of a handed-back state: its bytes read into arrays, the steps of a schedule made on these, and the bytes written again.
 ghost use mathlib.Core.Path.{_≡_};
-ghost use lib.ListN.{length};
-ghost use Rattle.model.specs.Step.{steps};
+ghost use mathlib.Core.Bool.{false, cond};
+ghost use Prim.Native.Nat.{_<_};
+ghost use lib.ListN.{length, getD};
 ghost use Rattle.graph.specs.Memory.{memory};
-ghost use Rattle.state_bytes.specs.Layout.{allLists, allAtEntry, allAtExit, listsOf, setupIn, stateIn, stateLength};
-ghost use Rattle.runner.specs.Performed.{CountersIn, SettingsIn, CallPasses, Performs, Performed};
+ghost use Rattle.state_bytes.specs.Layout.{allLists, allAtEntry, allAtExit, stateLength};
+ghost use Rattle.runner.specs.Performed.{CountersIn, SettingsIn, turnsFrom, CallPasses, Ran, Performs, Performed};
 use byte_fields::number_at;
+use choice::fresh;
+use choice::goes_on;
 use command::Seq;
 use model::Counters;
 use model::Thread;
@@ -67,7 +70,8 @@ fn counters_in(state: &[u8]) -> Counters
     }
 }
 
-// Reads the state bytes, and performs a schedule on what they show.
+// Reads the state bytes, makes the steps of a schedule, or those that the dispatcher chooses, on what they show, and writes the
+// state. Chosen steps go into the lent list, at most so many. How many steps there were.
 pub fn run(
     state: &mut [u8],
     keys: &mut [u64],
@@ -76,9 +80,12 @@ pub fn run(
     image: &mut [u8],
     commands: &[u8],
     schedule: &[u8],
-)
-    requires { ⌜ CallPasses (allLists (now state) (now keys) (now chutes) (now answers) (now image)) (now commands) (now schedule) ⌝ }
-    ensures { λ _. ⌜ allAtExit state keys chutes answers image ≡ listsOf (setupIn (now (state .entry)) (now (commands .entry))) (steps (setupIn (now (state .entry)) (now (commands .entry))) (now (schedule .entry)) (stateIn (allAtEntry state keys chutes answers image))) ⌝ }
+    lent: &mut [u8],
+    chooses: bool,
+    limit: usize,
+) -> usize
+    requires { ⌜ CallPasses (allLists (now state) (now keys) (now chutes) (now answers) (now image)) (now commands) (turnsFrom chooses (now schedule) limit) (now lent) ⌝ }
+    ensures { λ r. ⌜ Ran (allAtEntry state keys chutes answers image) (now (commands .entry)) (turnsFrom chooses (now (schedule .entry)) limit) (now (lent .entry)) (allAtExit state keys chutes answers image) (now (lent .exit)) r ⌝ }
 {
     let settings = settings_in(state);
     let counters = counters_in(state);
@@ -105,6 +112,9 @@ pub fn run(
         image,
         commands,
         schedule,
+        lent,
+        chooses,
+        limit,
         settings,
         counters,
         next,
@@ -116,10 +126,41 @@ pub fn run(
         item_keys,
         item_chutes,
         threads,
-    );
+    )
 }
 
-// Performs a schedule on the arrays, and writes the state that they then show.
+// The thread whose turn it is: the schedule's, or the chosen one.
+fn turn_at(chooses: bool, schedule: &[u8], i: usize, thread: u8) -> u8
+    requires { ⌜ (chooses ≡ false → i < length (now schedule)) ⌝ }
+    ensures { λ r. ⌜ r ≡ cond chooses thread (getD (now (schedule .entry)) i 0) ⌝ }
+{
+    if chooses {
+        return thread;
+    }
+    schedule[i]
+}
+
+// How many steps there are in all: those up to the end, or only those made where none is to come.
+fn left_by(going: bool, end: usize, made: usize) -> usize
+    ensures { λ r. ⌜ r ≡ cond going end made ⌝ }
+{
+    if going {
+        return end;
+    }
+    made
+}
+
+// How many there are at most: the schedule's, or, if there is one to come, as many as may be chosen.
+fn first_end(chooses: bool, going: bool, scheduled: usize, limit: usize) -> usize
+    ensures { λ r. ⌜ r ≡ cond chooses (cond going limit 0) scheduled ⌝ }
+{
+    if chooses {
+        return left_by(going, limit, 0);
+    }
+    scheduled
+}
+
+// Makes the steps on the arrays, and writes the state that they then show. How many there were.
 fn perform(
     state: &mut [u8],
     keys: &mut [u64],
@@ -128,6 +169,9 @@ fn perform(
     image: &mut [u8],
     commands: &[u8],
     schedule: &[u8],
+    lent: &mut [u8],
+    chooses: bool,
+    limit: usize,
     settings: Settings,
     mut counters: Counters,
     mut next: [u8; 151],
@@ -139,13 +183,25 @@ fn perform(
     mut item_keys: [u64; 151],
     mut item_chutes: [u16; 151],
     mut threads: [Thread; 65],
-)
-    requires { ⌜ Performs (now state) (now commands) (now schedule) kinds «item_keys» «item_chutes» (memory next seq executing locked waits (now keys) (now chutes) (now answers) (now image) counters) threads ⌝ }
-    ensures { λ _. ⌜ Performed settings (now (commands .entry)) (now (schedule .entry)) (memory next seq executing locked waits (now (keys .entry)) (now (chutes .entry)) (now (answers .entry)) (now (image .entry)) counters) threads (allAtExit state keys chutes answers image) ⌝ }
+) -> usize
+    requires { ⌜ Performs (now state) (now commands) (turnsFrom chooses (now schedule) limit) (now lent) kinds «item_keys» «item_chutes» settings (memory next seq executing locked waits (now keys) (now chutes) (now answers) (now image) counters) threads ⌝ }
+    ensures { λ r. ⌜ Performed settings (now (commands .entry)) (turnsFrom chooses (now (schedule .entry)) limit) (now (lent .entry)) (memory next seq executing locked waits (now (keys .entry)) (now (chutes .entry)) (now (answers .entry)) (now (image .entry)) counters) threads (allAtExit state keys chutes answers image) (now (lent .exit)) r ⌝ }
 {
+    let count = settings.count as usize;
+    let largest = settings.largest;
+    let mut plan = fresh(
+        false,
+        next[0],
+        &seq,
+        threads,
+        counters.loaded.0,
+        count,
+        largest,
+    );
+    let mut end = first_end(chooses, plan.going, schedule.len(), limit);
     let mut i = 0;
-    while i < schedule.len() {
-        let t = schedule[i];
+    while i < end {
+        let t = turn_at(chooses, schedule, i, plan.thread);
         let n = t as usize;
         let thread = threads[n];
         let r = threads::step(
@@ -169,7 +225,16 @@ fn perform(
         let moved = r.thread;
         threads[n] = moved;
         counters = r.counters;
-        i += 1;
+        let made = i + 1;
+        if chooses {
+            lent[i] = t;
+            if !goes_on(plan.settled, moved) {
+                let loaded = counters.loaded.0;
+                plan = fresh(plan.settled, next[0], &seq, threads, loaded, count, largest);
+                end = left_by(plan.going, end, made);
+            }
+        }
+        i = made;
     }
     write_state(
         state,
@@ -182,4 +247,5 @@ fn perform(
         &waits,
         threads,
     );
+    i
 }

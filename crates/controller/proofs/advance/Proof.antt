@@ -4,14 +4,17 @@ use Prim.Native.Nat.{ℕ}
 use native.Mathlib.Omega.{arith}
 use mathlib.Core.Path.{_≡_, refl, sym, ap, _∙_}
 use mathlib.Core.Bool.{true}
-use mathlib.Core.List.{List}
+use mathlib.Core.List.{List, []}
 use lib.ListN.{length}
 use borrow.Author.Tests.{not-true, not-false}
+use Rattle.model.specs.Step.{steps}
 use Rattle.model.specs.Statement.{allWithin}
-use Rattle.state_bytes.specs.Layout.{Lists, allLists, stateLength, setupIn, stateFits, handedBackFit, imageFits}
+use Rattle.state_bytes.specs.Layout.{Lists, allLists, listsOf, stateLength, setupIn, stateIn, stateFits, handedBackFit, imageFits}
+use Rattle.runner.specs.Performed as Performed
 use Rattle.runner.specs.Performed.{CallPasses}
 use Rattle.state_bytes.proofs.Passed as Passed
 use Rattle.runner.proofs.Handed.{largest-in}
+use Rattle.runner.proofs.Performing.{given-are}
 use Rattle.controller.proofs.Answer.{refuses-lengths, refuses-image, refuses-state, refuses-thread, accepts, refused-so, accepted-so}
 use borrow.Author.Needs.{needs}
 use Rattle.controller.proofs.advance.Statement.{statement}
@@ -30,12 +33,12 @@ abbrev state-tested : tie.After-threads-named → tie.After-state-fits
 state-tested c = c .before .before .before
 
 -- where all fit, from where the turns are run
-abbrev all-tested : tie.After-run-arg5 → tie.Else4
-all-tested c = c .before .before .before .before .before
+abbrev all-tested : tie.After-none → tie.Else4
+all-tested c = c .before .before .before .before .before .before
 
 -- the call that runs the turns, from the return
-abbrev run-called : tie.After-slice-known11 → tie.After-run
-run-called c = c .before .before .before .before .before .before .before .before .before .before
+abbrev run-called : tie.After-none2 → tie.After-run
+run-called c = c .before .before .before .before .before .before .before .before .before .before .before
 
 -- the lists, the commands and the schedule that the call gets
 abbrev given : tie.Start → Lists
@@ -151,8 +154,8 @@ returns-4 c =
     (refuses-thread _ _ _ (lengths-passed (lengths-before named)) (image-passed (state-tested named .before .before .before)) (state-passed (named .before .before)) (named-is named ∙ not-true _ (c .if4 .taken)))
 
 -- all tests pass
-passes : (c : tie.Else4) → CallPasses (given (entry4 (c .before))) (commandsOf (entry4 (c .before))) (scheduleOf (entry4 (c .before)))
-passes c =
+passes : (c : tie.Else4) (lent : List ℕ) → CallPasses (given (entry4 (c .before))) (commandsOf (entry4 (c .before))) (Performed.given (scheduleOf (entry4 (c .before)))) lent
+passes c lent =
     let named = c .before in
     record {
       lengths = lengths-passed (lengths-before named);
@@ -161,8 +164,11 @@ passes c =
       named = named-is named ∙ not-false _ (c .if4 .left);
     }
 
+slice-aggregate-run : tie.Need-slice-aggregate-run
+slice-aggregate-run c = search needs
+
 run-requires : tie.Need-run-requires
-run-requires c κs = passes (all-tested c)
+run-requires c κs = passes (all-tested c) _
 
 same-length-7 : tie.Need-same-length-7
 same-length-7 c = search needs
@@ -183,7 +189,10 @@ returns-5 : tie.Need-returns-5
 returns-5 c =
     let called = run-called c in
     let start = entry4 (all-tested (called .before) .before) in
-    accepted-so (given start) (commandsOf start) (scheduleOf start) _ _ (called .run .ensures) (accepts _ _ _ (passes (all-tested (called .before))))
+    let o = setupIn (start .args .state .now) (commandsOf start) in
+    accepted-so (given start) (commandsOf start) (scheduleOf start) _ _
+    (called .run .ensures .lists ∙ ap (λ (ts : List ℕ). listsOf o (steps o ts (stateIn (given start)))) (given-are o (scheduleOf start) (stateIn (given start))))
+    (accepts (given start) (commandsOf start) (scheduleOf start) (passes (all-tested (called .before)) []))
 
 pub advance-spec : {M : Type 1} → statement M
 advance-spec =
@@ -204,6 +213,7 @@ advance-spec =
     same-length-5
     same-length-6
     returns-4
+    slice-aggregate-run
     run-requires
     same-length-7
     same-length-8

@@ -1,7 +1,7 @@
 -- The steps do not look at the entries that an opening begins with: those of a setup are those of the setup without them. Assumes nothing.
-use Prim.Native.Nat.{ℕ}
+use Prim.Native.Nat.{ℕ, zero, suc}
 use mathlib.Core.Path.{_≡_, refl, ap}
-use mathlib.Core.Bool.{cond}
+use mathlib.Core.Bool.{Bool, true, false, cond}
 use mathlib.Core.List.{List, [], _∷_}
 use mathlib.Core.Option.{Option, none, some}
 use Rattle.command.specs.declared.Command.{Command}
@@ -10,6 +10,7 @@ use Rattle.model.specs.declared.Thread.the-variants.{Idle, Loading, Sear
 use Rattle.model.specs.Setup.{Setup, withoutEntries}
 use Rattle.model.specs.Service.{Service, foundFor, inOneStep, writeFor}
 use Rattle.model.specs.Step.{State, node, commandOf, addDependence, loaderIdle, loaderWalk, loaderStep, serveTo, holding, lookedUp, workerStep, step, steps}
+use Rattle.model.specs.Dispatch.{commandsLeft, turnsNeeded, chosen, Next, stop, turn, served, fresh, following, dealt, dispatched}
 
 module _ (o : Setup) where
   -- a write asks for the capacity alone
@@ -59,3 +60,23 @@ module _ (o : Setup) where
   unfolding steps
   steps-without [] s = refl
   steps-without (t ∷ ts) s = rw (step-without t s) (steps-without ts (step o t s))
+
+  -- nor the dispatcher's choice
+  following-without : (settled : Bool) (t : ℕ) (s : State) → following (withoutEntries o) settled t s ≡ following o settled t s
+  unfolding following fresh served chosen
+  following-without false t s = refl
+  following-without true t s = refl
+
+  dealt-without : (k : ℕ) (n : Next) (s : State) → dealt (withoutEntries o) k n s ≡ dealt o k n s
+  unfolding dealt
+  dealt-without zero n s = refl
+  dealt-without (suc k) stop s = refl
+  dealt-without (suc k) (turn settled t) s = rw (step-without t s, following-without settled t (step o t s)) (ap (λ (l : List ℕ). t ∷ l) (dealt-without k (following o settled t (step o t s)) (step o t s)))
+
+  pub needed-without : (s : State) → turnsNeeded (withoutEntries o) s ≡ turnsNeeded o s
+  unfolding turnsNeeded commandsLeft
+  needed-without s = refl
+
+  pub dispatched-without : (s : State) → dispatched (withoutEntries o) s ≡ dispatched o s
+  unfolding dispatched fresh served chosen
+  dispatched-without s = rw (needed-without s) (dealt-without (turnsNeeded o s) (fresh o false s) s)

@@ -12,6 +12,7 @@ use Rattle.model.specs.Store.{layOut}
 use Rattle.model.specs.Setup.{Setup}
 use Rattle.model.specs.Step.{State, opened, steps}
 use Rattle.model.specs.Moment.{tableOf, lastCheckpoint, imageAt}
+use Rattle.model.specs.Dispatch.{dispatched}
 use Rattle.model.specs.Statement.{Accepted, allWithin, wrote, removed, EachCommand, serialAnswer, Demand3}
 use Rattle.model.specs.Proof.Tests.{true-false, eqb-cases}
 use Rattle.model.specs.Proof.Service.{entriesOf, entries-agree, entries-all, table-of, serial-positive}
@@ -20,13 +21,13 @@ use Rattle.model.specs.Proof.Chain.Invariant.{Ghost, Inv}
 use Rattle.model.specs.Proof.Chain.Ghost.{ghostSteps}
 use Rattle.model.specs.Proof.Chain.Keep.{steps-keep}
 use Rattle.model.specs.Proof.Chain.Opening.{openedGhost, opened-meets}
-use Rattle.model.specs.Proof.Finish.{Φ, strategy, unremoved, steps-tell, schedule-finishes, finishes-soon}
+use Rattle.model.specs.Proof.Finish.{steps-tell, schedule-finishes}
 
 module _ (o : Setup) (acc : Accepted o) (ts : List ℕ) (within : allWithin (o .largest) ts ≡ true) where
   abbrev s : State
   s = steps o ts (opened o)
 
-  abbrev g : Ghost
+  abbrev pub g : Ghost
   g = ghostSteps o ts (opened o) (openedGhost o)
 
   -- the invariant holds after every schedule
@@ -37,7 +38,7 @@ module _ (o : Setup) (acc : Accepted o) (ts : List ℕ) (within : allWithin (o .
   pub written-is : (c : ℕ) → 1 ≤ c → g .written c ≡ wrote o c ts (opened o)
   written-is c low = steps-tell o acc c low ts within (opened o) (openedGhost o) (opened-meets o acc) .0 ∙ or-false (wrote o c ts (opened o))
 
-  removed-is : (c : ℕ) → 1 ≤ c → g .removed c ≡ removed o c ts (opened o)
+  pub removed-is : (c : ℕ) → 1 ≤ c → g .removed c ≡ removed o c ts (opened o)
   removed-is c low = steps-tell o acc c low ts within (opened o) (openedGhost o) (opened-meets o acc) .1 ∙ or-false (removed o c ts (opened o))
 
   -- "the table at any moment": the store is what the answered commands give when run alone in delivery order, after every step
@@ -88,12 +89,7 @@ pub demand-3 : Demand3
 demand-3 o acc ts within = record {
   answer = answers-serial o acc ts within;
   table = λ all. (all-answered o acc ts within all, table-at-any-moment o acc ts within ∙ ap (layOut (o .capacity)) (entries-all o (g o acc ts within .written) (all-written o acc ts within all)));
-  finish = schedule-finishes o acc (opened o) (openedGhost o) (opened-meets o acc) (λ c. refl) ts within;
+  finish = let f = schedule-finishes o acc (opened o) (openedGhost o) (opened-meets o acc) (λ c. refl) ts within in (dispatched o (steps o ts (opened o)), f .0, f .1, f .2);
   moment = table-written o acc ts within;
   image = image-kept o acc ts within;
 }
-
--- from every state reached the strategy finishes within a bound on its steps
-pub finish-bound : (o : Setup) (acc : Accepted o) (ts : List ℕ) (within : allWithin (o .largest) ts ≡ true) →
-    length (strategy o (Φ o (s o acc ts within) (g o acc ts within)) (s o acc ts within)) ≤ (unremoved o (g o acc ts within) + o .largest) * (3 * o .size + 6)
-finish-bound o acc ts within = finishes-soon o acc (s o acc ts within) (g o acc ts within) (reached o acc ts within)

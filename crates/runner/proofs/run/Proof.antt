@@ -1,22 +1,23 @@
 -- `runner::run` meets its contract: what is read from the lists shows their state, and is ready for the schedule's steps. Assumes nothing.
 use Prim.Native.Nat.{ℕ}
 use native.Mathlib.Omega.{arith}
-use mathlib.Core.Path.{_≡_, refl, ap, _∙_}
+use mathlib.Core.Path.{_≡_, refl, sym, ap, _∙_}
 use mathlib.Core.Bool.{Bool}
 use mathlib.Core.List.{List}
 use lib.ListN.{length}
 use Rattle.model.specs.Step.{State, steps}
 use Rattle.model.specs.declared.Counters.{Counters}
 use Rattle.state_bytes.specs.Layout.{Lists, allLists, listsOf, setupIn, stateLength}
+use Rattle.runner.specs.Performed.{turnsFrom, turnsOf, writtenIn}
 use Rattle.state_bytes.proofs.Passed.{Long, InRange, lengths-passed, state-passed}
-use Rattle.runner.proofs.Handed.{ReadOut, fit-count, fit-named, fit-capacity, fit-image, fit-commands, read-shows, read-placed, read-ready, read-within, zeros}
+use Rattle.runner.proofs.Handed.{ReadOut, fit-count, fit-turns, fit-largest, fit-capacity, fit-image, fit-commands, read-shows, read-placed, read-ready, read-within, zeros}
 use borrow.Author.Needs.{needs}
 use Rattle.runner.proofs.run.Statement.{statement}
 use Rattle.runner.proofs.run.Tie as tie
 
 -- the function's entry, from where the settings are read
 abbrev start0 : tie.After-settings-in-arg → tie.Start
-start0 c = c .before .before .before .before .before .before .before .before
+start0 c = c .before .before .before .before .before .before .before .before .before
 
 -- the calls that read, each from the next
 abbrev bytes-read : tie.After-read-numbers → tie.After-read-bytes
@@ -36,12 +37,12 @@ abbrev threads-read : tie.After-item-chutes → tie.After-read-threads
 threads-read c = c .before .before .before .before
 
 -- the call that keeps the commands, from where the turns are performed
-abbrev kept : tie.After-perform-arg5 → tie.After-keep-all
-kept c = c .before .before .before .before .before
+abbrev kept : tie.After-perform-arg6 → tie.After-keep-all
+kept c = c .before .before .before .before .before .before
 
 -- the call that performs the turns, from the return
-abbrev performed : tie.After-slice-known10 → tie.After-perform
-performed c = c .before .before .before .before .before .before .before .before .before .before
+abbrev performed : tie.After-slice-known12 → tie.After-perform
+performed c = c .before .before .before .before .before .before .before .before .before .before .before .before
 
 -- the lists that the call gets, and what their tests say
 abbrev given : tie.Start → Lists
@@ -192,7 +193,8 @@ perform-requires c κs =
       long = long start;
       ready = read-ready (given start) (read-out at) commands (lengths start) (range start) (kept c .keep-all .ensures);
       within = read-within (given start) (read-out at) commands (lengths start) (range start);
-      named = fit-named (given start) commands (range start) (start .args .schedule .now) (start .pre .named);
+      named = fit-turns (given start) commands (range start) (start .args .chooses) (start .args .schedule .now) (start .args .limit) (start .args .lent .now) (start .pre .named);
+      largest = rw (sym (at-settings at .settings-in .ensures commands (fit-count (given start) commands (lengths start)) .largest)) (fit-largest (given start) commands (range start));
       imaged = fit-image (given start) commands (lengths start) (start .pre .image);
     }
 
@@ -211,6 +213,9 @@ same-length-4 c = search needs
 same-length-5 : tie.Need-same-length-5
 same-length-5 c = search needs
 
+same-length-6 : tie.Need-same-length-6
+same-length-6 c = search needs
+
 returns : tie.Need-returns
 returns c =
     let called = performed c in
@@ -218,9 +223,15 @@ returns c =
     let start = entry at in
     let commands = start .args .commands .now in
     let o = setupIn (start .args .state .now) commands in
-    called .perform .ensures o (at-settings at .settings-in .ensures commands (fit-count (given start) commands (lengths start)))
-    (fit-commands (given start) commands) (fit-capacity (given start) commands (lengths start))
-    ∙ ap (λ (s : State). listsOf o (steps o (start .args .schedule .now) s)) (read-shows (given start) (read-out at))
+    let shown = read-shows (given start) (read-out at) in
+    let turns = turnsFrom (start .args .chooses) (start .args .schedule .now) (start .args .limit) in
+    let made = called .perform .ensures o (at-settings at .settings-in .ensures commands (fit-count (given start) commands (lengths start)))
+    (fit-commands (given start) commands) (fit-capacity (given start) commands (lengths start)) in
+    record {
+      lists = made .0 ∙ ap (λ (s : State). listsOf o (steps o (turnsOf o turns s) s)) shown;
+      written = made .1 ∙ ap (λ (s : State). writtenIn turns (turnsOf o turns s) (start .args .lent .now)) shown;
+      counted = made .2 ∙ ap (λ (s : State). length (turnsOf o turns s)) shown;
+    }
 
 pub run-spec : {M : Type 1} → statement M
 run-spec =
@@ -246,4 +257,5 @@ run-spec =
     same-length-3
     same-length-4
     same-length-5
+    same-length-6
     returns)

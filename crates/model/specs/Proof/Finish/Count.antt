@@ -86,6 +86,15 @@ count-past (suc n) m p le h =
     (λ e. let d = e .0 in let l : m ≤ n = omega arith in let a = count-past n m p l h in rw (h n l) (omega arith))
     (eqb-cases m (suc n))
 
+-- and no test passes there more often
+pub count-most : (n m : ℕ) (p : ℕ → Bool) → m ≤ n → count n p ≤ count m p + (n - m)
+unfolding count sumBelow
+count-most zero m p le = let z : m ≡ 0 = omega arith in rw z (omega arith)
+count-most (suc n) m p le =
+    ⊎-elim (λ e. rw (e .0) (omega arith))
+    (λ e. let d = e .0 in let b = bit-one (p n) in let a = count-most n m p (omega arith) in omega arith)
+    (eqb-cases m (suc n))
+
 -- numbers below n that pass p go one to one to numbers below m that pass q, so q passes at least as often
 pub count-image : (n m : ℕ) (p q : ℕ → Bool) (f : ℕ → ℕ) → ((z : ℕ) → z < n → p z ≡ true → (f z < m) × (q (f z) ≡ true)) →
     ((y z : ℕ) → y < n → z < n → p y ≡ true → p z ≡ true → f y ≡ f z → y ≡ z) → count n p ≤ count m q

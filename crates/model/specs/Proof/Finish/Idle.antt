@@ -16,6 +16,7 @@ use Rattle.model.specs.Upd.{upd}
 use Rattle.model.specs.Setup.{Setup}
 use Rattle.model.specs.Graph.{setLocked, setExecuting, setNext, setFree, setSeq, setLoaded}
 use Rattle.model.specs.Step.{State, node, isAllowed, idle as stepIdle, step, workerStep, loaderStep, loaderIdle, loaderWalk, load, link, enter, searching, examine, ready, stepOn, moveTo}
+use Rattle.model.specs.Dispatch.{isIdle}
 use Rattle.model.specs.Proof.Tests.{fails, none-some, eqb-cases}
 use Rattle.model.specs.Proof.Upd.{upd-same, upd-other}
 use Rattle.model.specs.Proof.Chain.Invariant.{Ghost, Inv, In, ChainFrom, at, loads, executes, clears}
@@ -94,6 +95,11 @@ module _ (o : Setup) (s : State) (g : Ghost) (i : Inv o s g) (idle : (t : ℕ) �
         (upd-same (upd (s .threads) 1 (Searching (node 0))) 1 (Holding (node first)))
         (λ u d. upd-other (upd (s .threads) 1 (Searching (node 0))) 1 (Holding (node first)) u d ∙ upd-other (s .threads) 1 (Searching (node 0)) u d)
 
+    -- after the first of the two it is at work
+    pub first-busy : isIdle (step o 1 s .threads 1) ≡ false
+    unfolding entered moveTo isIdle
+    first-busy = ap (λ (z : State). isIdle (z .threads 1)) enters ∙ ap isIdle (upd-same (s .threads) 1 (Searching (node 0)))
+
     -- so two steps of worker 1 take it
     pub first-lowered : Φ o (step o 1 (step o 1 s)) (ghostStep o 1 (step o 1 s) (ghostStep o 1 s g)) + 2 ≤ Φ o s g
     first-lowered = rw (enters, enters-ghost, takes, takes-ghost) held-lowered
@@ -164,6 +170,11 @@ module _ (o : Setup) (s : State) (g : Ghost) (i : Inv o s g) (idle : (t : ℕ) �
             linked-present (s .threads 0) (g .linked) z (⊎-elim (λ e. sym (upd-other (g .linked) n true z d) ∙ e) (λ e. absurd (none-some none refl (sym (ap loads mine) ∙ e))) (present-cases (threads 0) (upd (g .linked) n true) z h)),
             sym (upd-other (s .graph .executing) n false z d) ∙ m,
           )) (free-node .1) (rw mine (omega arith)))
+
+      -- after the first of the two it is at work
+      pub next-busy : isIdle (step o 0 s .threads 0) ≡ false
+      unfolding isIdle
+      next-busy = ap (λ (z : State). isIdle (z .threads 0)) loads-first ∙ ap isIdle loader-at
 
       -- so two steps of the loader load and link the next command
       pub next-lowered : Φ o (step o 0 (step o 0 s)) (ghostStep o 0 (step o 0 s) (ghostStep o 0 s g)) + 2 ≤ Φ o s g

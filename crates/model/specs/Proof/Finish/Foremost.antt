@@ -1,58 +1,23 @@
--- The strategy that finishes: step the thread that is furthest along the chain, then the workers that hold a node, then take the first
--- node, then load the next command. Defined for every state; that it finishes is proved below. Assumes nothing.
+-- Laws of the dispatcher's choice (specs/Dispatch): what a rank says, and that the foremost thread has the largest. Assumes nothing.
 use Prim.Native.Nat.{ℕ, zero, suc, _≤_}
 use native.Mathlib.Omega.{arith}
 use mathlib.Core.Path.{_≡_, refl, ap}
 use mathlib.Core.Bool.{Bool, true, false, cond}
-use mathlib.Core.List.{List, [], _∷_, _++_}
 use mathlib.Core.Option.{none, some}
 use mathlib.Core.Logic.{_⊎_, inl, inr}
-use lib.ListN.{length}
-use lib.Dec.{eqb, leb, ltb}
-use borrow.Author.Tests.{ltb-true, ltb-false}
+use lib.Dec.{eqb, ltb}
+use borrow.Author.Tests.{ltb-true, ltb-false, eqb-true}
 use Rattle.model.specs.declared.Thread.{Thread}
 use Rattle.model.specs.declared.Thread.the-variants.{Idle, Loading, Searching, Holding, LookedUp, Written, Walking, Clearing}
 use Rattle.model.specs.Setup.{Setup}
-use Rattle.model.specs.Step.{State, steps}
-use Rattle.model.specs.Proof.Tests.{none-some, eqb-cases}
+use Rattle.model.specs.Step.{State}
+use Rattle.model.specs.Dispatch.{rank, foremost, isIdle, stands}
+use Rattle.model.specs.Proof.Tests.{none-some, true-false, eqb-cases}
 use Rattle.model.specs.Proof.Chain.Invariant.{at}
-
--- who goes first: a thread that stands further along the chain, then one that holds a node and stands nowhere; 0 for an idle one
-unfoldable pub rank : (ℕ → ℕ) → Thread → ℕ
-rank seq Idle = 0
-rank seq (Loading a x) = suc (suc (seq (a .0)))
-rank seq (Searching a) = suc (suc (seq (a .0)))
-rank seq (Holding x) = 1
-rank seq (LookedUp x f) = 1
-rank seq (Written x) = 1
-rank seq (Walking a x) = suc (suc (seq (a .0)))
-rank seq (Clearing a x) = suc (suc (seq (a .0)))
-
--- the first thread of 0 to n that has the largest rank
-unfoldable pub foremost : (ℕ → ℕ) → ℕ → ℕ
-foremost rank zero = 0
-foremost rank (suc n) = cond (ltb (rank (foremost rank n)) (rank (suc n))) (suc n) (foremost rank n)
 
 -- no thread up to the largest worker count has a larger rank than thread t
 abbrev pub Foremost : Setup → State → ℕ → Type 0
 Foremost o s t = (u : ℕ) → u ≤ o .largest → rank (s .graph .seq) (s .threads u) ≤ rank (s .graph .seq) (s .threads t)
-
--- the thread to step, of all threads up to the largest worker count
-unfoldable pub chosen : Setup → State → ℕ
-chosen o s = foremost (λ t. rank (s .graph .seq) (s .threads t)) (o .largest)
-
--- The next steps: the chosen thread's, unless all are idle. Then worker 1 enters and takes the first node of the chain; where the chain is
--- empty, the loader loads and links the next command; where none is left, no step.
-unfoldable pub moves : Setup → State → List ℕ
-moves o s =
-    cond (eqb (rank (s .graph .seq) (s .threads (chosen o s))) 0)
-    (cond (eqb (s .graph .next 0) 0) (cond (leb (length (o .commands)) (s .graph .loaded)) [] (0 ∷ 0 ∷ [])) (1 ∷ 1 ∷ []))
-    (chosen o s ∷ [])
-
--- the moves one after the other, at most n of them
-unfoldable pub strategy : Setup → ℕ → State → List ℕ
-strategy o zero s = []
-strategy o (suc n) s = moves o s ++ strategy o n (steps o (moves o s) s)
 
 -- ---- laws
 
@@ -101,3 +66,31 @@ foremost-largest rank (suc n) u le = go (ltb (rank (foremost rank n)) (rank (suc
     go true e (inr h) ih = let l = ltb-true (rank (foremost rank n)) (rank (suc n)) e in let d = h .0 in let a = ih (omega arith) in omega arith
     go false e (inl h) ih = let l = ltb-false (rank (foremost rank n)) (rank (suc n)) e in rw (h .0) (omega arith)
     go false e (inr h) ih = let d = h .0 in ih (omega arith)
+
+-- a thread that passes the test of idle ones is idle, and one that fails it has a rank
+pub idle-is : (thread : Thread) → isIdle thread ≡ true → thread ≡ Idle
+unfolding isIdle
+idle-is thread e = rank-idle (λ n. 0) thread (eqb-true _ 0 e)
+
+pub busy-rank : (seq : ℕ → ℕ) (thread : Thread) → isIdle thread ≡ false → 1 ≤ rank seq thread
+unfolding isIdle rank
+busy-rank seq Idle e = absurd (true-false true refl e)
+busy-rank seq (Loading a x) e = omega arith
+busy-rank seq (Searching a) e = omega arith
+busy-rank seq (Holding x) e = omega arith
+busy-rank seq (LookedUp x f) e = omega arith
+busy-rank seq (Written x) e = omega arith
+busy-rank seq (Walking a x) e = omega arith
+busy-rank seq (Clearing a x) e = omega arith
+
+-- and so has one that stands
+pub standing-rank : (seq : ℕ → ℕ) (thread : Thread) → stands thread ≡ true → 1 ≤ rank seq thread
+unfolding stands rank
+standing-rank seq Idle e = absurd (true-false false e refl)
+standing-rank seq (Loading a x) e = omega arith
+standing-rank seq (Searching a) e = omega arith
+standing-rank seq (Holding x) e = omega arith
+standing-rank seq (LookedUp x f) e = omega arith
+standing-rank seq (Written x) e = omega arith
+standing-rank seq (Walking a x) e = omega arith
+standing-rank seq (Clearing a x) e = omega arith
