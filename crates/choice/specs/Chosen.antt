@@ -14,7 +14,7 @@ use Rattle.choice.specs.declared.Plan.{Plan}
 
 -- what a plan says of the next step
 abbrev pub nextOf : Plan → Dispatch.Next
-nextOf p = cond (p .going) (Dispatch.turn (p .settled) (p .thread)) Dispatch.stop
+nextOf p = cond (p .going) (Dispatch.stepOf (p .settled) (p .thread)) Dispatch.stop
 
 -- where all are idle, by the first node of the chain and how many commands of all are loaded
 abbrev pub Served : ℕ → ℕ → ℕ → Plan → Type 0

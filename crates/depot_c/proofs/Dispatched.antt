@@ -13,12 +13,12 @@ use Rattle.byte_fields.specs.Bytes.{bytesOf, pasted}
 use Rattle.byte_fields.proofs.Bytes.{bytes-length}
 use Rattle.byte_fields.proofs.Paste.{pasted-whole}
 use Rattle.state_bytes.specs.Layout.{Lists, allLists, lists, stateLength, stateFits, lengthsFit, handedBackFit}
-use Rattle.dispatcher.specs.Calls.{neededOn, turnsIn, DispatchOutcome, dealt, refused, dispatchOn, refusalIn, countIn, listsLeft, lentLeft, dispatchRefusal}
+use Rattle.dispatcher.specs.Calls.{neededOn, countNeeded, DispatchOutcome, made, refused, dispatchOn, refusalIn, countIn, listsLeft, lentLeft, dispatchRefusal}
 use Rattle.dispatcher.specs.declared.Dispatching.{Dispatching}
 use Rattle.dispatcher.specs.declared.Dispatching.the-variants.{Dispatched, WrongLength, WrongState}
 use Rattle.dispatcher.proofs.Answer.{decided}
 use Rattle.depot_c.specs.Numbers.{numbersIn, bytesIn}
-use Rattle.depot_c.specs.Boundary.{numberLists, encoded, packed, dealtLeft}
+use Rattle.depot_c.specs.Boundary.{numberLists, encoded, packed, madeLeft}
 use Rattle.depot_c.proofs.Outcomes.{room, allFit, long-unfit, read-entries}
 use Rattle.depot_c.proofs.Reporting.{unfit-refused}
 
@@ -55,8 +55,8 @@ long-needed b commands long = unfit-refused (handedBackFit (numberLists b) comma
 
 -- what is told on the numbers that were read is told on the entries
 pub needed-on : (s k c a commands : List ℕ) {K C A : List ℕ} {n m : ℕ} → (K ≡ numbersIn 8 k) × (C ≡ numbersIn 2 c) × (A ≡ numbersIn 2 a)
-    → (n ≡ neededOn (lists s K C A) commands) × (m ≡ turnsIn (lists s K C A) commands)
-    → (n ≡ neededOn (numberLists (lists s k c a)) commands) × (m ≡ turnsIn (numberLists (lists s k c a)) commands)
+    → (n ≡ neededOn (lists s K C A) commands) × (m ≡ countNeeded (lists s K C A) commands)
+    → (n ≡ neededOn (numberLists (lists s k c a)) commands) × (m ≡ countNeeded (numberLists (lists s k c a)) commands)
 needed-on s k c a commands read told = rw (← read-entries s k c a [] read) told
 
 -- what is told of a number n, where the count's list is as long as asked
@@ -77,7 +77,7 @@ needed-told turns old e is left = rw (e, ← is) (refl, left)
 abbrev Told : Bool → DispatchOutcome → Lists → List ℕ → List ℕ → ℕ → Lists → List ℕ → List ℕ → Type 0
 Told long o b schedule count answer after schedule′ count′ =
     (answer ≡ cond long (packed (refusalIn o)) 6)
-    × ((after ≡ cond long (dealtLeft o b) b) × ((schedule′ ≡ cond long (lentLeft o schedule) schedule) × (count′ ≡ counted (cond long (packed (refusalIn o)) 6) (countIn o) count)))
+    × ((after ≡ cond long (madeLeft o b) b) × ((schedule′ ≡ cond long (lentLeft o schedule) schedule) × (count′ ≡ counted (cond long (packed (refusalIn o)) 6) (countIn o) count)))
 
 module _ {long : Bool} (o : DispatchOutcome) (b : Lists) (schedule count : List ℕ) where
   -- a count of another length than eight bytes is refused 6, and everything is left
@@ -86,12 +86,12 @@ module _ {long : Bool} (o : DispatchOutcome) (b : Lists) (schedule count : List 
 
   -- an outcome that is a refusal is answered with its number, and everything is left
   pub told-refused : (t : Bool) {answer : ℕ} → long ≡ true → answer ≡ cond t 12 6 → o ≡ cond t (refused (plain 12)) (refused (plain 6)) → Told long o b schedule count answer b schedule count
-  unfolding refusalIn dealtLeft lentLeft countIn
+  unfolding refusalIn madeLeft lentLeft countIn
   told-refused true e is refusal = rw (e, is, refusal) (refl, (refl, (refl, refl)))
   told-refused false e is refusal = rw (e, is, refusal) (refl, (refl, (refl, refl)))
 
   -- in general the answer and the bytes are what the outcome says
-  pub told-outcome : {answer : ℕ} {after : Lists} {schedule′ count′ : List ℕ} → long ≡ true → answer ≡ packed (refusalIn o) → after ≡ dealtLeft o b → schedule′ ≡ lentLeft o schedule
+  pub told-outcome : {answer : ℕ} {after : Lists} {schedule′ count′ : List ℕ} → long ≡ true → answer ≡ packed (refusalIn o) → after ≡ madeLeft o b → schedule′ ≡ lentLeft o schedule
       → count′ ≡ counted answer (countIn o) count → Told long o b schedule count answer after schedule′ count′
   told-outcome e is lists-are schedule-is count-is = rw e (is, (lists-are, (schedule-is, rw (← is) count-is)))
 
@@ -137,20 +137,20 @@ module _ (state keys chutes answers image : List ℕ) (f : Lists → DispatchOut
   -- the bytes of the numbers that it leaves
   pub written-on : {s K′ C′ A′ i x y z : List ℕ} → encoded (numberLists bytes) ≡ bytes
       → allLists s K′ C′ A′ i ≡ listsLeft (f (allLists state K C A image)) (allLists state K C A image) → (x ≡ bytesIn 8 K′) × (y ≡ bytesIn 2 C′) × (z ≡ bytesIn 2 A′)
-      → allLists s x y z i ≡ dealtLeft (f (numberLists bytes)) bytes
-  unfolding encoded dealtLeft listsLeft
+      → allLists s x y z i ≡ madeLeft (f (numberLists bytes)) bytes
+  unfolding encoded madeLeft listsLeft
   written-on whole is wrote = rw (wrote .0, wrote .1, wrote .2) (ap encoded (same-left is) ∙ by (f (numberLists bytes)))
     where
-      by : (o : DispatchOutcome) → encoded (listsLeft o (numberLists bytes)) ≡ dealtLeft o bytes
-      by (dealt d) = refl
+      by : (o : DispatchOutcome) → encoded (listsLeft o (numberLists bytes)) ≡ madeLeft o bytes
+      by (made d) = refl
       by (refused r) = whole
 
   -- a refusal leaves the bytes
   pub refused-on : {s K′ C′ A′ i : List ℕ} → allLists s K′ C′ A′ i ≡ listsLeft (f (allLists state K C A image)) (allLists state K C A image)
-      → (refusalIn (f (numberLists bytes)) .number ≡ 0 → ⊥) → allLists s keys chutes answers i ≡ dealtLeft (f (numberLists bytes)) bytes
-  unfolding dealtLeft listsLeft refusalIn numberLists
+      → (refusalIn (f (numberLists bytes)) .number ≡ 0 → ⊥) → allLists s keys chutes answers i ≡ madeLeft (f (numberLists bytes)) bytes
+  unfolding madeLeft listsLeft refusalIn numberLists
   refused-on {s} {K′} {C′} {A′} {i} is some = by (f (numberLists bytes)) (same-left is) some
     where
-      by : (o : DispatchOutcome) → allLists s K′ C′ A′ i ≡ listsLeft o (numberLists bytes) → (refusalIn o .number ≡ 0 → ⊥) → allLists s keys chutes answers i ≡ dealtLeft o bytes
-      by (dealt d) e some = absurd (some refl)
+      by : (o : DispatchOutcome) → allLists s K′ C′ A′ i ≡ listsLeft o (numberLists bytes) → (refusalIn o .number ≡ 0 → ⊥) → allLists s keys chutes answers i ≡ madeLeft o bytes
+      by (made d) e some = absurd (some refl)
       by (refused r) e some = ap (λ (l : Lists). allLists (l .state) keys chutes answers (l .image)) e

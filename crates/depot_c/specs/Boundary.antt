@@ -13,7 +13,7 @@ use Rattle.state_bytes.specs.Layout.{Lists, allLists, lists, stateIn}
 use Rattle.state_bytes.specs.Outcome.{CallOutcome, accepted, refused, refusalIn}
 use Rattle.opening.specs.Calls.{Source, openOn}
 use Rattle.controller.specs.Calls.{advanceOn}
-use Rattle.dispatcher.specs.Calls.{neededOn, turnsIn, DispatchOutcome, dispatchOn, lentLeft}
+use Rattle.dispatcher.specs.Calls.{neededOn, countNeeded, DispatchOutcome, dispatchOn, lentLeft}
 use Rattle.dispatcher.specs.Calls as Dispatcher
 use Rattle.panel.specs.Reports.{pendingCounts, workerStatusBytes, largestIn}
 use Rattle.depot_c.specs.Numbers.{numbersIn, bytesIn}
@@ -75,24 +75,24 @@ advanceLeft b commands schedule = left (advanceOn (decoded b) commands schedule)
 abbrev pub countLong : List ℕ → Bool
 countLong count = eqb (length count) 8
 
--- `depot_turns_needed`: what it answers, and the count's bytes
+-- `depot_steps_needed`: what it answers, and the count's bytes
 abbrev pub neededAnswer : Lists → List ℕ → List ℕ → ℕ
 neededAnswer b commands count = cond (countLong count) (neededOn (decoded b) commands) 6
 
 abbrev pub neededLeft : Lists → List ℕ → List ℕ → List ℕ
-neededLeft b commands count = cond (eqb (neededAnswer b commands count) 0) (bytesOf 8 (turnsIn (decoded b) commands)) count
+neededLeft b commands count = cond (eqb (neededAnswer b commands count) 0) (bytesOf 8 (countNeeded (decoded b) commands)) count
 
 -- the bytes of the lists that a call which dispatches leaves
-unfoldable pub dealtLeft : DispatchOutcome → Lists → Lists
-dealtLeft (Dispatcher.dealt d) old = encoded (d .lists)
-dealtLeft (Dispatcher.refused r) old = old
+unfoldable pub madeLeft : DispatchOutcome → Lists → Lists
+madeLeft (Dispatcher.made d) old = encoded (d .lists)
+madeLeft (Dispatcher.refused r) old = old
 
 -- `depot_dispatch`: what it answers, and the byte lists, the schedule's list and the count's bytes that it leaves
 abbrev pub dispatchAnswer : Lists → List ℕ → List ℕ → List ℕ → ℕ
 dispatchAnswer b commands schedule count = cond (countLong count) (packed (Dispatcher.refusalIn (dispatchOn (decoded b) commands schedule))) 6
 
 abbrev pub dispatchLeft : Lists → List ℕ → List ℕ → List ℕ → Lists
-dispatchLeft b commands schedule count = cond (countLong count) (dealtLeft (dispatchOn (decoded b) commands schedule) b) b
+dispatchLeft b commands schedule count = cond (countLong count) (madeLeft (dispatchOn (decoded b) commands schedule) b) b
 
 abbrev pub scheduleLeft : Lists → List ℕ → List ℕ → List ℕ → List ℕ
 scheduleLeft b commands schedule count = cond (countLong count) (lentLeft (dispatchOn (decoded b) commands schedule) schedule) schedule

@@ -1,8 +1,8 @@
 // Dispatching, and how long the list for it must be, on byte lists.
 ghost use mathlib.Core.Path.{_≡_};
 ghost use Rattle.state_bytes.specs.Layout.{atEntry, allAtExit, allAtEntry};
-ghost use Rattle.dispatcher.specs.Calls.{neededRefusal, neededCount, dispatchRefusal, dispatchCount, neededOn, turnsIn, dispatchOn, refusalIn, countIn, lentLeft};
-ghost use Rattle.depot_c.specs.Boundary.{numberLists, packed, dealtLeft, neededAnswer, neededLeft, dispatchAnswer, dispatchLeft, scheduleLeft, countLeft, Rooms};
+ghost use Rattle.dispatcher.specs.Calls.{neededRefusal, neededCount, dispatchRefusal, dispatchCount, neededOn, countNeeded, dispatchOn, refusalIn, countIn, lentLeft};
+ghost use Rattle.depot_c.specs.Boundary.{numberLists, packed, madeLeft, neededAnswer, neededLeft, dispatchAnswer, dispatchLeft, scheduleLeft, countLeft, Rooms};
 use crate::lists::MOST;
 use crate::lists::are_whole;
 use crate::lists::have_room;
@@ -15,7 +15,7 @@ use byte_fields::put_number;
 use dispatcher::Dispatching;
 use dispatcher::Needing;
 use dispatcher::dispatch;
-use dispatcher::turns_needed;
+use dispatcher::steps_needed;
 
 // How many steps may be needed, with rooms for the numbers of the byte lists.
 fn needed_within(
@@ -30,15 +30,15 @@ fn needed_within(
 ) -> Needing
     requires { ⌜ Rooms (now keys) (now chutes) (now answers) (now «key_room») (now «chute_room») (now «answer_room») ⌝ }
     ensures number { λ r. ⌜ neededRefusal r .number ≡ neededOn (numberLists (atEntry state keys chutes answers)) (now (commands .entry)) ⌝ }
-    ensures counted { λ r. ⌜ neededCount r ≡ turnsIn (numberLists (atEntry state keys chutes answers)) (now (commands .entry)) ⌝ }
+    ensures counted { λ r. ⌜ neededCount r ≡ countNeeded (numberLists (atEntry state keys chutes answers)) (now (commands .entry)) ⌝ }
 {
     read_lists(keys, chutes, answers, key_room, chute_room, answer_room);
-    turns_needed(state, key_room, chute_room, answer_room, commands)
+    steps_needed(state, key_room, chute_room, answer_room, commands)
 }
 
 // How long a list must be lent to the dispatcher, as eight bytes. A refusal leaves the list as it was.
 #[no_mangle]
-pub extern "C" fn depot_turns_needed(
+pub extern "C" fn depot_steps_needed(
     state: &[u8],
     keys: &[u8],
     chutes: &[u8],
@@ -97,7 +97,7 @@ fn dispatch_within(
     requires { ⌜ Rooms (now keys) (now chutes) (now answers) (now «key_room») (now «chute_room») (now «answer_room») ⌝ }
     ensures refusal { λ r. ⌜ dispatchRefusal r ≡ refusalIn (dispatchOn (numberLists (allAtEntry state keys chutes answers image)) (now (commands .entry)) (now (schedule .entry))) ⌝ }
     ensures counted { λ r. ⌜ dispatchCount r ≡ countIn (dispatchOn (numberLists (allAtEntry state keys chutes answers image)) (now (commands .entry)) (now (schedule .entry))) ⌝ }
-    ensures left { λ r. ⌜ allAtExit state keys chutes answers image ≡ dealtLeft (dispatchOn (numberLists (allAtEntry state keys chutes answers image)) (now (commands .entry)) (now (schedule .entry))) (allAtEntry state keys chutes answers image) ⌝ }
+    ensures left { λ r. ⌜ allAtExit state keys chutes answers image ≡ madeLeft (dispatchOn (numberLists (allAtEntry state keys chutes answers image)) (now (commands .entry)) (now (schedule .entry))) (allAtEntry state keys chutes answers image) ⌝ }
     ensures written { λ r. ⌜ now (schedule .exit) ≡ lentLeft (dispatchOn (numberLists (allAtEntry state keys chutes answers image)) (now (commands .entry)) (now (schedule .entry))) (now (schedule .entry)) ⌝ }
 {
     read_lists(keys, chutes, answers, key_room, chute_room, answer_room);

@@ -18,7 +18,7 @@ use Rattle.state_bytes.proofs.Passed.{lengths-passed, state-passed}
 use Rattle.runner.specs.Performed.{CallPasses, Ran, chosen, turnsOf}
 use Rattle.runner.proofs.Handed.{fit-count}
 use Rattle.runner.proofs.Performing.{chosen-are}
-use Rattle.dispatcher.specs.Calls.{DispatchOutcome, dealt, refused, turnsNow, neededOn, turnsIn, dealtFrom, dispatchOn, refusalIn, countIn, listsLeft, lentLeft}
+use Rattle.dispatcher.specs.Calls.{DispatchOutcome, made, refused, neededNow, neededOn, countNeeded, madeFrom, dispatchOn, refusalIn, countIn, listsLeft, lentLeft}
 
 module _ (l : Lists) (commands : List ℕ) where
   -- ---- how long the lent list must be
@@ -32,17 +32,17 @@ module _ (l : Lists) (commands : List ℕ) where
   all-there e = fit-count l commands (lengths-passed l commands e)
 
   -- the first test that fails decides
-  pub needs-lengths : handedBackFit l commands ≡ false → (6 ≡ neededOn l commands) × (0 ≡ turnsIn l commands)
-  unfolding neededOn turnsIn
+  pub needs-lengths : handedBackFit l commands ≡ false → (6 ≡ neededOn l commands) × (0 ≡ countNeeded l commands)
+  unfolding neededOn countNeeded
   needs-lengths e = (rw e, rw e)
 
-  pub needs-state : handedBackFit l commands ≡ true → stateFits l ≡ false → (12 ≡ neededOn l commands) × (0 ≡ turnsIn l commands)
-  unfolding neededOn turnsIn
+  pub needs-state : handedBackFit l commands ≡ true → stateFits l ≡ false → (12 ≡ neededOn l commands) × (0 ≡ countNeeded l commands)
+  unfolding neededOn countNeeded
   needs-state e f = (rw (e, f), rw (e, f))
 
   -- where none fails, the bound is told
-  pub needs-so : {n : ℕ} → handedBackFit l commands ≡ true → stateFits l ≡ true → n ≡ turnsNow l commands → (0 ≡ neededOn l commands) × (n ≡ turnsIn l commands)
-  unfolding neededOn turnsIn
+  pub needs-so : {n : ℕ} → handedBackFit l commands ≡ true → stateFits l ≡ true → n ≡ neededNow l commands → (0 ≡ neededOn l commands) × (n ≡ countNeeded l commands)
+  unfolding neededOn countNeeded
   needs-so e f is = (rw (e, f), rw (e, f) is)
 
   -- ---- dispatching
@@ -55,21 +55,21 @@ module _ (l : Lists) (commands : List ℕ) where
     -- the first test that fails decides, and where none fails the chosen steps are made
     abbrev decidedBy : Bool → Bool → Bool → Bool → DispatchOutcome
     decidedBy fit image state room =
-        cond (fit && image) (cond state (cond room (dealt (dealtFrom (setupIn (l .state) commands) (stateIn l) lent)) (refused (plain 6))) (refused (plain 12))) (refused (plain 6))
+        cond (fit && image) (cond state (cond room (made (madeFrom (setupIn (l .state) commands) (stateIn l) lent)) (refused (plain 6))) (refused (plain 12))) (refused (plain 6))
 
-    pub decided : {fit image state room : Bool} → handedBackFit l commands ≡ fit → imaged ≡ image → stateFits l ≡ state → leb (turnsNow l commands) (length lent) ≡ room
+    pub decided : {fit image state room : Bool} → handedBackFit l commands ≡ fit → imaged ≡ image → stateFits l ≡ state → leb (neededNow l commands) (length lent) ≡ room
         → dispatchOn l commands lent ≡ decidedBy fit image state room
     unfolding dispatchOn
     decided e i f g = λ k. decidedBy (e k) (i k) (f k) (g k)
 
     -- a list shorter than the bound fails the last test
-    pub too-short : {limit : ℕ} → limit ≡ turnsNow l commands → length lent < limit → leb (turnsNow l commands) (length lent) ≡ false
-    too-short is short = lt-leb (turnsNow l commands) (length lent) (rw is at short)
+    pub too-short : {limit : ℕ} → limit ≡ neededNow l commands → length lent < limit → leb (neededNow l commands) (length lent) ≡ false
+    too-short is short = lt-leb (neededNow l commands) (length lent) (rw is at short)
 
     -- and one that is as long passes it
-    accepts : {limit : ℕ} → limit ≡ turnsNow l commands → CallPasses l commands (chosen limit) lent
-        → dispatchOn l commands lent ≡ dealt (dealtFrom (setupIn (l .state) commands) (stateIn l) lent)
-    accepts is p = decided (p .lengths) (p .image) (p .state) (le-leb (turnsNow l commands) (length lent) (rw is at (p .named)))
+    accepts : {limit : ℕ} → limit ≡ neededNow l commands → CallPasses l commands (chosen limit) lent
+        → dispatchOn l commands lent ≡ made (madeFrom (setupIn (l .state) commands) (stateIn l) lent)
+    accepts is p = decided (p .lengths) (p .image) (p .state) (le-leb (neededNow l commands) (length lent) (rw is at (p .named)))
 
     -- what a call answers and leaves: its refusal, its count, its lists and the lent list
     abbrev Answers : ℕ → ℕ → Lists → List ℕ → Type 0
@@ -83,16 +83,16 @@ module _ (l : Lists) (commands : List ℕ) where
     refused-so n e = (rw e, (rw e, (rw e, rw e)))
 
     -- the steps of a call with this limit are the dispatcher's
-    turns-are : {limit : ℕ} → limit ≡ turnsNow l commands → turnsOf (setupIn (l .state) commands) (chosen limit) (stateIn l) ≡ dispatched (setupIn (l .state) commands) (stateIn l)
-    unfolding dispatched turnsNow
+    turns-are : {limit : ℕ} → limit ≡ neededNow l commands → turnsOf (setupIn (l .state) commands) (chosen limit) (stateIn l) ≡ dispatched (setupIn (l .state) commands) (stateIn l)
+    unfolding dispatched neededNow
     turns-are is =
         let o = setupIn (l .state) commands in
-        chosen-are o _ (stateIn l) ∙ ap (λ (k : ℕ). Dispatch.dealt o k (fresh o false (stateIn l)) (stateIn l)) is
+        chosen-are o _ (stateIn l) ∙ ap (λ (k : ℕ). Dispatch.made o k (fresh o false (stateIn l)) (stateIn l)) is
 
     -- an accepted call answers 0 and the number of the steps, and leaves what they leave
-    pub accepted-so : {limit count : ℕ} {after : Lists} {lent′ : List ℕ} → limit ≡ turnsNow l commands → CallPasses l commands (chosen limit) lent
+    pub accepted-so : {limit count : ℕ} {after : Lists} {lent′ : List ℕ} → limit ≡ neededNow l commands → CallPasses l commands (chosen limit) lent
         → Ran l commands (chosen limit) lent after lent′ count → Answers 0 count after lent′
-    unfolding refusalIn countIn listsLeft lentLeft dealtFrom
+    unfolding refusalIn countIn listsLeft lentLeft madeFrom
     accepted-so is p ran =
         let o = setupIn (l .state) commands in
         let e = accepts is p in

@@ -11,9 +11,9 @@ use Rattle.node_set.specs.Members.{countBelow}
 use Rattle.node_set.proofs.Below.{same-tests-same-count}
 use Rattle.byte_fields.specs.Bytes.{numberAt}
 use Rattle.command.specs.Read.{commandsIn}
-use Rattle.model.specs.Dispatch.{turnsNeeded, commandsLeft}
+use Rattle.model.specs.Dispatch.{stepsNeeded, commandsLeft}
 use Rattle.state_bytes.specs.Layout.{Lists, setupIn, stateIn, countIn}
-use Rattle.dispatcher.specs.Calls.{NeededIn, turnsNow}
+use Rattle.dispatcher.specs.Calls.{NeededIn, neededNow}
 
 -- whether a node has a command
 abbrev pub hasOne : List ℕ → ℕ → Bool
@@ -35,8 +35,8 @@ pub record Parts (b : List ℕ) (left used size largest : ℕ) : Type 0 where
 module _ {left used size largest : ℕ} where
   -- the bound's parts are those of the state that the lists hold
   needed-of : (l : Lists) (commands : List ℕ) → Parts (l .state) left used size largest → length (commandsIn commands) ≡ countIn (l .state)
-      → (left + used + largest) * (3 * size + 6) ≡ turnsNow l commands
-  unfolding turnsNow turnsNeeded commandsLeft setupIn countIn
+      → (left + used + largest) * (3 * size + 6) ≡ neededNow l commands
+  unfolding neededNow stepsNeeded commandsLeft setupIn countIn
   needed-of l commands p count =
       let loaded = ap (λ (n : ℕ). n - numberAt 2 8 (l .state)) (sym count) in
       let nodes = ap (λ (n : ℕ). countBelow (suc n) (λ n. not (eqb (stateIn l .graph .seq n) 0))) (p .size-is) in
@@ -46,5 +46,5 @@ module _ {left used size largest : ℕ} where
   -- and so of any lists with these bytes
   pub needed-in : {b : List ℕ} → Parts b left used size largest → NeededIn b ((left + used + largest) * (3 * size + 6))
   needed-in p l commands same =
-      subst (λ (b : List ℕ). Parts b left used size largest → length (commandsIn commands) ≡ countIn b → (left + used + largest) * (3 * size + 6) ≡ turnsNow l commands) same
+      subst (λ (b : List ℕ). Parts b left used size largest → length (commandsIn commands) ≡ countIn b → (left + used + largest) * (3 * size + 6) ≡ neededNow l commands) same
       (needed-of l commands) p

@@ -14,7 +14,7 @@ use Rattle.command.specs.Read.{commandsIn}
 use Rattle.model.specs.Setup.{Setup, withoutEntries}
 use Rattle.model.specs.Step.{State, step, opened, steps}
 use Rattle.model.specs.Statement.{Accepted, allWithin, removed}
-use Rattle.model.specs.Dispatch.{rank, chosen, Next, stop, turn, served, fresh, following, goesOn, dealt as dealtSteps, commandsLeft, turnsNeeded, dispatched}
+use Rattle.model.specs.Dispatch.{rank, chosen, Next, stop, stepOf, served, fresh, following, goesOn, stepsFrom, commandsLeft, stepsNeeded, dispatched}
 use Rattle.model.specs.Proof.Tests.{cond-cases}
 use Rattle.model.specs.Proof.Dispatching.{dispatched-few, dispatcher-finishes}
 use Rattle.model.specs.Proof.Entries.{needed-without, dispatched-without}
@@ -30,15 +30,15 @@ use Rattle.state_bytes.proofs.Passed.{state-passed}
 use Rattle.state_bytes.proofs.RoundTrip.{lists-state, setup-read-back}
 use Rattle.controller.proofs.Answer.{accepts}
 use Rattle.controller.proofs.Demand3.{Reach, formed, read-back, opening-reaches, call-reaches, accepted-reaches, more-accepted, state-is, holds}
-use Rattle.dispatcher.specs.Calls.{turnsNow, Dealt, DispatchOutcome, dealt, refused, dealtFrom, dispatchOn, listsLeft}
-use Rattle.dispatcher.specs.OverCalls.{scheduleIn, Written, WhatIsWritten, AnyCall, advances, dispatches, afterAny, listsAfterAll, ProperAny, ProperAll, dealtIn, performedBy, performedAll, Demand3WithDispatcher, Finishes, DispatcherFinishesOverCalls}
+use Rattle.dispatcher.specs.Calls.{neededNow, Made, DispatchOutcome, made, refused, madeFrom, dispatchOn, listsLeft}
+use Rattle.dispatcher.specs.OverCalls.{scheduleIn, Written, WhatIsWritten, AnyCall, advances, dispatches, afterAny, listsAfterAll, ProperAny, ProperAll, madeIn, performedBy, performedAll, Demand3WithDispatcher, Finishes, DispatcherFinishesOverCalls}
 
 -- ---- the threads that the dispatcher names
 
 -- a thread that comes next is there
 abbrev Within : ℕ → Next → Type 0
 Within largest stop = Unit {0}
-Within largest (turn settled t) = t ≤ largest
+Within largest (stepOf settled t) = t ≤ largest
 
 module _ (o : Setup) (some-worker : 1 ≤ o .largest) where
   served-within : (s : State) → Within (o .largest) (served o s)
@@ -55,61 +55,61 @@ module _ (o : Setup) (some-worker : 1 ≤ o .largest) where
   unfolding following
   following-within settled t s h = cond-cases (Within (o .largest)) (goesOn settled (s .threads t)) (λ _. h) (λ _. fresh-within settled s)
 
-  dealt-within : (k : ℕ) (n : Next) (s : State) → Within (o .largest) n → allWithin (o .largest) (dealtSteps o k n s) ≡ true
-  unfolding dealtSteps allWithin
-  dealt-within zero n s h = refl
-  dealt-within (suc k) stop s h = refl
-  dealt-within (suc k) (turn settled t) s h = rw (le-leb t (o .largest) h) (dealt-within k (following o settled t (step o t s)) (step o t s) (following-within settled t (step o t s) h))
+  steps-within : (k : ℕ) (n : Next) (s : State) → Within (o .largest) n → allWithin (o .largest) (stepsFrom o k n s) ≡ true
+  unfolding stepsFrom allWithin
+  steps-within zero n s h = refl
+  steps-within (suc k) stop s h = refl
+  steps-within (suc k) (stepOf settled t) s h = rw (le-leb t (o .largest) h) (steps-within k (following o settled t (step o t s)) (step o t s) (following-within settled t (step o t s) h))
 
   dispatched-within : (s : State) → allWithin (o .largest) (dispatched o s) ≡ true
   unfolding dispatched
-  dispatched-within s = dealt-within (turnsNeeded o s) (fresh o false s) s (fresh-within false s)
+  dispatched-within s = steps-within (stepsNeeded o s) (fresh o false s) s (fresh-within false s)
 
 -- ---- what is written
 
 -- a test that an accepted call passed, and what it then came to
-passed : (t : Bool) (n : ℕ) (x : DispatchOutcome) (d : Dealt) → cond t x (refused (plain n)) ≡ dealt d → (t ≡ true) × (x ≡ dealt d)
+passed : (t : Bool) (n : ℕ) (x : DispatchOutcome) (d : Made) → cond t x (refused (plain n)) ≡ made d → (t ≡ true) × (x ≡ made d)
 passed true n x d e = (refl, e)
 passed false n x d e = absurd (let z : _≡_ {A = ℕ} 0 1 = cc in omega arith)
 
 -- what an accepted call passed, and came to
-record Passes (l : Lists) (commands lent : List ℕ) (d : Dealt) : Type 0 where
+record Passes (l : Lists) (commands lent : List ℕ) (d : Made) : Type 0 where
   fit : handedBackFit l commands ≡ true
   imaged : imageFits (setupIn (l .state) commands .capacity) l ≡ true
   whole : stateFits l ≡ true
-  room : turnsNow l commands ≤ length lent
-  is : dealtFrom (setupIn (l .state) commands) (stateIn l) lent ≡ d
+  room : neededNow l commands ≤ length lent
+  is : madeFrom (setupIn (l .state) commands) (stateIn l) lent ≡ d
 
-dealt-same : (c d : Dealt) → dealt c ≡ dealt d → c ≡ d
+dealt-same : (c d : Made) → made c ≡ made d → c ≡ d
 dealt-same c d e = cc
 
-passes : (l : Lists) (commands lent : List ℕ) (d : Dealt) → dispatchOn l commands lent ≡ dealt d → Passes l commands lent d
+passes : (l : Lists) (commands lent : List ℕ) (d : Made) → dispatchOn l commands lent ≡ made d → Passes l commands lent d
 unfolding dispatchOn
 passes l commands lent d e =
     let a = passed _ 6 _ d e in let b = passed _ 12 _ d (a .1) in let c = passed _ 6 _ d (b .1) in
     let both = and-eq-true-iff (handedBackFit l commands) (imageFits (setupIn (l .state) commands .capacity) l) .0 (a .0) in
-    record { fit = both .0; imaged = both .1; whole = b .0; room = leb-true (turnsNow l commands) (length lent) (c .0); is = dealt-same _ d (c .1) }
+    record { fit = both .0; imaged = both .1; whole = b .0; room = leb-true (neededNow l commands) (length lent) (c .0); is = dealt-same _ d (c .1) }
 
 -- what was written is the schedule, and then the lent list's own bytes
 module _ (o : Setup) (s : State) (lent : List ℕ) where
-  schedule-is : scheduleIn (dealtFrom o s lent) ≡ dispatched o s
-  unfolding dealtFrom
+  schedule-is : scheduleIn (madeFrom o s lent) ≡ dispatched o s
+  unfolding madeFrom
   schedule-is = take-append-seam (dispatched o s) (drop (length (dispatched o s)) lent)
 
-  lists-are : dealtFrom o s lent .lists ≡ listsOf o (steps o (dispatched o s) s)
-  unfolding dealtFrom
+  lists-are : madeFrom o s lent .lists ≡ listsOf o (steps o (dispatched o s) s)
+  unfolding madeFrom
   lists-are = refl
 
-  count-is : dealtFrom o s lent .count ≡ length (dispatched o s)
-  unfolding dealtFrom
+  count-is : madeFrom o s lent .count ≡ length (dispatched o s)
+  unfolding madeFrom
   count-is = refl
 
-  rest-is : drop (dealtFrom o s lent .count) (dealtFrom o s lent .schedule) ≡ drop (dealtFrom o s lent .count) lent
-  unfolding dealtFrom
+  rest-is : drop (madeFrom o s lent .count) (madeFrom o s lent .schedule) ≡ drop (madeFrom o s lent .count) lent
+  unfolding madeFrom
   rest-is = drop-append-seam (dispatched o s) (drop (length (dispatched o s)) lent)
 
-now-is : (l : Lists) (commands : List ℕ) → turnsNow l commands ≡ turnsNeeded (setupIn (l .state) commands) (stateIn l)
-unfolding turnsNow
+now-is : (l : Lists) (commands : List ℕ) → neededNow l commands ≡ stepsNeeded (setupIn (l .state) commands) (stateIn l)
+unfolding neededNow
 now-is l commands = refl
 
 -- the largest count is at least the one in force, which is at least 1
@@ -118,7 +118,7 @@ unfolding setupIn
 some-worker l commands whole = let h = state-passed l whole .limit in omega (arith, h .0, h .1)
 
 written-from : (l : Lists) (commands lent : List ℕ) → handedBackFit l commands ≡ true → imageFits (setupIn (l .state) commands .capacity) l ≡ true → stateFits l ≡ true
-    → Written l commands lent (dealtFrom (setupIn (l .state) commands) (stateIn l) lent)
+    → Written l commands lent (madeFrom (setupIn (l .state) commands) (stateIn l) lent)
 written-from l commands lent fit imaged whole = record {
   by-hand =
       ap (advanceOn l commands) (schedule-is o (stateIn l) lent)
@@ -140,9 +140,9 @@ what-is-written l commands lent d e = let p = passes l commands lent d e in rw (
 module _ (o : Setup) (acc : Accepted o) (commands : List ℕ) (same : o .commands ≡ commandsIn commands) (long : length commands ≡ 16 * length (o .commands)) where
   -- a call that dispatches reaches what its schedule does; a refused one leaves the lists
   dispatch-reaches : (lists : Lists) (cs lent : List ℕ) (l : Lists) (ts : List ℕ) (outcome : DispatchOutcome) → dispatchOn lists cs lent ≡ outcome
-      → ((d : Dealt) → outcome ≡ dealt d → (lists ≡ l) × (cs ≡ commands)) → Reach o l ts → Reach o (listsLeft outcome l) (ts ++ dealtIn outcome)
-  unfolding listsLeft dealtIn
-  dispatch-reaches lists cs lent l ts (dealt d) e handed r =
+      → ((d : Made) → outcome ≡ made d → (lists ≡ l) × (cs ≡ commands)) → Reach o l ts → Reach o (listsLeft outcome l) (ts ++ madeIn outcome)
+  unfolding listsLeft madeIn
+  dispatch-reaches lists cs lent l ts (made d) e handed r =
       let h = handed d refl in
       accepted-reaches o acc commands same long l (d .lists) ts (scheduleIn d) r (what-is-written l commands lent d (rw (h .0, h .1) at e) .by-hand)
   dispatch-reaches lists cs lent l ts (refused why) e handed r = rw (append-nil ts) r
@@ -168,8 +168,8 @@ demand-3-with-dispatcher size workers capacity commands source lent l e calls pr
 
 -- ---- the finish
 
-needed-is : (o : Setup) (s : State) → turnsNeeded o s ≡ (commandsLeft o s + o .largest) * (3 * o .size + 6)
-unfolding turnsNeeded
+needed-is : (o : Setup) (s : State) → stepsNeeded o s ≡ (commandsLeft o s + o .largest) * (3 * o .size + 6)
+unfolding stepsNeeded
 needed-is o s = refl
 
 accepted-same : (l m : Lists) → accepted l ≡ accepted m → l ≡ m
@@ -180,10 +180,10 @@ picks : (a i b c : Bool) (x y z w : DispatchOutcome) → a ≡ true → i ≡ tr
 picks a i b c x y z w h j k l = rw (h, j, k, l)
 
 -- a state that passes the tests, and a lent list with room
-dispatches-on : (l : Lists) (commands lent : List ℕ) → handedBackFit l commands ≡ true → imageFits (setupIn (l .state) commands .capacity) l ≡ true → stateFits l ≡ true → turnsNow l commands ≤ length lent
-    → dispatchOn l commands lent ≡ dealt (dealtFrom (setupIn (l .state) commands) (stateIn l) lent)
+dispatches-on : (l : Lists) (commands lent : List ℕ) → handedBackFit l commands ≡ true → imageFits (setupIn (l .state) commands .capacity) l ≡ true → stateFits l ≡ true → neededNow l commands ≤ length lent
+    → dispatchOn l commands lent ≡ made (madeFrom (setupIn (l .state) commands) (stateIn l) lent)
 unfolding dispatchOn
-dispatches-on l commands lent fit imaged whole room = picks _ _ _ _ _ _ _ _ fit imaged whole (le-leb (turnsNow l commands) (length lent) room)
+dispatches-on l commands lent fit imaged whole room = picks _ _ _ _ _ _ _ _ fit imaged whole (le-leb (neededNow l commands) (length lent) room)
 
 module _ (o : Setup) (acc : Accepted o) (commands : List ℕ) (same : o .commands ≡ commandsIn commands) (long : length commands ≡ 16 * length (o .commands)) (l : Lists) (ts : List ℕ) (r : Reach o l ts) where
   -- what is read of the lists is the setup without its entries, and the reached state
@@ -195,8 +195,8 @@ module _ (o : Setup) (acc : Accepted o) (commands : List ℕ) (same : o .command
   state-read : stateIn l ≡ steps o ts (opened o)
   state-read = state-is o acc commands same long l ts r
 
-  turns-now : turnsNow l commands ≡ turnsNeeded o (steps o ts (opened o))
-  turns-now = now-is l commands ∙ ap (λ (x : Setup). turnsNeeded x (stateIn l)) setup-is ∙ needed-without o (stateIn l) ∙ ap (turnsNeeded o) state-read
+  turns-now : neededNow l commands ≡ stepsNeeded o (steps o ts (opened o))
+  turns-now = now-is l commands ∙ ap (λ (x : Setup). stepsNeeded x (stateIn l)) setup-is ∙ needed-without o (stateIn l) ∙ ap (stepsNeeded o) state-read
 
   schedule-now : dispatched (setupIn (l .state) commands) (stateIn l) ≡ dispatched o (steps o ts (opened o))
   schedule-now = ap (λ (x : Setup). dispatched x (stateIn l)) setup-is ∙ dispatched-without o (stateIn l) ∙ ap (dispatched o) state-read
@@ -212,8 +212,8 @@ module _ (o : Setup) (acc : Accepted o) (commands : List ℕ) (same : o .command
 
   -- the lists that it leaves are those of the state that its schedule reaches
   module _ (lent : List ℕ) where
-    abbrev d : Dealt
-    d = dealtFrom (setupIn (l .state) commands) (stateIn l) lent
+    abbrev d : Made
+    d = madeFrom (setupIn (l .state) commands) (stateIn l) lent
 
     schedule-reached : scheduleIn d ≡ dispatched o (steps o ts (opened o))
     schedule-reached = schedule-is (setupIn (l .state) commands) (stateIn l) lent ∙ schedule-now

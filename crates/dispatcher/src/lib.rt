@@ -7,7 +7,7 @@ ghost use lib.Dec.{eqb};
 ghost use Rattle.node_set.specs.Members.{countBelow};
 ghost use Rattle.byte_fields.specs.Bytes.{numberAt};
 ghost use Rattle.state_bytes.specs.Layout.{stateLength, atEntry, allAtEntry, allAtExit};
-ghost use Rattle.dispatcher.specs.Calls.{NeededIn, neededRefusal, neededCount, neededOn, turnsIn, dispatchRefusal, dispatchCount, dispatchOn, refusalIn, countIn, listsLeft, lentLeft};
+ghost use Rattle.dispatcher.specs.Calls.{NeededIn, neededRefusal, neededCount, neededOn, countNeeded, dispatchRefusal, dispatchCount, dispatchOn, refusalIn, countIn, listsLeft, lentLeft};
 use byte_fields::number_at;
 use runner::run;
 use state_bytes::COUNT;
@@ -128,7 +128,7 @@ fn needed(state: &[u8]) -> usize
 }
 
 // How long a list must be lent to the dispatcher.
-pub fn turns_needed(
+pub fn steps_needed(
     state: &[u8],
     keys: &[u64],
     chutes: &[u16],
@@ -136,7 +136,7 @@ pub fn turns_needed(
     commands: &[u8],
 ) -> Needing
     ensures refusal { λ r. ⌜ neededRefusal r .number ≡ neededOn (atEntry state keys chutes answers) (now (commands .entry)) ⌝ }
-    ensures counted { λ r. ⌜ neededCount r ≡ turnsIn (atEntry state keys chutes answers) (now (commands .entry)) ⌝ }
+    ensures counted { λ r. ⌜ neededCount r ≡ countNeeded (atEntry state keys chutes answers) (now (commands .entry)) ⌝ }
 {
     if !lengths_fit(
         state,

@@ -21,9 +21,9 @@ unfolding countBelow
 commandsLeft o s = (length (o .commands) - s .graph .loaded) + countBelow (suc (o .size)) (λ n. not (eqb (s .graph .seq n) 0))
 
 -- "(n + w) × (3 × s + 6) turns"
-unfoldable pub turnsNeeded : Setup → State → ℕ
+unfoldable pub stepsNeeded : Setup → State → ℕ
 unfolding commandsLeft
-turnsNeeded o s = (commandsLeft o s + o .largest) * (3 * o .size + 6)
+stepsNeeded o s = (commandsLeft o s + o .largest) * (3 * o .size + 6)
 
 -- ---- who
 
@@ -61,16 +61,16 @@ stands thread = leb 2 (rank (λ n. 0) thread)
 -- what comes next: nothing, or a step of thread t; settled once no thread but t may be at work
 pub data Next : Type 0 where
   stop : Next
-  turn : (settled : Bool) (t : ℕ) → Next
+  stepOf : (settled : Bool) (t : ℕ) → Next
 
 -- where all are idle: worker 1 takes the first node; where the chain is empty, the loader loads the next command, if one is left
 unfoldable pub served : Setup → State → Next
-served o s = cond (eqb (s .graph .next 0) 0) (cond (leb (length (o .commands)) (s .graph .loaded)) stop (turn true 0)) (turn true 1)
+served o s = cond (eqb (s .graph .next 0) 0) (cond (leb (length (o .commands)) (s .graph .loaded)) stop (stepOf true 0)) (stepOf true 1)
 
 -- another thread than before: while not settled the foremost of all, unless all are idle
 unfoldable pub fresh : Setup → Bool → State → Next
 unfolding rank chosen served
-fresh o false s = cond (eqb (rank (s .graph .seq) (s .threads (chosen o s))) 0) (served o s) (turn false (chosen o s))
+fresh o false s = cond (eqb (rank (s .graph .seq) (s .threads (chosen o s))) 0) (served o s) (stepOf false (chosen o s))
 fresh o true s = served o s
 
 -- whether the thread that stepped last goes on: while it stands in the chain, and once settled, until it is idle
@@ -82,16 +82,16 @@ goesOn true thread = not (isIdle thread)
 -- after a step of thread t
 unfoldable pub following : Setup → Bool → ℕ → State → Next
 unfolding goesOn fresh
-following o settled t s = cond (goesOn settled (s .threads t)) (turn settled t) (fresh o settled s)
+following o settled t s = cond (goesOn settled (s .threads t)) (stepOf settled t) (fresh o settled s)
 
 -- at most k steps, from what comes next
-unfoldable pub dealt : Setup → ℕ → Next → State → List ℕ
+unfoldable pub stepsFrom : Setup → ℕ → Next → State → List ℕ
 unfolding following step
-dealt o zero n s = []
-dealt o (suc k) stop s = []
-dealt o (suc k) (turn settled t) s = t ∷ dealt o k (following o settled t (step o t s)) (step o t s)
+stepsFrom o zero n s = []
+stepsFrom o (suc k) stop s = []
+stepsFrom o (suc k) (stepOf settled t) s = t ∷ stepsFrom o k (following o settled t (step o t s)) (step o t s)
 
 -- the dispatcher's schedule from a state; where no schedule reaches the state it may end at the limit
 unfoldable pub dispatched : Setup → State → List ℕ
-unfolding turnsNeeded fresh dealt
-dispatched o s = dealt o (turnsNeeded o s) (fresh o false s) s
+unfolding stepsNeeded fresh stepsFrom
+dispatched o s = stepsFrom o (stepsNeeded o s) (fresh o false s) s

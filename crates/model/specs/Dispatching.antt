@@ -10,7 +10,7 @@ use Rattle.model.specs.declared.Thread.the-variants.{Idle}
 use Rattle.model.specs.Setup.{Setup}
 use Rattle.model.specs.Step.{opened, steps}
 use Rattle.model.specs.Statement.{Accepted, allWithin, removed, EachCommand}
-use Rattle.model.specs.Dispatch.{commandsLeft, turnsNeeded, dispatched}
+use Rattle.model.specs.Dispatch.{commandsLeft, stepsNeeded, dispatched}
 
 -- after the schedule ts, of the dispatcher's schedule from there
 pub record Dispatches (o : Setup) (ts : List ℕ) : Type 0 where
@@ -20,7 +20,7 @@ pub record Dispatches (o : Setup) (ts : List ℕ) : Type 0 where
   pub removes : EachCommand o (λ c. removed o c (ts ++ dispatched o (steps o ts (opened o))) (opened o) ≡ true)
   pub idle : (t : ℕ) → t ≤ o .largest → steps o (ts ++ dispatched o (steps o ts (opened o))) (opened o) .threads t ≡ Idle
   -- "it uses at most (n + w) × (3 × s + 6) turns"
-  pub few : length (dispatched o (steps o ts (opened o))) ≤ turnsNeeded o (steps o ts (opened o))
+  pub few : length (dispatched o (steps o ts (opened o))) ≤ stepsNeeded o (steps o ts (opened o))
   -- where n is the number of commands that no step has removed
   pub left : commandsLeft o (steps o ts (opened o)) ≡ countBelow (length (o .commands)) (λ j. not (removed o (suc j) ts (opened o)))
 

@@ -15,7 +15,7 @@ use Rattle.model.specs.declared.Thread.the-variants.{Idle}
 use Rattle.model.specs.Upd.{upd}
 use Rattle.model.specs.Setup.{Setup}
 use Rattle.model.specs.Step.{State, step, steps}
-use Rattle.model.specs.Dispatch.{Next, stop, turn, fresh, following, goesOn, dealt}
+use Rattle.model.specs.Dispatch.{Next, stop, stepOf, fresh, following, goesOn, stepsFrom}
 use Rattle.model.specs.Statement.{allWithin}
 use Rattle.model.specs.Proof.Tests.{true-false, eqb-cases, cond-cases}
 use Rattle.model.specs.Proof.Upd.{upd-at, upd-other}
@@ -85,7 +85,7 @@ module _ (threads : List Thread) (t : ℕ) (thread : Thread) (h : t < length thr
 -- what is left of them: the rest of the schedule, or what the dispatcher still chooses
 abbrev rest : Setup → Turns → ℕ → ℕ → Plan → State → List ℕ
 rest o (given ts) i end plan s = drop i ts
-rest o (chosen limit) i end plan s = dealt o (end - i) (nextOf plan) s
+rest o (chosen limit) i end plan s = stepsFrom o (end - i) (nextOf plan) s
 
 -- where they end: with the schedule, or within the lent list, where a thread is chosen as long as there is a step to come
 abbrev Ending : Turns → ℕ → ℕ → Plan → List ℕ → Type 0
@@ -131,22 +131,22 @@ ready-for other w r = record { nodes = r .nodes; free = r .free; within = w; kep
 -- ---- before the first step
 
 -- no more steps where none is to come
-dealt-none : (o : Setup) (k : ℕ) (s : State) → dealt o k stop s ≡ []
-unfolding dealt
-dealt-none o zero s = refl
-dealt-none o (suc k) s = refl
+steps-none : (o : Setup) (k : ℕ) (s : State) → stepsFrom o k stop s ≡ []
+unfolding stepsFrom
+steps-none o zero s = refl
+steps-none o (suc k) s = refl
 
 -- how many steps a plan leaves of so many
 abbrev pub leftBy : Plan → ℕ → ℕ → ℕ
 leftBy plan end less = cond (plan .going) end less
 
 -- where a plan stops, the steps end there
-ended : (o : Setup) (plan : Plan) (end i : ℕ) (s : State) → dealt o (end - i) (nextOf plan) s ≡ dealt o (leftBy plan end i - i) (nextOf plan) s
+ended : (o : Setup) (plan : Plan) (end i : ℕ) (s : State) → stepsFrom o (end - i) (nextOf plan) s ≡ stepsFrom o (leftBy plan end i - i) (nextOf plan) s
 ended o plan end i s = go (plan .going) refl
   where
-    go : (b : Bool) → plan .going ≡ b → dealt o (end - i) (nextOf plan) s ≡ dealt o (leftBy plan end i - i) (nextOf plan) s
+    go : (b : Bool) → plan .going ≡ b → stepsFrom o (end - i) (nextOf plan) s ≡ stepsFrom o (leftBy plan end i - i) (nextOf plan) s
     go true g = rw g
-    go false g = rw g (dealt-none o (end - i) s ∙ sym (dealt-none o (i - i) s))
+    go false g = rw g (steps-none o (end - i) s ∙ sym (steps-none o (i - i) s))
 
 -- the arrays as they are found
 kept-none : {commands kinds itemKeys itemChutes : List ℕ} {m : Memory} {threads : List Thread} → Ready commands kinds itemKeys itemChutes m Idle → ((t : ℕ) → NodesWithin (threadsOf threads t)) → length threads ≡ 65
@@ -158,7 +158,7 @@ pub given-are : (o : Setup) (ts : List ℕ) (s : State) → turnsOf o (given ts)
 unfolding turnsOf
 given-are o ts s = refl
 
-pub chosen-are : (o : Setup) (limit : ℕ) (s : State) → turnsOf o (chosen limit) s ≡ dealt o limit (fresh o false s) s
+pub chosen-are : (o : Setup) (limit : ℕ) (s : State) → turnsOf o (chosen limit) s ≡ stepsFrom o limit (fresh o false s) s
 unfolding turnsOf
 chosen-are o limit s = refl
 
@@ -210,7 +210,7 @@ along-none {c} {lent} {m} {threads} {plan} true schedule limit r w h named p = r
     turns-are =
         let s = shown m (threadsOf threads) in
         let all : limit ≡ limit - 0 = omega arith in
-        chosen-are o limit s ∙ ap (λ (n : Next). dealt o limit n s) (sym (planned c false m threads plan p o sets)) ∙ ap (λ k. dealt o k (nextOf plan) s) all ∙ ended o plan limit 0 s;
+        chosen-are o limit s ∙ ap (λ (n : Next). stepsFrom o limit n s) (sym (planned c false m threads plan p o sets)) ∙ ap (λ k. stepsFrom o k (nextOf plan) s) all ∙ ended o plan limit 0 s;
   };
 }
 
@@ -258,20 +258,20 @@ given-more o schedule made t i end plan s₀ s s′ more is e r = record {
 }
 
 -- chosen: the plan's thread, and then what follows
-dealt-more : (o : Setup) (plan : Plan) (end i : ℕ) (s : State) → i < end → plan .going ≡ true
-    → dealt o (end - i) (nextOf plan) s ≡ plan .thread ∷ dealt o (end - (i + 1)) (following o (plan .settled) (plan .thread) (step o (plan .thread) s)) (step o (plan .thread) s)
-unfolding dealt
-dealt-more o plan end i s more going = let e : end - i ≡ suc (end - (i + 1)) = omega arith in rw (e, going)
+steps-from-more : (o : Setup) (plan : Plan) (end i : ℕ) (s : State) → i < end → plan .going ≡ true
+    → stepsFrom o (end - i) (nextOf plan) s ≡ plan .thread ∷ stepsFrom o (end - (i + 1)) (following o (plan .settled) (plan .thread) (step o (plan .thread) s)) (step o (plan .thread) s)
+unfolding stepsFrom
+steps-from-more o plan end i s more going = let e : end - i ≡ suc (end - (i + 1)) = omega arith in rw (e, going)
 
 chosen-more : (o : Setup) (limit : ℕ) (made : List ℕ) (i end end′ : ℕ) (plan plan′ : Plan) (s₀ s s′ : State) → i < end → plan .going ≡ true → s′ ≡ step o (plan .thread) s
-    → dealt o (end - (i + 1)) (following o (plan .settled) (plan .thread) s′) s′ ≡ dealt o (end′ - (i + 1)) (nextOf plan′) s′
+    → stepsFrom o (end - (i + 1)) (following o (plan .settled) (plan .thread) s′) s′ ≡ stepsFrom o (end′ - (i + 1)) (nextOf plan′) s′
     → Reaches o (chosen limit) s₀ s made i end plan → Reaches o (chosen limit) s₀ s′ (made ++ (plan .thread ∷ [])) (i + 1) end′ plan′
 chosen-more o limit made i end end′ plan plan′ s₀ s s′ more going e same r = record {
   state-is = made-more o made (plan .thread) s₀ s s′ (r .state-is) e;
   turns-are =
-      r .turns-are ∙ ap (λ (l : List ℕ). made ++ l) (dealt-more o plan end i s more going
-      ∙ ap (λ (z : State). plan .thread ∷ dealt o (end - (i + 1)) (following o (plan .settled) (plan .thread) z) z) (sym e) ∙ ap (λ (l : List ℕ). plan .thread ∷ l) same)
-      ∙ sym (append-assoc made (plan .thread ∷ []) (dealt o (end′ - (i + 1)) (nextOf plan′) s′));
+      r .turns-are ∙ ap (λ (l : List ℕ). made ++ l) (steps-from-more o plan end i s more going
+      ∙ ap (λ (z : State). plan .thread ∷ stepsFrom o (end - (i + 1)) (following o (plan .settled) (plan .thread) z) z) (sym e) ∙ ap (λ (l : List ℕ). plan .thread ∷ l) same)
+      ∙ sym (append-assoc made (plan .thread ∷ []) (stepsFrom o (end′ - (i + 1)) (nextOf plan′) s′));
 }
 
 -- the lent list with one more
@@ -283,7 +283,7 @@ filled-more made lent₀ lent t i long more e =
     rw (e, ← long, next, drop-cons lent₀ (length made) 0 more′) (set-append-seam made (getD lent₀ (length made) 0) (drop (suc (length made)) lent₀) t ∙ sym (append-assoc made (t ∷ []) (drop (suc (length made)) lent₀)))
 
 -- what follows a step, by whether the thread goes on
-follows-on : (o : Setup) (settled : Bool) (t : ℕ) (thread : Thread) (s : State) → s .threads t ≡ thread → goesOn settled thread ≡ true → following o settled t s ≡ turn settled t
+follows-on : (o : Setup) (settled : Bool) (t : ℕ) (thread : Thread) (s : State) → s .threads t ≡ thread → goesOn settled thread ≡ true → following o settled t s ≡ stepOf settled t
 unfolding following
 follows-on o settled t thread s e g = rw (e, g)
 
@@ -315,7 +315,7 @@ module _ {commands : List ℕ} {m₀ : Memory} {kinds itemKeys itemChutes kinds�
   -- of the dispatcher
   choosing : (limit : ℕ) (plan′ : Plan) (end′ : ℕ) → t ≡ plan .thread → (a : Along c commands (chosen limit) lent₀ m₀ threads₀ kinds itemKeys itemChutes m threads lent plan i end) → i + 1 ≤ end′ → (end′ ≤ length lent₀) × (plan′ .thread ≤ 64) × (i + 1 < end′ → plan′ .going ≡ true)
       → ((o : Setup) → Sets c o → let s : State = shown m′ (threadsOf (set threads t thread)) in
-      dealt o (end - (i + 1)) (following o (plan .settled) t s) s ≡ dealt o (end′ - (i + 1)) (nextOf plan′) s)
+      stepsFrom o (end - (i + 1)) (following o (plan .settled) t s) s ≡ stepsFrom o (end′ - (i + 1)) (nextOf plan′) s)
       → Along c commands (chosen limit) lent₀ m₀ threads₀ kinds′ itemKeys′ itemChutes′ m′ (set threads t thread) (set lent i t) plan′ (i + 1) end′
   choosing limit plan′ end′ is a few′ ends same = record {
     made = a .made ++ (t ∷ []);
@@ -335,8 +335,8 @@ module _ {commands : List ℕ} {m₀ : Memory} {kinds itemKeys itemChutes kinds�
   goes-on limit is a g =
       choosing limit plan end is a (omega arith) (a .ending .0, a .ending .1, λ l. a .ending .2 more)
       (λ o sets. let s = shown m′ (threadsOf (set threads t thread)) in
-      ap (λ (n : Next). dealt o (end - (i + 1)) n s)
-      (follows-on o (plan .settled) t thread s (thread-now t thread high (a .kept) stepped keys chutes answers image) g ∙ rw (a .ending .2 more) (ap (turn (plan .settled)) is)))
+      ap (λ (n : Next). stepsFrom o (end - (i + 1)) n s)
+      (follows-on o (plan .settled) t thread s (thread-now t thread high (a .kept) stepped keys chutes answers image) g ∙ rw (a .ending .2 more) (ap (stepOf (plan .settled)) is)))
 
   -- or another is chosen
   plans : (limit : ℕ) (plan′ : Plan) → t ≡ plan .thread → Along c commands (chosen limit) lent₀ m₀ threads₀ kinds itemKeys itemChutes m threads lent plan i end → goesOn (plan .settled) thread ≡ false
@@ -346,7 +346,7 @@ module _ {commands : List ℕ} {m₀ : Memory} {kinds itemKeys itemChutes kinds�
       choosing limit plan′ (leftBy plan′ end (i + 1)) is a (cond-cases (λ n. i + 1 ≤ n) (plan′ .going) (λ _. omega arith) (λ _. omega arith))
       (cond-cases (λ n. n ≤ length lent₀) (plan′ .going) (λ _. a .ending .0) (λ _. omega (arith, a .ending .0)), p .0, λ l. first-going plan′ end l)
       (λ o sets. let s = shown m′ (threadsOf (set threads t thread)) in
-      ap (λ (n : Next). dealt o (end - (i + 1)) n s)
+      ap (λ (n : Next). stepsFrom o (end - (i + 1)) n s)
       (follows-fresh o (plan .settled) t thread s (thread-now t thread high (a .kept) stepped keys chutes answers image) g ∙ sym (planned c (plan .settled) m′ (set threads t thread) plan′ p o sets))
       ∙ ended o plan′ end (i + 1) s)
 
@@ -412,7 +412,7 @@ module _ {commands : List ℕ} {m₀ : Memory} {kinds itemKeys itemChutes : List
 
 -- all steps are made
 made-all : (o : Setup) (turns : Turns) (s₀ s : State) (made lent : List ℕ) (i end : ℕ) (plan : Plan) → Reaches o turns s₀ s made i end plan → Ending turns i end plan lent → end ≤ i → turnsOf o turns s₀ ≡ made
-unfolding dealt
+unfolding stepsFrom
 made-all o (given ts) s₀ s made lent i end plan r e l = r .turns-are ∙ ap (λ (x : List ℕ). made ++ x) (drop-of-length-le ts {i = i} (omega (arith, e))) ∙ append-nil made
 made-all o (chosen limit) s₀ s made lent i end plan r e l = let z : end - i ≡ 0 = omega arith in r .turns-are ∙ ap (λ (x : List ℕ). made ++ x) (rw z) ∙ append-nil made
 

@@ -9,7 +9,7 @@ use Rattle.model.specs.declared.Thread.the-variants.{Idle}
 use Rattle.model.specs.Setup.{Setup}
 use Rattle.model.specs.Image.{imageLength}
 use Rattle.model.specs.Step.{State, steps}
-use Rattle.model.specs.Dispatch.{fresh, dealt}
+use Rattle.model.specs.Dispatch.{fresh, stepsFrom}
 use Rattle.model.specs.Statement.{allWithin}
 use Rattle.model.specs.declared.Counters.{Counters}
 use Rattle.graph.specs.Arrays.{NodesWithin}
@@ -43,9 +43,9 @@ turnsFrom false schedule limit = given schedule
 turnsFrom true schedule limit = chosen limit
 
 unfoldable pub turnsOf : Setup → Turns → State → List ℕ
-unfolding dealt fresh
+unfolding stepsFrom fresh
 turnsOf o (given ts) s = ts
-turnsOf o (chosen limit) s = dealt o limit (fresh o false s) s
+turnsOf o (chosen limit) s = stepsFrom o limit (fresh o false s) s
 
 -- the threads of a schedule are there, and chosen steps have room in the lent list
 abbrev pub Named : ℕ → Turns → List ℕ → Type 0

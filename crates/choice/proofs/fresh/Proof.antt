@@ -22,7 +22,7 @@ use Rattle.choice.proofs.fresh.Tie as tie
 by-foremost : (o : Setup) (s : State) (seq : List ℕ) (threads : List Thread) {largest t r : ℕ}
     → o .largest ≡ largest → s .graph .seq ≡ numbers seq → ((u : ℕ) → s .threads u ≡ getD threads u Idle)
     → t ≡ Dispatch.foremost (λ u. Dispatch.rank (numbers seq) (getD threads u Idle)) largest → r ≡ Dispatch.rank (numbers seq) (getD threads t Idle)
-    → Dispatch.fresh o false s ≡ cond (eqb r 0) (Dispatch.served o s) (Dispatch.turn false t)
+    → Dispatch.fresh o false s ≡ cond (eqb r 0) (Dispatch.served o s) (Dispatch.stepOf false t)
 unfolding Dispatch.fresh Dispatch.chosen
 by-foremost o s seq threads {largest} {t} largest-is seq-is threads-are is has =
     let chosen : Dispatch.chosen o s ≡ t = simp (largest-is, seq-is, threads-are) (sym is) in

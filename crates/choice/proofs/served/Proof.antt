@@ -24,7 +24,7 @@ returns c = (omega arith, λ o s first loaded count. rw (first, ne-eqb _ 0 (c .i
 returns-2 : tie.Need-returns-2
 unfolding Dispatch.served
 returns-2 c =
-    (omega arith, λ o s first loaded count. rw (first, loaded, count, eq-eqb _ 0 (c .if1 .left)) (loads (Dispatch.turn true 0) Dispatch.stop (c .before .args .loaded) (c .before .args .count)))
+    (omega arith, λ o s first loaded count. rw (first, loaded, count, eq-eqb _ 0 (c .if1 .left)) (loads (Dispatch.stepOf true 0) Dispatch.stop (c .before .args .loaded) (c .before .args .count)))
 
 pub served-spec : {M : Type 1} → statement M
 served-spec = tie.close (tie.spec returns returns-2)

@@ -9,7 +9,7 @@ use borrow.Author.Tests.{not-true, not-false}
 use Rattle.state_bytes.specs.Layout.{Lists, allLists, setupIn, stateFits, handedBackFit, imageFits}
 use Rattle.state_bytes.proofs.Passed as Passed
 use Rattle.runner.specs.Performed.{CallPasses, chosen}
-use Rattle.dispatcher.specs.Calls.{turnsNow}
+use Rattle.dispatcher.specs.Calls.{neededNow}
 use Rattle.dispatcher.proofs.Answer.{can-need, all-there, decided, too-short, refused-so, accepted-so}
 use Rattle.dispatcher.proofs.dispatch.Statement.{statement}
 use Rattle.dispatcher.proofs.dispatch.Tie as tie
@@ -84,7 +84,7 @@ abbrev lengths-before : tie.After-needed → tie.Else1
 lengths-before c = lengths-of (state-tested c)
 
 -- the limit is the bound
-needed-is : (c : tie.After-needed) → c .needed .result ≡ turnsNow (given (entry4 c)) (commandsOf (entry4 c))
+needed-is : (c : tie.After-needed) → c .needed .result ≡ neededNow (given (entry4 c)) (commandsOf (entry4 c))
 needed-is c =
     let start = entry4 c in
     c .needed .ensures (given start) (commandsOf start) refl (all-there (given start) (commandsOf start) (lengths-passed (lengths-before c)))

@@ -8,7 +8,7 @@ use lib.ListN.{length}
 use Rattle.node_set.specs.Members.{countBelow}
 use Rattle.model.specs.Setup.{Setup}
 use Rattle.model.specs.Step.{State, step, opened, steps}
-use Rattle.model.specs.Dispatch.{Next, stop, turn, following, dealt, dispatched, turnsNeeded, fresh}
+use Rattle.model.specs.Dispatch.{Next, stop, stepOf, following, stepsFrom, dispatched, stepsNeeded, fresh}
 use Rattle.model.specs.Dispatching.{DispatcherFinishes}
 use Rattle.model.specs.Proof.Chain.Opening.{openedGhost, opened-meets}
 use Rattle.model.specs.Proof.Finish.{schedule-finishes, left-unremoved, counts-same}
@@ -16,15 +16,15 @@ use Rattle.model.specs.Proof.Finish.Bound.{unremoved}
 use Rattle.model.specs.Proof.Theorem.{g, reached, removed-is}
 
 -- a schedule of at most k steps has at most k
-dealt-few : (o : Setup) (k : ℕ) (n : Next) (s : State) → length (dealt o k n s) ≤ k
-unfolding dealt
-dealt-few o zero n s = omega arith
-dealt-few o (suc k) stop s = omega arith
-dealt-few o (suc k) (turn settled t) s = let a = dealt-few o k (following o settled t (step o t s)) (step o t s) in omega arith
+steps-few : (o : Setup) (k : ℕ) (n : Next) (s : State) → length (stepsFrom o k n s) ≤ k
+unfolding stepsFrom
+steps-few o zero n s = omega arith
+steps-few o (suc k) stop s = omega arith
+steps-few o (suc k) (stepOf settled t) s = let a = steps-few o k (following o settled t (step o t s)) (step o t s) in omega arith
 
-pub dispatched-few : (o : Setup) (s : State) → length (dispatched o s) ≤ turnsNeeded o s
+pub dispatched-few : (o : Setup) (s : State) → length (dispatched o s) ≤ stepsNeeded o s
 unfolding dispatched
-dispatched-few o s = dealt-few o (turnsNeeded o s) (fresh o false s) s
+dispatched-few o s = steps-few o (stepsNeeded o s) (fresh o false s) s
 
 pub dispatcher-finishes : DispatcherFinishes
 unfolding unremoved

@@ -10,7 +10,7 @@ use Rattle.model.specs.declared.Thread.the-variants.{Idle, Loading, Sear
 use Rattle.model.specs.Setup.{Setup, withoutEntries}
 use Rattle.model.specs.Service.{Service, foundFor, inOneStep, writeFor}
 use Rattle.model.specs.Step.{State, node, commandOf, addDependence, loaderIdle, loaderWalk, loaderStep, serveTo, holding, lookedUp, workerStep, step, steps}
-use Rattle.model.specs.Dispatch.{commandsLeft, turnsNeeded, chosen, Next, stop, turn, served, fresh, following, dealt, dispatched}
+use Rattle.model.specs.Dispatch.{commandsLeft, stepsNeeded, chosen, Next, stop, stepOf, served, fresh, following, stepsFrom, dispatched}
 
 module _ (o : Setup) where
   -- a write asks for the capacity alone
@@ -67,16 +67,16 @@ module _ (o : Setup) where
   following-without false t s = refl
   following-without true t s = refl
 
-  dealt-without : (k : ℕ) (n : Next) (s : State) → dealt (withoutEntries o) k n s ≡ dealt o k n s
-  unfolding dealt
-  dealt-without zero n s = refl
-  dealt-without (suc k) stop s = refl
-  dealt-without (suc k) (turn settled t) s = rw (step-without t s, following-without settled t (step o t s)) (ap (λ (l : List ℕ). t ∷ l) (dealt-without k (following o settled t (step o t s)) (step o t s)))
+  steps-from-without : (k : ℕ) (n : Next) (s : State) → stepsFrom (withoutEntries o) k n s ≡ stepsFrom o k n s
+  unfolding stepsFrom
+  steps-from-without zero n s = refl
+  steps-from-without (suc k) stop s = refl
+  steps-from-without (suc k) (stepOf settled t) s = rw (step-without t s, following-without settled t (step o t s)) (ap (λ (l : List ℕ). t ∷ l) (steps-from-without k (following o settled t (step o t s)) (step o t s)))
 
-  pub needed-without : (s : State) → turnsNeeded (withoutEntries o) s ≡ turnsNeeded o s
-  unfolding turnsNeeded commandsLeft
+  pub needed-without : (s : State) → stepsNeeded (withoutEntries o) s ≡ stepsNeeded o s
+  unfolding stepsNeeded commandsLeft
   needed-without s = refl
 
   pub dispatched-without : (s : State) → dispatched (withoutEntries o) s ≡ dispatched o s
   unfolding dispatched fresh served chosen
-  dispatched-without s = rw (needed-without s) (dealt-without (turnsNeeded o s) (fresh o false s) s)
+  dispatched-without s = rw (needed-without s) (steps-from-without (stepsNeeded o s) (fresh o false s) s)

@@ -10,7 +10,7 @@ use borrow.Author.Tests.{eq-eqb, ne-eqb, not-true, not-false}
 use Rattle.s10.specs.Refusal.{Refusal}
 use Rattle.state_bytes.specs.Layout.{Lists, allLists}
 use Rattle.dispatcher.specs.Calls.{DispatchOutcome, dispatchOn, refusalIn, countIn, lentLeft}
-use Rattle.depot_c.specs.Boundary.{areWhole, decoded, numberLists, packed, dealtLeft}
+use Rattle.depot_c.specs.Boundary.{areWhole, decoded, numberLists, packed, madeLeft}
 use Rattle.depot_c.proofs.Outcomes.{allFit, of-entries, decoded-none, decoded-whole, whole-lengths, room-bounds}
 use Rattle.depot_c.proofs.Dispatched.{uncounted, put-count, told-short, told-refused, told-outcome, nothing-dispatched, long-dispatched, dispatch-packed}
 use Rattle.depot_c.proofs.dispatch_calls.depot_dispatch.Statement.{statement}
@@ -178,7 +178,7 @@ returns-4 c =
     let is = called number .dispatch-within .ensures .1 in
     let count = c .before .before .before .count .ensures ∙ is .0 ∙ ap countIn (same second) in
     told-outcome (outcome begin (decoded (given begin))) (given begin) (args .schedule .now) (args .count .now) (eq-eqb _ _ (first .if1 .left)) (answer-is number)
-    (is .1 .0 ∙ ap (λ (o : DispatchOutcome). dealtLeft o (given begin)) (same second)) (is .1 .1 ∙ ap (λ (o : DispatchOutcome). lentLeft o (args .schedule .now)) (same second))
+    (is .1 .0 ∙ ap (λ (o : DispatchOutcome). madeLeft o (given begin)) (same second)) (is .1 .1 ∙ ap (λ (o : DispatchOutcome). lentLeft o (args .schedule .now)) (same second))
     (put-count (args .count .now) (c .before .before .before .before .before .if4 .taken) (first .if1 .left) (c .before .before .put-number .ensures) count)
 
 same-length-9 : tie.Need-same-length-9
@@ -209,7 +209,7 @@ returns-5 c =
     let is = called number .dispatch-within .ensures .1 in
     let o = outcome begin (decoded (given begin)) in
     told-outcome o (given begin) (args .schedule .now) (args .count .now) (eq-eqb _ _ (first .if1 .left)) (answer-is number)
-    (is .1 .0 ∙ ap (λ (o : DispatchOutcome). dealtLeft o (given begin)) (same second)) (is .1 .1 ∙ ap (λ (o : DispatchOutcome). lentLeft o (args .schedule .now)) (same second))
+    (is .1 .0 ∙ ap (λ (o : DispatchOutcome). madeLeft o (given begin)) (same second)) (is .1 .1 ∙ ap (λ (o : DispatchOutcome). lentLeft o (args .schedule .now)) (same second))
     (uncounted (countIn o) (args .count .now) (c .if4 .left))
 
 pub depot-dispatch-spec : {M : Type 1} → statement M

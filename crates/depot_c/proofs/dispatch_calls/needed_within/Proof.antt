@@ -5,7 +5,7 @@ use Rattle.depot_c.proofs.dispatch_calls.needed_within.Statement.{state
 use Rattle.depot_c.proofs.dispatch_calls.needed_within.Tie as tie
 
 -- the call that reads the numbers, from the return
-abbrev read : tie.After-turns-needed → tie.After-read-lists
+abbrev read : tie.After-steps-needed → tie.After-read-lists
 read c = c .before .before .before .before .before .before .before .before .before .before
 
 -- the function's entry, from that call
@@ -15,8 +15,8 @@ entry c = c .before .before .before .before .before .before .before .before .bef
 read-lists-requires : tie.Need-read-lists-requires
 read-lists-requires c κs = search needs
 
-turns-needed-requires : tie.Need-turns-needed-requires
-turns-needed-requires c κs = search needs
+steps-needed-requires : tie.Need-steps-needed-requires
+steps-needed-requires c κs = search needs
 
 same-length : tie.Need-same-length
 same-length c = search needs
@@ -30,14 +30,14 @@ same-length-3 c = search needs
 returns : tie.Need-returns
 returns c =
     let args = entry (read c) .args in
-    needed-on (args .state .now) (args .keys .now) (args .chutes .now) (args .answers .now) (args .commands .now) (read c .read-lists .ensures) (c .turns-needed .ensures)
+    needed-on (args .state .now) (args .keys .now) (args .chutes .now) (args .answers .now) (args .commands .now) (read c .read-lists .ensures) (c .steps-needed .ensures)
 
 pub needed-within-spec : {M : Type 1} → statement M
 needed-within-spec =
     tie.close
     (tie.spec
     read-lists-requires
-    turns-needed-requires
+    steps-needed-requires
     same-length
     same-length-2
     same-length-3

@@ -13,7 +13,7 @@ use Rattle.model.specs.declared.Thread.the-variants.{Idle}
 use Rattle.model.specs.Setup.{Setup}
 use Rattle.model.specs.Step.{State, step, steps}
 use Rattle.model.specs.Statement.{Accepted, EachCommand, allWithin, removed}
-use Rattle.model.specs.Dispatch.{rank, chosen, stands, isIdle, Next, stop, turn, served, fresh, goesOn, following, dealt, dispatched, turnsNeeded}
+use Rattle.model.specs.Dispatch.{rank, chosen, stands, isIdle, Next, stop, stepOf, served, fresh, goesOn, following, stepsFrom, dispatched, stepsNeeded}
 use Rattle.model.specs.Proof.Tests.{eqb-cases, le-cases, cond-cases}
 use Rattle.model.specs.Proof.Chain.Invariant.{Ghost, Inv}
 use Rattle.model.specs.Proof.Chain.Ghost.{ghostStep, ghostSteps}
@@ -52,14 +52,14 @@ Alone s t = (u : ℕ) → (u ≡ t → ⊥) → s .threads u ≡ Idle
 
 abbrev Comes : Setup → State → Ghost → Next → Type 0
 Comes o s g stop = Finished o s g
-Comes o s g (turn false t) = (t ≤ o .largest) × AtWork o s t
-Comes o s g (turn true t) = (t ≤ o .largest) × Alone s t × (AtWork o s t ⊎ Begins o s t)
+Comes o s g (stepOf false t) = (t ≤ o .largest) × AtWork o s t
+Comes o s g (stepOf true t) = (t ≤ o .largest) × Alone s t × (AtWork o s t ⊎ Begins o s t)
 
 -- two of a thread's steps, of which the first leaves it at work, are the first two of the schedule that is settled on it
-dealt-twice : (o : Setup) (k t : ℕ) (s : State) → isIdle (step o t s .threads t) ≡ false →
-    dealt o (suc (suc k)) (turn true t) s ≡ t ∷ t ∷ dealt o k (following o true t (step o t (step o t s))) (step o t (step o t s))
-unfolding dealt following goesOn
-dealt-twice o k t s e = rw e
+steps-twice : (o : Setup) (k t : ℕ) (s : State) → isIdle (step o t s .threads t) ≡ false →
+    stepsFrom o (suc (suc k)) (stepOf true t) s ≡ t ∷ t ∷ stepsFrom o k (following o true t (step o t (step o t s))) (step o t (step o t s))
+unfolding stepsFrom following goesOn
+steps-twice o k t s e = rw e
 
 module _ (o : Setup) (accepted : Accepted o) (s : State) (g : Ghost) (i : Inv o s g) where
   -- where all are idle, worker 1 or the loader begins, or all is finished
@@ -137,10 +137,10 @@ unfolding steps ghostSteps allWithin
 two-more o s g t m within l f = let a = f .2 in (rw (le-leb t (o .largest) within) (f .0), f .1, omega arith)
 
 -- where there is nothing to come, there is no step
-dealt-none : (o : Setup) (k : ℕ) (s : State) → dealt o k stop s ≡ []
-unfolding dealt
-dealt-none o zero s = refl
-dealt-none o (suc k) s = refl
+steps-none : (o : Setup) (k : ℕ) (s : State) → stepsFrom o k stop s ≡ []
+unfolding stepsFrom
+steps-none o zero s = refl
+steps-none o (suc k) s = refl
 
 module _ (o : Setup) (accepted : Accepted o) where
   -- worker 1 is within the count in force
@@ -158,24 +158,24 @@ module _ (o : Setup) (accepted : Accepted o) where
 
   -- the schedule of at most k steps finishes, where the measure is at most k
   Ends : ℕ → Type 0
-  Ends k = (n : Next) (s : State) (g : Ghost) → Inv o s g → Comes o s g n → Φ o s g ≤ k → Finishes o s g (dealt o k n s)
+  Ends k = (n : Next) (s : State) (g : Ghost) → Inv o s g → Comes o s g n → Φ o s g ≤ k → Finishes o s g (stepsFrom o k n s)
 
   -- if shorter ones do: what comes next lowers the measure, and where nothing comes all is finished
   module _ (k : ℕ) (shorter : (j : ℕ) → j < k → Ends j) where
     -- one step of thread t, and the rest of the schedule
     one-step : (settled : Bool) (t : ℕ) (s : State) (g : Ghost) (i : Inv o s g) (within : t ≤ o .largest) → AtWork o s t →
-        Comes o (step o t s) (ghostStep o t s g) (following o settled t (step o t s)) → Φ o s g ≤ k → Finishes o s g (dealt o k (turn settled t) s)
-    unfolding Ends dealt
+        Comes o (step o t s) (ghostStep o t s g) (following o settled t (step o t s)) → Φ o s g ≤ k → Finishes o s g (stepsFrom o k (stepOf settled t) s)
+    unfolding Ends stepsFrom
     one-step settled t s g i within w next h =
         let l = foremost-lowered o s g i t within (w .0) (w .1) in
         go k refl l
       where
-        go : (k′ : ℕ) → k ≡ k′ → Φ o (step o t s) (ghostStep o t s g) + 1 ≤ Φ o s g → Finishes o s g (dealt o k′ (turn settled t) s)
+        go : (k′ : ℕ) → k ≡ k′ → Φ o (step o t s) (ghostStep o t s g) + 1 ≤ Φ o s g → Finishes o s g (stepsFrom o k′ (stepOf settled t) s)
         go zero e l = absurd (omega arith)
         go (suc j) e l = one-more o s g t _ within l (shorter j (omega arith) (following o settled t (step o t s)) (step o t s) (ghostStep o t s g) (keeps o accepted t within s g i) next (omega arith))
 
     -- two steps of a thread that begins, and the rest
-    two-steps : (t : ℕ) (s : State) (g : Ghost) (i : Inv o s g) (within : t ≤ o .largest) → Alone s t → Begins o s t → Φ o s g ≤ k → Finishes o s g (dealt o k (turn true t) s)
+    two-steps : (t : ℕ) (s : State) (g : Ghost) (i : Inv o s g) (within : t ≤ o .largest) → Alone s t → Begins o s t → Φ o s g ≤ k → Finishes o s g (stepsFrom o k (stepOf true t) s)
     unfolding Ends
     two-steps t s g i within alone b h = go k refl (begun s g i t b)
       where
@@ -186,21 +186,21 @@ module _ (o : Setup) (accepted : Accepted o) where
         twice = keeps o accepted t within (step o t s) (ghostStep o t s g) once
 
         go : (k′ : ℕ) → k ≡ k′ → (Φ o (step o t (step o t s)) (ghostStep o t (step o t s) (ghostStep o t s g)) + 2 ≤ Φ o s g) × (isIdle (step o t s .threads t) ≡ false) →
-            Finishes o s g (dealt o k′ (turn true t) s)
+            Finishes o s g (stepsFrom o k′ (stepOf true t) s)
         go zero e l = let m = l .0 in absurd (omega arith)
         go (suc zero) e l = let m = l .0 in absurd (omega arith)
         go (suc (suc j)) e l =
             let m = l .0 in
-            rw (dealt-twice o j t s (l .1)) (two-more o s g t _ within (l .0)
+            rw (steps-twice o j t s (l .1)) (two-more o s g t _ within (l .0)
             (shorter j (omega arith) (following o true t (step o t (step o t s))) (step o t (step o t s)) (ghostStep o t (step o t s) (ghostStep o t s g)) twice
             (settled-comes o accepted (step o t (step o t s)) (ghostStep o t (step o t s) (ghostStep o t s g)) twice t within (alone-kept o accepted (step o t s) (ghostStep o t s g) once t within (alone-kept o accepted s g i t within alone)))
             (omega arith)))
 
     longer : Ends k
     unfolding Ends
-    longer stop s g i c h = rw (dealt-none o k s) (none-finishes o s g c)
-    longer (turn false t) s g i c h = one-step false t s g i (c .0) (c .1) (unsettled-comes o accepted s g i t (c .0) (c .1)) h
-    longer (turn true t) s g i c h =
+    longer stop s g i c h = rw (steps-none o k s) (none-finishes o s g c)
+    longer (stepOf false t) s g i c h = one-step false t s g i (c .0) (c .1) (unsettled-comes o accepted s g i t (c .0) (c .1)) h
+    longer (stepOf true t) s g i c h =
         ⊎-elim
         (λ w. one-step true t s g i (c .0) w (settled-comes o accepted (step o t s) (ghostStep o t s g) (keeps o accepted t (c .0) s g i) t (c .0) (alone-kept o accepted s g i t (c .0) (c .1))) h)
         (λ b. two-steps t s g i (c .0) (c .1) b h) (c .2)
@@ -212,7 +212,7 @@ module _ (o : Setup) (accepted : Accepted o) where
   -- the dispatcher's schedule finishes, within the measure
   pub dispatch-finishes : (s : State) (g : Ghost) → Inv o s g → Finishes o s g (dispatched o s)
   unfolding dispatched Ends
-  dispatch-finishes s g i = ends-below (suc (turnsNeeded o s)) (turnsNeeded o s) (omega arith) (fresh o false s) s g i (fresh-comes o accepted s g i) (measure-needed o s g i (accepted .size .0))
+  dispatch-finishes s g i = ends-below (suc (stepsNeeded o s)) (stepsNeeded o s) (omega arith) (fresh o false s) s g i (fresh-comes o accepted s g i) (measure-needed o s g i (accepted .size .0))
 
   -- After a schedule from a state in which no command is removed, the dispatcher's steps leave every command returned by the schedule or by
   -- themselves, and every thread idle.

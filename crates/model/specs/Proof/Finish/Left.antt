@@ -11,7 +11,7 @@ use Rattle.node_set.specs.Members.{countBelow}
 use Rattle.model.specs.Setup.{Setup}
 use Rattle.model.specs.Step.{State}
 use Rattle.model.specs.Statement.{Accepted}
-use Rattle.model.specs.Dispatch.{commandsLeft, turnsNeeded}
+use Rattle.model.specs.Dispatch.{commandsLeft, stepsNeeded}
 use Rattle.model.specs.Proof.Tests.{fails, true-false, le-cases}
 use Rattle.model.specs.Proof.Chain.Invariant.{Ghost, Inv}
 use Rattle.model.specs.Proof.Finish.Count.{sumBelow, count, count-past, count-most, count-image}
@@ -87,6 +87,6 @@ module _ (o : Setup) (s : State) (g : Ghost) (i : Inv o s g) where
       omega arith
 
   -- so the measure is within the dispatcher's limit
-  pub measure-needed : 1 ≤ o .size → Φ o s g ≤ turnsNeeded o s
-  unfolding turnsNeeded
+  pub measure-needed : 1 ≤ o .size → Φ o s g ≤ stepsNeeded o s
+  unfolding stepsNeeded
   measure-needed room = rw left-unremoved (bound o s g i room)

@@ -1,4 +1,4 @@
--- `dispatcher::turns_needed` meets its contract: the first test that fails decides. Assumes nothing.
+-- `dispatcher::steps_needed` meets its contract: the first test that fails decides. Assumes nothing.
 use borrow.Author.Needs.{needs}
 use borrow.Author.Tests.{not-true, not-false}
 use Prim.Native.Nat.{ℕ}
@@ -8,8 +8,8 @@ use mathlib.Core.List.{List}
 use Rattle.state_bytes.specs.Layout.{Lists, lists, stateFits, handedBackFit}
 use Rattle.state_bytes.proofs.Passed as Passed
 use Rattle.dispatcher.proofs.Answer.{can-need, all-there, needs-lengths, needs-state, needs-so}
-use Rattle.dispatcher.proofs.turns_needed.Statement.{statement}
-use Rattle.dispatcher.proofs.turns_needed.Tie as tie
+use Rattle.dispatcher.proofs.steps_needed.Statement.{statement}
+use Rattle.dispatcher.proofs.steps_needed.Tie as tie
 
 -- the lists and the commands that the call gets
 abbrev given : tie.Start → Lists
@@ -68,5 +68,5 @@ returns-3 c =
     let fit = lengths-passed (else2 .before .before) in
     needs-so (given start) (commandsOf start) fit (state-passed else2) (c .needed .ensures (given start) (commandsOf start) refl (all-there (given start) (commandsOf start) fit))
 
-pub turns-needed-spec : {M : Type 1} → statement M
-turns-needed-spec = tie.close (tie.spec lengths-fit-requires returns state-fits-requires returns-2 needed-requires returns-3)
+pub steps-needed-spec : {M : Type 1} → statement M
+steps-needed-spec = tie.close (tie.spec lengths-fit-requires returns state-fits-requires returns-2 needed-requires returns-3)

@@ -1,4 +1,4 @@
--- `depot_c::dispatch_calls::depot_turns_needed` meets its contract: lists that end within a number or are too long are refused, others are lent
+-- `depot_c::dispatch_calls::depot_steps_needed` meets its contract: lists that end within a number or are too long are refused, others are lent
 -- rooms, and the number is put into the count. Assumes nothing.
 use Prim.Native.Nat.{ℕ, _*_, _/_, _≤_}
 use mathlib.Core.List.{[]}
@@ -9,12 +9,12 @@ use lib.Seq.{length-take-le}
 use borrow.Author.Needs.{needs}
 use borrow.Author.Tests.{eq-eqb, ne-eqb, not-true, not-false}
 use Rattle.state_bytes.specs.Layout.{Lists, lists, handedBackFit}
-use Rattle.dispatcher.specs.Calls.{neededOn, turnsIn}
+use Rattle.dispatcher.specs.Calls.{neededOn, countNeeded}
 use Rattle.depot_c.specs.Boundary.{areWhole, decoded, numberLists}
 use Rattle.depot_c.proofs.Outcomes.{of-entries, decoded-none, decoded-whole, whole-lengths, room-bounds}
 use Rattle.depot_c.proofs.Dispatched.{nonzero, uncounted, put-count, nothing-needed, long-needed, needed-short, needed-told}
-use Rattle.depot_c.proofs.dispatch_calls.depot_turns_needed.Statement.{statement}
-use Rattle.depot_c.proofs.dispatch_calls.depot_turns_needed.Tie as tie
+use Rattle.depot_c.proofs.dispatch_calls.depot_steps_needed.Statement.{statement}
+use Rattle.depot_c.proofs.dispatch_calls.depot_steps_needed.Tie as tie
 
 -- the function's entry, from where the count has eight bytes
 abbrev entry : tie.Else1 → tie.Start
@@ -58,7 +58,7 @@ returns c =
     let begin = c .before .before .before .before .before .before .before in
     let args = begin .args in
     let l = decoded (given begin) in
-    needed-short (neededOn l (args .commands .now)) (turnsIn l (args .commands .now)) (args .count .now) (ne-eqb _ _ (c .if1 .taken))
+    needed-short (neededOn l (args .commands .now)) (countNeeded l (args .commands .now)) (args .count .now) (ne-eqb _ _ (c .if1 .taken))
 
 are-whole-requires : tie.Need-are-whole-requires
 are-whole-requires c κs = search needs
@@ -69,7 +69,7 @@ returns-2 c =
     let args = entry first .args in
     let b = given (entry first) in
     let none = decoded-none b (sym (c .before .are-whole .ensures) ∙ not-true _ (c .if2 .taken)) in
-    let turns = turnsIn (decoded b) (args .commands .now) in
+    let turns = countNeeded (decoded b) (args .commands .now) in
     let six = ap (λ (l : Lists). neededOn l (args .commands .now)) none ∙ nothing-needed (args .commands .now) in
     needed-told turns (args .count .now) (eq-eqb _ _ (first .if1 .left)) (sym six) (uncounted turns (args .count .now) (nonzero false refl))
 
@@ -85,7 +85,7 @@ returns-3 c =
     let first = long-count second in
     let args = entry first .args in
     let b = given (entry first) in
-    let turns = turnsIn (decoded b) (args .commands .now) in
+    let turns = countNeeded (decoded b) (args .commands .now) in
     let answer = of-entries (args .state .now) (args .keys .now) (args .chutes .now) (args .answers .now) [] (args .commands .now)
     {P = λ l list. c .long-answer .result ≡ cond (handedBackFit l list) 12 6} (λ l list s a k h n _. c .long-answer .ensures l list s a k h n) in
     let long = long-needed b (args .commands .now) (sym (c .before .before .have-room .ensures) ∙ not-true _ (c .before .if3 .taken)) in
@@ -146,20 +146,20 @@ returns-4 c =
     let args = entry first .args in
     let b = given (entry first) in
     let is = c .before .before .before .count .ensures ∙ called number .needed-within .ensures .1
-    ∙ ap (λ (l : Lists). turnsIn l (args .commands .now)) (sym (decoded-whole b (whole second))) in
+    ∙ ap (λ (l : Lists). countNeeded l (args .commands .now)) (sym (decoded-whole b (whole second))) in
     let put = put-count (args .count .now) (c .before .before .before .before .before .if4 .taken) (first .if1 .left) (c .before .before .put-number .ensures) is in
-    needed-told (turnsIn (decoded b) (args .commands .now)) (args .count .now) (eq-eqb _ _ (first .if1 .left)) (answer-is number) put
+    needed-told (countNeeded (decoded b) (args .commands .now)) (args .count .now) (eq-eqb _ _ (first .if1 .left)) (answer-is number) put
 
 returns-5 : tie.Need-returns-5
 returns-5 c =
     let number = c .before in
     let first = long-count (tested (lent (called number))) in
     let args = entry first .args in
-    let turns = turnsIn (decoded (given (entry first))) (args .commands .now) in
+    let turns = countNeeded (decoded (given (entry first))) (args .commands .now) in
     needed-told turns (args .count .now) (eq-eqb _ _ (first .if1 .left)) (answer-is number) (uncounted turns (args .count .now) (c .if4 .left))
 
-pub depot-turns-needed-spec : {M : Type 1} → statement M
-depot-turns-needed-spec =
+pub depot-steps-needed-spec : {M : Type 1} → statement M
+depot-steps-needed-spec =
     tie.close
     (tie.spec
     returns
