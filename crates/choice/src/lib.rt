@@ -5,7 +5,7 @@ ghost use lib.ListN.{getD};
 ghost use Rattle.model.specs.declared.Thread.the-variants.{Idle};
 ghost use Rattle.model.specs.Dispatch.{rank, foremost, goesOn};
 ghost use Rattle.graph.specs.Arrays.{numbers, NodesWithin};
-ghost use Rattle.choice.specs.Chosen.{Served, Fresh};
+ghost use Rattle.choice.specs.Chosen.{Served, Fresh, Planned};
 use model::Thread;
 use node_set::Node;
 
@@ -70,7 +70,7 @@ fn foremost_of(seq: &[u16; 151], threads: [Thread; 65], largest: u8) -> u8
 }
 
 // Whether the thread that stepped last goes on: while it stands in the chain, and once settled, until it is idle.
-pub fn goes_on(settled: bool, thread: Thread) -> bool
+fn goes_on(settled: bool, thread: Thread) -> bool
     ensures { λ r. ⌜ r ≡ goesOn settled thread ⌝ }
 {
     match thread {
@@ -105,7 +105,7 @@ fn served(first: u8, loaded: usize, count: usize) -> Plan
 }
 
 // Another thread than before: while not settled the foremost of all, unless all are idle.
-pub fn fresh(
+fn fresh(
     settled: bool,
     first: u8,
     seq: &[u16; 151],
@@ -130,4 +130,28 @@ pub fn fresh(
         settled: false,
         thread: t,
     }
+}
+
+// What comes next: where the dispatcher chooses, the thread of the plan while it goes on, and then another; else the plan stays.
+pub fn next_plan(
+    chooses: bool,
+    plan: Plan,
+    moved: Thread,
+    first: u8,
+    seq: &[u16; 151],
+    threads: [Thread; 65],
+    loaded: usize,
+    count: usize,
+    largest: u8,
+) -> Plan
+    requires { ⌜ ((t : ℕ) → NodesWithin (getD threads t Idle)) × (largest ≤ 64) ⌝ }
+    ensures { λ r. ⌜ Planned chooses plan moved first (now (seq .entry)) threads loaded count largest r ⌝ }
+{
+    if !chooses {
+        return plan;
+    }
+    if goes_on(plan.settled, moved) {
+        return plan;
+    }
+    fresh(plan.settled, first, seq, threads, loaded, count, largest)
 }

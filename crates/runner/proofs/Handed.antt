@@ -20,7 +20,7 @@ use Rattle.graph.specs.Memory.{Ready, memory, shown}
 use Rattle.graph.proofs.Commands.{commands-length}
 use Rattle.byte_fields.specs.Bytes.{numberAt, tabulate}
 use Rattle.state_bytes.specs.Layout.{Lists, threadOf, threadAt, setAt, setupIn, countIn, stateIn, stateLength, threadFits, threadFitsAt, imageFits}
-use Rattle.runner.specs.Performed.{CountersIn, turnsFrom, Named}
+use Rattle.runner.specs.Performed.{CountersIn, orderFrom, Named}
 use Rattle.byte_fields.proofs.Bytes.{below-or-past, tabulate-at, tabulate-past}
 use Rattle.byte_fields.proofs.Fill.{number-one}
 use Rattle.state_bytes.proofs.StateParts.{no-member}
@@ -93,9 +93,9 @@ module _ (l : Lists) (commands : List ℕ) where
   unfolding setupIn
   fit-named range schedule = within-higher (numberAt 1 3 (l .state)) 64 (range .largest) schedule
 
-  pub fit-turns : InRange l → (b : Bool) (schedule : List ℕ) (limit : ℕ) (lent : List ℕ) → Named (setupIn (l .state) commands .largest) (turnsFrom b schedule limit) lent → Named 64 (turnsFrom b schedule limit) lent
-  fit-turns range false schedule limit lent named = fit-named range schedule named
-  fit-turns range true schedule limit lent named = named
+  pub fit-order : InRange l → (b : Bool) (schedule : List ℕ) (limit : ℕ) (lent : List ℕ) → Named (setupIn (l .state) commands .largest) (orderFrom b schedule limit) lent → Named 64 (orderFrom b schedule limit) lent
+  fit-order range false schedule limit lent named = fit-named range schedule named
+  fit-order range true schedule limit lent named = named
 
   pub fit-largest : InRange l → setupIn (l .state) commands .largest ≤ 64
   unfolding setupIn

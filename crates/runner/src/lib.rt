@@ -1,14 +1,16 @@
-// The turns of a handed-back state: its bytes read into arrays, the steps of a schedule made on these, and the bytes written again.
+// The steps of a handed-back state: its bytes read into arrays, the steps of a schedule, or those that the dispatcher chooses, made on
+// these, and the bytes written again.
 ghost use mathlib.Core.Path.{_≡_};
-ghost use mathlib.Core.Bool.{false, cond};
-ghost use Prim.Native.Nat.{_<_};
-ghost use lib.ListN.{length, getD};
+ghost use mathlib.Core.Bool.{true, false, cond};
+ghost use Prim.Native.Nat.{_≤_, _<_};
+ghost use lib.ListN.{length, set};
+ghost use Rattle.choice.specs.declared.Plan.{Plan};
 ghost use Rattle.graph.specs.Memory.{memory};
 ghost use Rattle.state_bytes.specs.Layout.{allLists, allAtEntry, allAtExit, stateLength};
-ghost use Rattle.runner.specs.Performed.{CountersIn, SettingsIn, turnsFrom, CallPasses, Ran, Performs, Performed};
+ghost use Rattle.runner.specs.Performed.{CountersIn, SettingsIn, given, orderFrom, most, CallPasses, Ran, Ahead, Performs, Performed};
 use byte_fields::number_at;
-use choice::fresh;
-use choice::goes_on;
+use choice::Plan;
+use choice::next_plan;
 use command::Seq;
 use model::Counters;
 use model::Thread;
@@ -84,8 +86,8 @@ pub fn run(
     chooses: bool,
     limit: usize,
 ) -> usize
-    requires { ⌜ CallPasses (allLists (now state) (now keys) (now chutes) (now answers) (now image)) (now commands) (turnsFrom chooses (now schedule) limit) (now lent) ⌝ }
-    ensures { λ r. ⌜ Ran (allAtEntry state keys chutes answers image) (now (commands .entry)) (turnsFrom chooses (now (schedule .entry)) limit) (now (lent .entry)) (allAtExit state keys chutes answers image) (now (lent .exit)) r ⌝ }
+    requires { ⌜ CallPasses (allLists (now state) (now keys) (now chutes) (now answers) (now image)) (now commands) (orderFrom chooses (now schedule) limit) (now lent) ⌝ }
+    ensures { λ r. ⌜ Ran (allAtEntry state keys chutes answers image) (now (commands .entry)) (orderFrom chooses (now (schedule .entry)) limit) (now (lent .entry)) (allAtExit state keys chutes answers image) (now (lent .exit)) r ⌝ }
 {
     let settings = settings_in(state);
     let counters = counters_in(state);
@@ -129,35 +131,65 @@ pub fn run(
     )
 }
 
-// The thread whose turn it is: the schedule's, or the chosen one.
-fn turn_at(chooses: bool, schedule: &[u8], i: usize, thread: u8) -> u8
-    requires { ⌜ (chooses ≡ false → i < length (now schedule)) ⌝ }
-    ensures { λ r. ⌜ r ≡ cond chooses thread (getD (now (schedule .entry)) i 0) ⌝ }
+// How many threads are kept ahead.
+const AHEAD: usize = 256;
+
+// How many of those left are kept ahead at once.
+fn at_once(left: usize) -> usize
+    ensures { λ r. ⌜ (r ≤ left) × (r ≤ 256) × (r ≡ 0 → left ≡ 0) ⌝ }
 {
-    if chooses {
-        return thread;
+    if AHEAD < left {
+        return AHEAD;
     }
-    schedule[i]
+    left
 }
 
-// How many steps there are in all: those up to the end, or only those made where none is to come.
-fn left_by(going: bool, end: usize, made: usize) -> usize
-    ensures { λ r. ⌜ r ≡ cond going end made ⌝ }
+// Copies the next threads of a schedule, as many as are kept ahead or as are left. How many.
+fn copy_ahead(ahead: &mut [u8], schedule: &[u8], done: usize) -> usize
+    requires { ⌜ (length (now ahead) ≡ 256) × (done ≤ length (now schedule)) ⌝ }
+    ensures { λ r. ⌜ ((plan : Plan) → Ahead (given (now (schedule .entry))) plan done (now (ahead .exit)) r) ⌝ }
 {
-    if going {
-        return end;
+    let n = at_once(schedule.len() - done);
+    let mut k = 0;
+    while k < n {
+        ahead[k] = schedule[done + k];
+        k += 1;
     }
-    made
+    n
 }
 
-// How many there are at most: the schedule's, or, if there is one to come, as many as may be chosen.
-fn first_end(chooses: bool, going: bool, scheduled: usize, limit: usize) -> usize
-    ensures { λ r. ⌜ r ≡ cond chooses (cond going limit 0) scheduled ⌝ }
+// The threads whose steps come next, of which so many are done: the schedule's, or the chosen one, if one is to come. How many.
+fn look_ahead(
+    ahead: &mut [u8],
+    chooses: bool,
+    plan: Plan,
+    schedule: &[u8],
+    limit: usize,
+    done: usize,
+) -> usize
+    requires { ⌜ (length (now ahead) ≡ 256) × (done ≤ most (orderFrom chooses (now schedule) limit)) ⌝ }
+    ensures { λ r. ⌜ Ahead (orderFrom chooses (now (schedule .entry)) limit) plan done (now (ahead .exit)) r ⌝ }
+{
+    if !chooses {
+        return copy_ahead(ahead, schedule, done);
+    }
+    if plan.going {
+        if done < limit {
+            ahead[0] = plan.thread;
+            return 1;
+        }
+    }
+    0
+}
+
+// Writes a chosen step into the lent list.
+fn note(lent: &mut [u8], chooses: bool, i: usize, thread: u8)
+    requires { ⌜ (chooses ≡ true → i < length (now lent)) ⌝ }
+    ensures { λ _. ⌜ now (lent .exit) ≡ cond chooses (set (now (lent .entry)) i thread) (now (lent .entry)) ⌝ }
 {
     if chooses {
-        return left_by(going, limit, 0);
+        lent[i] = thread;
     }
-    scheduled
 }
 
 // Makes the steps on the arrays, and writes the state that they then show. How many there were.
@@ -184,13 +216,20 @@ fn perform(
     mut item_chutes: [u16; 151],
     mut threads: [Thread; 65],
 ) -> usize
-    requires { ⌜ Performs (now state) (now commands) (turnsFrom chooses (now schedule) limit) (now lent) kinds «item_keys» «item_chutes» settings (memory next seq executing locked waits (now keys) (now chutes) (now answers) (now image) counters) threads ⌝ }
-    ensures { λ r. ⌜ Performed settings (now (commands .entry)) (turnsFrom chooses (now (schedule .entry)) limit) (now (lent .entry)) (memory next seq executing locked waits (now (keys .entry)) (now (chutes .entry)) (now (answers .entry)) (now (image .entry)) counters) threads (allAtExit state keys chutes answers image) (now (lent .exit)) r ⌝ }
+    requires { ⌜ Performs (now state) (now commands) (orderFrom chooses (now schedule) limit) (now lent) kinds «item_keys» «item_chutes» settings (memory next seq executing locked waits (now keys) (now chutes) (now answers) (now image) counters) threads ⌝ }
+    ensures { λ r. ⌜ Performed settings (now (commands .entry)) (orderFrom chooses (now (schedule .entry)) limit) (now (lent .entry)) (memory next seq executing locked waits (now (keys .entry)) (now (chutes .entry)) (now (answers .entry)) (now (image .entry)) counters) threads (allAtExit state keys chutes answers image) (now (lent .exit)) r ⌝ }
 {
     let count = settings.count as usize;
     let largest = settings.largest;
-    let mut plan = fresh(
-        false,
+    let none = Plan {
+        going: false,
+        settled: false,
+        thread: 0,
+    };
+    let mut plan = next_plan(
+        chooses,
+        none,
+        Thread::Idle,
         next[0],
         &seq,
         threads,
@@ -198,12 +237,14 @@ fn perform(
         count,
         largest,
     );
-    let mut end = first_end(chooses, plan.going, schedule.len(), limit);
-    let mut i = 0;
-    while i < end {
-        let t = turn_at(chooses, schedule, i, plan.thread);
-        let n = t as usize;
-        let thread = threads[n];
+    let mut ahead = [0u8; AHEAD];
+    let mut done = 0;
+    let mut n = look_ahead(&mut ahead, chooses, plan, schedule, limit, done);
+    let mut j = 0;
+    while j < n {
+        let t = ahead[j];
+        let place = t as usize;
+        let thread = threads[place];
         let r = threads::step(
             &mut next,
             &mut seq,
@@ -223,18 +264,27 @@ fn perform(
             counters,
         );
         let moved = r.thread;
-        threads[n] = moved;
+        threads[place] = moved;
         counters = r.counters;
-        let made = i + 1;
-        if chooses {
-            lent[i] = t;
-            if !goes_on(plan.settled, moved) {
-                let loaded = counters.loaded.0;
-                plan = fresh(plan.settled, next[0], &seq, threads, loaded, count, largest);
-                end = left_by(plan.going, end, made);
-            }
+        j += 1;
+        if n <= j {
+            done += j;
+            j = 0;
+            note(lent, chooses, done - 1, t);
+            let loaded = counters.loaded.0;
+            plan = next_plan(
+                chooses,
+                plan,
+                moved,
+                next[0],
+                &seq,
+                threads,
+                loaded,
+                count,
+                largest,
+            );
+            n = look_ahead(&mut ahead, chooses, plan, schedule, limit, done);
         }
-        i = made;
     }
     write_state(
         state,
@@ -247,5 +297,5 @@ fn perform(
         &waits,
         threads,
     );
-    i
+    done
 }

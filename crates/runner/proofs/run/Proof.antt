@@ -8,9 +8,9 @@ use lib.ListN.{length}
 use Rattle.model.specs.Step.{State, steps}
 use Rattle.model.specs.declared.Counters.{Counters}
 use Rattle.state_bytes.specs.Layout.{Lists, allLists, listsOf, setupIn, stateLength}
-use Rattle.runner.specs.Performed.{turnsFrom, turnsOf, writtenIn}
+use Rattle.runner.specs.Performed.{orderFrom, scheduleOf, writtenIn}
 use Rattle.state_bytes.proofs.Passed.{Long, InRange, lengths-passed, state-passed}
-use Rattle.runner.proofs.Handed.{ReadOut, fit-count, fit-turns, fit-largest, fit-capacity, fit-image, fit-commands, read-shows, read-placed, read-ready, read-within, zeros}
+use Rattle.runner.proofs.Handed.{ReadOut, fit-count, fit-order, fit-largest, fit-capacity, fit-image, fit-commands, read-shows, read-placed, read-ready, read-within, zeros}
 use borrow.Author.Needs.{needs}
 use Rattle.runner.proofs.run.Statement.{statement}
 use Rattle.runner.proofs.run.Tie as tie
@@ -193,7 +193,7 @@ perform-requires c κs =
       long = long start;
       ready = read-ready (given start) (read-out at) commands (lengths start) (range start) (kept c .keep-all .ensures);
       within = read-within (given start) (read-out at) commands (lengths start) (range start);
-      named = fit-turns (given start) commands (range start) (start .args .chooses) (start .args .schedule .now) (start .args .limit) (start .args .lent .now) (start .pre .named);
+      named = fit-order (given start) commands (range start) (start .args .chooses) (start .args .schedule .now) (start .args .limit) (start .args .lent .now) (start .pre .named);
       largest = rw (sym (at-settings at .settings-in .ensures commands (fit-count (given start) commands (lengths start)) .largest)) (fit-largest (given start) commands (range start));
       imaged = fit-image (given start) commands (lengths start) (start .pre .image);
     }
@@ -224,13 +224,13 @@ returns c =
     let commands = start .args .commands .now in
     let o = setupIn (start .args .state .now) commands in
     let shown = read-shows (given start) (read-out at) in
-    let turns = turnsFrom (start .args .chooses) (start .args .schedule .now) (start .args .limit) in
+    let order = orderFrom (start .args .chooses) (start .args .schedule .now) (start .args .limit) in
     let made = called .perform .ensures o (at-settings at .settings-in .ensures commands (fit-count (given start) commands (lengths start)))
     (fit-commands (given start) commands) (fit-capacity (given start) commands (lengths start)) in
     record {
-      lists = made .0 ∙ ap (λ (s : State). listsOf o (steps o (turnsOf o turns s) s)) shown;
-      written = made .1 ∙ ap (λ (s : State). writtenIn turns (turnsOf o turns s) (start .args .lent .now)) shown;
-      counted = made .2 ∙ ap (λ (s : State). length (turnsOf o turns s)) shown;
+      lists = made .0 ∙ ap (λ (s : State). listsOf o (steps o (scheduleOf o order s) s)) shown;
+      written = made .1 ∙ ap (λ (s : State). writtenIn order (scheduleOf o order s) (start .args .lent .now)) shown;
+      counted = made .2 ∙ ap (λ (s : State). length (scheduleOf o order s)) shown;
     }
 
 pub run-spec : {M : Type 1} → statement M
