@@ -15,7 +15,7 @@ use Rattle.model.specs.Dispatch.{fresh, dispatched}
 use Rattle.state_bytes.specs.Layout as Layout
 use Rattle.state_bytes.specs.Layout.{Lists, stateLength, listsOf, setupIn, stateIn, stateFits, handedBackFit, imageFits}
 use Rattle.state_bytes.proofs.Passed.{lengths-passed, state-passed}
-use Rattle.runner.specs.Performed.{CallPasses, Ran, chosen, turnsOf}
+use Rattle.runner.specs.Performed.{CallPasses, Ran, chosen, scheduleOf}
 use Rattle.runner.proofs.Handed.{fit-count}
 use Rattle.runner.proofs.Performing.{chosen-are}
 use Rattle.dispatcher.specs.Calls.{DispatchOutcome, made, refused, neededNow, neededOn, countNeeded, madeFrom, dispatchOn, refusalIn, countIn, listsLeft, lentLeft}
@@ -83,11 +83,11 @@ module _ (l : Lists) (commands : List ℕ) where
     refused-so n e = (rw e, (rw e, (rw e, rw e)))
 
     -- the steps of a call with this limit are the dispatcher's
-    turns-are : {limit : ℕ} → limit ≡ neededNow l commands → turnsOf (setupIn (l .state) commands) (chosen limit) (stateIn l) ≡ dispatched (setupIn (l .state) commands) (stateIn l)
+    steps-are : {limit : ℕ} → limit ≡ neededNow l commands → scheduleOf (setupIn (l .state) commands) (chosen limit) (stateIn l) ≡ dispatched (setupIn (l .state) commands) (stateIn l)
     unfolding dispatched neededNow
-    turns-are is =
+    steps-are is =
         let o = setupIn (l .state) commands in
-        chosen-are o _ (stateIn l) ∙ ap (λ (k : ℕ). Dispatch.made o k (fresh o false (stateIn l)) (stateIn l)) is
+        chosen-are o _ (stateIn l) ∙ ap (λ (k : ℕ). Dispatch.stepsFrom o k (fresh o false (stateIn l)) (stateIn l)) is
 
     -- an accepted call answers 0 and the number of the steps, and leaves what they leave
     pub accepted-so : {limit count : ℕ} {after : Lists} {lent′ : List ℕ} → limit ≡ neededNow l commands → CallPasses l commands (chosen limit) lent
@@ -96,7 +96,7 @@ module _ (l : Lists) (commands : List ℕ) where
     accepted-so is p ran =
         let o = setupIn (l .state) commands in
         let e = accepts is p in
-        let ts = turns-are is in
+        let ts = steps-are is in
         let counted = ran .counted ∙ ap length ts in
         let after = ran .lists ∙ ap (λ (ts : List ℕ). listsOf o (steps o ts (stateIn l))) ts in
         let written = ran .written ∙ ap (λ (ts : List ℕ). ts ++ drop (length ts) lent) ts in

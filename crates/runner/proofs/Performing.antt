@@ -165,11 +165,11 @@ kept-none : {commands kinds itemKeys itemChutes : List ℕ} {m : Memory} {thread
 kept-none r w h = record { ready = r; within = w; all = h; keys-long = refl; chutes-long = refl; answers-long = refl; image-long = refl }
 
 -- all steps, by what they come from
-given-are : (o : Setup) (ts : List ℕ) (s : State) → scheduleOf o (given ts) s ≡ ts
+pub given-are : (o : Setup) (ts : List ℕ) (s : State) → scheduleOf o (given ts) s ≡ ts
 unfolding scheduleOf
 given-are o ts s = refl
 
-chosen-are : (o : Setup) (limit : ℕ) (s : State) → scheduleOf o (chosen limit) s ≡ stepsFrom o limit (fresh o false s) s
+pub chosen-are : (o : Setup) (limit : ℕ) (s : State) → scheduleOf o (chosen limit) s ≡ stepsFrom o limit (fresh o false s) s
 unfolding scheduleOf
 chosen-are o limit s = refl
 
