@@ -3,6 +3,7 @@ use Prim.Native.Nat.{ℕ, _≤_}
 use mathlib.Core.Path.{_≡_}
 use mathlib.Core.Bool.{Bool, true, false, cond}
 use mathlib.Core.List.{List}
+use mathlib.Core.Logic.{_⊎_}
 use lib.ListN.{length, getD}
 use Rattle.model.specs.declared.Thread.{Thread}
 use Rattle.model.specs.declared.Thread.the-variants.{Idle}
@@ -28,7 +29,9 @@ Fresh settled first seq threads loaded count largest p =
     (p .thread ≤ 64) × ((o : Setup) (s : State) → s .graph .next 0 ≡ first → s .graph .loaded ≡ loaded → length (o .commands) ≡ count
     → o .largest ≡ largest → s .graph .seq ≡ numbers seq → ((t : ℕ) → s .threads t ≡ getD threads t Idle) → nextOf p ≡ Dispatch.fresh o settled s)
 
--- what comes after a step that left its thread as it is now: where the dispatcher chooses, the same thread while it goes on, and then another
-pub record Planned (chooses : Bool) (plan : Plan) (moved : Thread) (first : ℕ) (seq : List ℕ) (threads : List Thread) (loaded count largest : ℕ) (r : Plan) : Type 0 where
-  pub same : goesOn (plan .settled) moved ≡ true → r ≡ plan
-  pub other : chooses ≡ true → goesOn (plan .settled) moved ≡ false → Fresh (plan .settled) first seq threads loaded count largest r
+-- what comes after the steps of a plan: where the dispatcher chooses, its thread while that goes on, and else another; a plan that is not going has
+-- no thread
+pub record Planned (chooses : Bool) (plan : Plan) (first : ℕ) (seq : List ℕ) (threads : List Thread) (loaded count largest : ℕ) (r : Plan) : Type 0 where
+  pub named : r .thread ≤ 64
+  pub same : plan .going ≡ true → goesOn (plan .settled) (getD threads (plan .thread) Idle) ≡ true → r ≡ plan
+  pub other : chooses ≡ true → (plan .going ≡ false) ⊎ (goesOn (plan .settled) (getD threads (plan .thread) Idle) ≡ false) → Fresh (plan .settled) first seq threads loaded count largest r

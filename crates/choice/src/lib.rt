@@ -136,7 +136,6 @@ fn fresh(
 pub fn next_plan(
     chooses: bool,
     plan: Plan,
-    moved: Thread,
     first: u8,
     seq: &[u16; 151],
     threads: [Thread; 65],
@@ -144,14 +143,18 @@ pub fn next_plan(
     count: usize,
     largest: u8,
 ) -> Plan
-    requires { ⌜ ((t : ℕ) → NodesWithin (getD threads t Idle)) × (largest ≤ 64) ⌝ }
-    ensures { λ r. ⌜ Planned chooses plan moved first (now (seq .entry)) threads loaded count largest r ⌝ }
+    requires { ⌜ (plan .thread ≤ 64) × ((t : ℕ) → NodesWithin (getD threads t Idle)) × (largest ≤ 64) ⌝ }
+    ensures { λ r. ⌜ Planned chooses plan first (now (seq .entry)) threads loaded count largest r ⌝ }
 {
     if !chooses {
         return plan;
     }
-    if goes_on(plan.settled, moved) {
-        return plan;
+    if plan.going {
+        let t = plan.thread as usize;
+        let thread = threads[t];
+        if goes_on(plan.settled, thread) {
+            return plan;
+        }
     }
     fresh(plan.settled, first, seq, threads, loaded, count, largest)
 }

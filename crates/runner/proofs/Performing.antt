@@ -6,10 +6,10 @@ use mathlib.Core.Path.{_≡_, refl, sym, ap, _∙_, fun-ext, subst}
 use mathlib.Core.Bool.{Bool, true, false, cond, and-eq-true-iff}
 use mathlib.Core.List.{List, [], _∷_, _++_, append-assoc, append-nil}
 use mathlib.Core.Logic.{_⊎_, inl, inr, ⊎-elim}
-use lib.ListN.{length, getD, drop, set, length-set, length-append, length-drop, drop-of-length-le}
+use lib.ListN.{length, getD, take, drop, set, length-set, length-append, length-drop, drop-of-length-le}
 use lib.Dec.{leb}
-use lib.Seq.{drop-cons, set-append-seam, getD-set-same, getD-set-other}
-use borrow.Author.Tests.{leb-true, le-leb}
+use lib.Seq.{take-suc, length-take-le, drop-cons, set-append-seam, getD-set-same, getD-set-other}
+use borrow.Author.Tests.{leb-true, le-leb, ne-eqb}
 use Rattle.model.specs.declared.Thread.{Thread}
 use Rattle.model.specs.declared.Thread.the-variants.{Idle}
 use Rattle.model.specs.Upd.{upd}
@@ -30,7 +30,7 @@ use Rattle.state_bytes.specs.Layout.{Lists, allLists, listsOf}
 use Rattle.state_bytes.specs.Written.{Sets, Shown, Lays}
 use Rattle.choice.specs.declared.Plan.{Plan}
 use Rattle.choice.specs.Chosen.{nextOf, Fresh, Planned}
-use Rattle.runner.specs.Performed.{Order, given, chosen, orderFrom, scheduleOf, Named, writtenIn, most, nextThread, Ahead, Performed}
+use Rattle.runner.specs.Performed.{Order, given, chosen, orderFrom, scheduleOf, Named, writtenIn, most, nextThread, Over, Ahead, notedIn, Performed}
 use Rattle.byte_fields.proofs.Bytes.{tabulate-elements}
 
 -- the threads of an array, idle past its end
@@ -82,17 +82,16 @@ module _ (threads : List Thread) (t : ℕ) (thread : Thread) (h : t < length thr
 
 -- ---- along the steps
 
--- what is left of them: the rest of the schedule, or what the dispatcher still chooses
-abbrev rest : Setup → Order → ℕ → Plan → State → List ℕ
-rest o (given ts) i plan s = drop i ts
-rest o (chosen limit) i plan s = stepsFrom o (limit - i) (nextOf plan) s
+-- what comes after the steps of a plan, or where none was made yet
+abbrev afterwards : Setup → Plan → State → Next
+afterwards o plan s = cond (plan .going) (following o (plan .settled) (plan .thread) s) (fresh o (plan .settled) s)
 
--- a chosen thread is one that there can be
-abbrev Steady : Order → Plan → Type 0
-Steady (given ts) plan = Unit {0}
-Steady (chosen limit) plan = plan .thread ≤ 64
+-- what is left of the steps: the rest of the schedule, or what the dispatcher still chooses
+abbrev rest : Setup → Order → ℕ → (State → Next) → State → List ℕ
+rest o (given ts) i coming s = drop i ts
+rest o (chosen limit) i coming s = stepsFrom o (limit - i) (coming s) s
 
--- the lent list so far
+-- the lent list so far: chosen steps stand in it
 abbrev Filled : Order → List ℕ → List ℕ → List ℕ → Type 0
 Filled (given ts) made lent₀ lent = lent ≡ lent₀
 Filled (chosen limit) made lent₀ lent = lent ≡ made ++ drop (length made) lent₀
@@ -108,32 +107,26 @@ pub record Kept (commands : List ℕ) (m₀ : Memory) (kinds itemKeys itemChutes
   pub image-long : length (m .service .image) ≡ length (m₀ .service .image)
 
 -- of a setup: the arrays show the state after the steps made, and these with what is left are all
-pub record Reaches (o : Setup) (order : Order) (s₀ s : State) (made : List ℕ) (i : ℕ) (plan : Plan) : Type 0 where
+pub record Reaches (o : Setup) (order : Order) (s₀ s : State) (made : List ℕ) (i : ℕ) (coming : State → Next) : Type 0 where
   pub state-is : s ≡ steps o made s₀
-  pub all-are : scheduleOf o order s₀ ≡ made ++ rest o order i plan s
+  pub all-are : scheduleOf o order s₀ ≡ made ++ rest o order i coming s
 
--- after i steps
+-- after i steps, those of the plan among them
 pub record Along (c : Settings) (commands : List ℕ) (order : Order) (lent₀ : List ℕ) (m₀ : Memory) (threads₀ : List Thread) (kinds itemKeys itemChutes : List ℕ) (m : Memory) (threads : List Thread) (lent : List ℕ) (plan : Plan) (i : ℕ) : Type 0 where
   pub made : List ℕ
   pub made-long : length made ≡ i
   pub few : i ≤ most order
   pub kept : Kept commands m₀ kinds itemKeys itemChutes m threads
-  pub steady : Steady order plan
+  pub steady : plan .thread ≤ 64
   pub filled : Filled order made lent₀ lent
   pub reaches : (o : Setup) → Sets c o → o .commands ≡ commandsIn commands → o .capacity ≡ length (m₀ .service .keys)
-      → Reaches o order (shown m₀ (threadsOf threads₀)) (shown m (threadsOf threads)) made i plan
+      → Reaches o order (shown m₀ (threadsOf threads₀)) (shown m (threadsOf threads)) made i (afterwards o plan)
 
--- j of the n threads kept ahead have made their steps; there is one to come, unless there is none at all
-abbrev pub Within : ℕ → ℕ → Type 0
-Within j n = (j < n) ⊎ ((j ≡ 0) × (n ≡ 0))
-
-pub within-first : (n : ℕ) → Within 0 n
-within-first zero = inr (refl, refl)
-within-first (suc n) = inl (omega arith)
-
--- where none is to come, none is kept
-pub none-ahead : (j n : ℕ) → Within j n → n ≤ j → (j ≡ 0) × (n ≡ 0)
-none-ahead j n w le = ⊎-elim (λ l. absurd (omega arith)) (λ e. e) w
+-- after the steps of the first j threads kept ahead
+pub record Block (commands ahead : List ℕ) (m₁ : Memory) (threads₁ : List Thread) (kinds itemKeys itemChutes : List ℕ) (m : Memory) (threads : List Thread) (j : ℕ) : Type 0 where
+  pub kept : Kept commands m₁ kinds itemKeys itemChutes m threads
+  pub shows : (o : Setup) → o .commands ≡ commandsIn commands → o .capacity ≡ length (m₁ .service .keys)
+      → shown m (threadsOf threads) ≡ steps o (take j ahead) (shown m₁ (threadsOf threads₁))
 
 -- ready, with another thread to step
 pub ready-for : {list kinds itemKeys itemChutes : List ℕ} {m : Memory} {thread : Thread} (other : Thread) → NodesWithin other
@@ -143,7 +136,7 @@ ready-for other w r = record { nodes = r .nodes; free = r .free; within = w; kep
 -- ---- what is kept ahead
 
 -- the thread kept is one of the 65
-pub ahead-named : {plan : Plan} {done n : ℕ} {ahead : List ℕ} (order : Order) (j : ℕ) (lent : List ℕ) → Ahead order plan done ahead n → j < n → Named 64 order lent → Steady order plan → getD ahead j 0 < 65
+pub ahead-named : {plan : Plan} {done n : ℕ} {ahead : List ℕ} (order : Order) (j : ℕ) (lent : List ℕ) → Ahead order plan done ahead n → j < n → Named 64 order lent → plan .thread ≤ 64 → getD ahead j 0 < 65
 ahead-named {done} (given ts) j lent a more named steady = omega (arith, a .are j more, each-within 64 ts named (done + j))
 ahead-named (chosen limit) j lent a more named steady = omega (arith, a .are j more)
 
@@ -173,51 +166,28 @@ pub chosen-are : (o : Setup) (limit : ℕ) (s : State) → scheduleOf o (chosen 
 unfolding scheduleOf
 chosen-are o limit s = refl
 
--- a plan made of the arrays, after a step that left its thread as it is now
-abbrev pub PlannedBy : Settings → Bool → Plan → Thread → Memory → List Thread → Plan → Type 0
-PlannedBy c chooses plan moved m threads plan′ = Planned chooses plan moved (getD (m .graph .next) 0 0) (m .graph .seq) threads (m .graph .loaded) (c .count) (c .largest) plan′
-
--- another thread is the model's on the state that the arrays show
-planned : (c : Settings) (settled : Bool) (m : Memory) (threads : List Thread) (plan : Plan) → Fresh settled (getD (m .graph .next) 0 0) (m .graph .seq) threads (m .graph .loaded) (c .count) (c .largest) plan → (o : Setup) → Sets c o
-    → nextOf plan ≡ fresh o settled (shown m (threadsOf threads))
-planned c settled m threads plan p o sets = p .1 o (shown m (threadsOf threads)) refl refl (sets .count) (sets .largest) refl (λ t. refl)
-
--- an idle thread does not go on
-idle-stops : (settled : Bool) → settled ≡ false → goesOn settled Idle ≡ false
-unfolding goesOn
-idle-stops settled e = rw e refl
-
-pub along-none : {c : Settings} {commands lent kinds itemKeys itemChutes : List ℕ} {m : Memory} {threads : List Thread} {none plan : Plan} (b : Bool) (schedule : List ℕ) (limit : ℕ)
+-- before the first step, with a plan that is not going
+pub along-none : {c : Settings} {commands lent kinds itemKeys itemChutes : List ℕ} {m : Memory} {threads : List Thread} {plan : Plan} (b : Bool) (schedule : List ℕ) (limit : ℕ)
     → Ready commands kinds itemKeys itemChutes m Idle → ((t : ℕ) → NodesWithin (threadsOf threads t)) → length threads ≡ 65
-    → none .settled ≡ false → PlannedBy c b none Idle m threads plan
+    → plan .thread ≤ 64 → plan .going ≡ false → plan .settled ≡ false
     → Along c commands (orderFrom b schedule limit) lent m threads kinds itemKeys itemChutes m threads lent plan 0
-along-none {m} {threads} false schedule limit r w h unsettled p = record {
+along-none {lent} {m} {threads} {plan} b schedule limit r w h steady idle unsettled = record {
   made = [];
   made-long = refl;
   few = omega arith;
   kept = kept-none r w h;
-  steady = tt;
-  filled = refl;
-  reaches = λ o _ _ _. record { state-is = sym (no-steps o (shown m (threadsOf threads))); all-are = given-are o schedule (shown m (threadsOf threads)) };
+  steady = steady;
+  filled = nothing b;
+  reaches = λ o _ _ _. record { state-is = sym (no-steps o (shown m (threadsOf threads))); all-are = all b o (shown m (threadsOf threads)) };
 }
-along-none {c} {m} {threads} {none} {plan} true schedule limit r w h unsettled p =
-    let f = p .other refl (idle-stops (none .settled) unsettled) in
-    record {
-      made = [];
-      made-long = refl;
-      few = omega arith;
-      kept = kept-none r w h;
-      steady = f .0;
-      filled = refl;
-      reaches = λ o sets _ _. record {
-        state-is = sym (no-steps o (shown m (threadsOf threads)));
-        all-are =
-            let s = shown m (threadsOf threads) in
-            let all : limit ≡ limit - 0 = omega arith in
-            chosen-are o limit s ∙ ap (λ (n : Next). stepsFrom o limit n s) (sym (rw unsettled at (planned c (none .settled) m threads plan f o sets)))
-            ∙ ap (λ k. stepsFrom o k (nextOf plan) s) all;
-      };
-    }
+  where
+    nothing : (b : Bool) → Filled (orderFrom b schedule limit) [] lent lent
+    nothing false = refl
+    nothing true = refl
+
+    all : (b : Bool) (o : Setup) (s : State) → scheduleOf o (orderFrom b schedule limit) s ≡ [] ++ rest o (orderFrom b schedule limit) 0 (afterwards o plan) s
+    all false o s = given-are o schedule s
+    all true o s = let e : limit ≡ limit - 0 = omega arith in chosen-are o limit s ∙ rw (idle, unsettled) (ap (λ k. stepsFrom o k (fresh o false s) s) e)
 
 -- ---- a step
 
@@ -243,41 +213,70 @@ module _ {commands : List ℕ} {m₀ : Memory} {kinds itemKeys itemChutes kinds�
   state-more : (o : Setup) → o .commands ≡ commandsIn commands → o .capacity ≡ length (m₀ .service .keys) → shown m′ (threadsOf (set threads t thread)) ≡ step o t (shown m (threadsOf threads))
   state-more o cs cap = ap (shown m′) (set-thread threads t thread inside) ∙ stepped .step-is o (threadsOf threads) cs (cap ∙ sym (k .keys-long)) refl
 
-  thread-now : threadsOf (set threads t thread) t ≡ thread
-  thread-now = getD-set-same threads t thread Idle inside
+-- the arrays before the first thread kept ahead
+pub block-none : {commands kinds itemKeys itemChutes : List ℕ} {m₀ m : Memory} {threads : List Thread} (ahead : List ℕ) → Kept commands m₀ kinds itemKeys itemChutes m threads → Block commands ahead m threads kinds itemKeys itemChutes m threads 0
+block-none {m} {threads} ahead k = record { kept = kept-none (k .ready) (k .within) (k .all); shows = λ o _ _. sym (no-steps o (shown m (threadsOf threads))) }
 
--- the steps made, with one more
-made-more : (o : Setup) (made : List ℕ) (t : ℕ) (s₀ s s′ : State) → s ≡ steps o made s₀ → s′ ≡ step o t s → s′ ≡ steps o (made ++ (t ∷ [])) s₀
-made-more o made t s₀ s s′ e f = f ∙ ap (step o t) e ∙ sym (steps-more o made t s₀)
-
-one-longer : (made : List ℕ) (t i : ℕ) → length made ≡ i → length (made ++ (t ∷ [])) ≡ i + 1
-one-longer made t i e = length-append made (t ∷ []) ∙ ap (λ n. n + 1) e
-
--- of a schedule: its next thread, whatever is planned
-given-more : (o : Setup) (schedule made : List ℕ) (t i : ℕ) (plan plan′ : Plan) (s₀ s s′ : State) → i < length schedule → t ≡ getD schedule i 0 → s′ ≡ step o t s
-    → Reaches o (given schedule) s₀ s made i plan → Reaches o (given schedule) s₀ s′ (made ++ (t ∷ [])) (i + 1) plan′
-given-more o schedule made t i plan plan′ s₀ s s′ more is e r = record {
-  state-is = made-more o made t s₀ s s′ (r .state-is) e;
-  all-are =
-      r .all-are ∙ ap (λ (l : List ℕ). made ++ l) (drop-cons schedule i 0 more ∙ ap (λ n. n ∷ drop (suc i) schedule) (sym is)) ∙ rw add-one (sym (append-assoc made (t ∷ []) (drop (suc i) schedule)));
+-- a step of the next of them is the model's
+pub block-more : {commands kinds itemKeys itemChutes kinds′ itemKeys′ itemChutes′ : List ℕ} {m₁ m m′ : Memory} {threads₁ threads : List Thread} (ahead : List ℕ) (j : ℕ) (thread : Thread)
+    → j < length ahead → getD ahead j 0 < 65 → Steps commands (getD ahead j 0) (threadsOf threads (getD ahead j 0)) m kinds′ itemKeys′ itemChutes′ thread m′
+    → length (m′ .service .keys) ≡ length (m .service .keys) → length (m′ .service .chutes) ≡ length (m .service .chutes) → length (m′ .service .answers) ≡ length (m .service .answers)
+    → length (m′ .service .image) ≡ length (m .service .image) → Block commands ahead m₁ threads₁ kinds itemKeys itemChutes m threads j
+    → Block commands ahead m₁ threads₁ kinds′ itemKeys′ itemChutes′ m′ (set threads (getD ahead j 0) thread) (j + 1)
+block-more {m₁} {m′} {threads₁} {threads} ahead j thread h high stepped keys chutes answers image b = record {
+  kept = kept-more (getD ahead j 0) thread high (b .kept) stepped keys chutes answers image;
+  shows = λ o cs cap.
+      state-more (getD ahead j 0) thread high (b .kept) stepped keys chutes answers image o cs cap ∙ ap (step o (getD ahead j 0)) (b .shows o cs cap)
+      ∙ sym (steps-more o (take j ahead) (getD ahead j 0) (shown m₁ (threadsOf threads₁))) ∙ ap (λ (ts : List ℕ). steps o ts (shown m₁ (threadsOf threads₁))) (rw add-one (sym (take-suc ahead j 0 h)));
 }
 
--- chosen: the plan's thread, and then what follows
-steps-from-more : (o : Setup) (plan : Plan) (limit i : ℕ) (s : State) → i < limit → plan .going ≡ true
-    → stepsFrom o (limit - i) (nextOf plan) s ≡ plan .thread ∷ stepsFrom o (limit - (i + 1)) (following o (plan .settled) (plan .thread) (step o (plan .thread) s)) (step o (plan .thread) s)
-unfolding stepsFrom
-steps-from-more o plan limit i s more going = let e : limit - i ≡ suc (limit - (i + 1)) = omega arith in rw (e, going)
+-- ---- the invariant when another thread is planned
 
-chosen-more : (o : Setup) (limit : ℕ) (made : List ℕ) (i : ℕ) (plan plan′ : Plan) (s₀ s s′ : State) → i < limit → plan .going ≡ true → s′ ≡ step o (plan .thread) s
-    → following o (plan .settled) (plan .thread) s′ ≡ nextOf plan′
-    → Reaches o (chosen limit) s₀ s made i plan → Reaches o (chosen limit) s₀ s′ (made ++ (plan .thread ∷ [])) (i + 1) plan′
-chosen-more o limit made i plan plan′ s₀ s s′ more going e same r = record {
-  state-is = made-more o made (plan .thread) s₀ s s′ (r .state-is) e;
-  all-are =
-      r .all-are ∙ ap (λ (l : List ℕ). made ++ l) (steps-from-more o plan limit i s more going
-      ∙ ap (λ (z : State). plan .thread ∷ stepsFrom o (limit - (i + 1)) (following o (plan .settled) (plan .thread) z) z) (sym e) ∙ ap (λ (n : Next). plan .thread ∷ stepsFrom o (limit - (i + 1)) n s′) same)
-      ∙ sym (append-assoc made (plan .thread ∷ []) (stepsFrom o (limit - (i + 1)) (nextOf plan′) s′));
+-- a plan made of the arrays
+abbrev pub PlannedBy : Settings → Bool → Plan → Memory → List Thread → Plan → Type 0
+PlannedBy c chooses plan m threads plan′ = Planned chooses plan (getD (m .graph .next) 0 0) (m .graph .seq) threads (m .graph .loaded) (c .count) (c .largest) plan′
+
+-- what follows a step, by whether the thread goes on
+follows-on : (o : Setup) (settled : Bool) (t : ℕ) (s : State) → goesOn settled (s .threads t) ≡ true → following o settled t s ≡ stepOf settled t
+unfolding following
+follows-on o settled t s g = rw g
+
+follows-fresh : (o : Setup) (settled : Bool) (t : ℕ) (s : State) → goesOn settled (s .threads t) ≡ false → following o settled t s ≡ fresh o settled s
+unfolding following
+follows-fresh o settled t s g = rw g
+
+-- it is the model's, on the state that the arrays show
+planned : (c : Settings) (plan : Plan) (m : Memory) (threads : List Thread) (plan′ : Plan) → PlannedBy c true plan m threads plan′ → (o : Setup) → Sets c o
+    → nextOf plan′ ≡ afterwards o plan (shown m (threadsOf threads))
+planned c plan m threads plan′ p o sets = going (plan .going) refl
+  where
+    s : State
+    s = shown m (threadsOf threads)
+
+    another : (plan .going ≡ false) ⊎ (goesOn (plan .settled) (threadsOf threads (plan .thread)) ≡ false) → nextOf plan′ ≡ fresh o (plan .settled) s
+    another why = p .other refl why .1 o s refl refl (sets .count) (sets .largest) refl (λ t. refl)
+
+    goes : plan .going ≡ true → (b : Bool) → goesOn (plan .settled) (threadsOf threads (plan .thread)) ≡ b → nextOf plan′ ≡ following o (plan .settled) (plan .thread) s
+    goes g true e = rw (p .same g e, g) (sym (follows-on o (plan .settled) (plan .thread) s e))
+    goes g false e = another (inr e) ∙ sym (follows-fresh o (plan .settled) (plan .thread) s e)
+
+    going : (b : Bool) → plan .going ≡ b → nextOf plan′ ≡ afterwards o plan s
+    going true g = rw g (goes g _ refl)
+    going false g = rw g (another (inl g))
+
+-- so what is left is what the new plan begins with
+replanned : (c : Settings) (plan : Plan) (m : Memory) (threads : List Thread) (plan′ : Plan) (b : Bool) (schedule : List ℕ) (limit i : ℕ) (s₀ : State) (made : List ℕ) → PlannedBy c b plan m threads plan′ → (o : Setup) → Sets c o
+    → Reaches o (orderFrom b schedule limit) s₀ (shown m (threadsOf threads)) made i (afterwards o plan) → Reaches o (orderFrom b schedule limit) s₀ (shown m (threadsOf threads)) made i (λ s. nextOf plan′)
+replanned c plan m threads plan′ false schedule limit i s₀ made p o sets r = record { state-is = r .state-is; all-are = r .all-are }
+replanned c plan m threads plan′ true schedule limit i s₀ made p o sets r = record {
+  state-is = r .state-is;
+  all-are = r .all-are ∙ ap (λ (x : Next). made ++ stepsFrom o (limit - i) x (shown m (threadsOf threads))) (sym (planned c plan m threads plan′ p o sets));
 }
+
+-- a number that is not 0
+pub positive : (n : ℕ) → (n ≡ 0 → ⊥) → 0 < n
+positive zero h = absurd (h refl)
+positive (suc n) h = omega arith
 
 -- the lent list with one more
 filled-more : (made lent₀ lent : List ℕ) (t i : ℕ) → length made ≡ i → i < length lent₀ → lent ≡ made ++ drop (length made) lent₀
@@ -287,113 +286,102 @@ filled-more made lent₀ lent t i long more e =
     let next : length (made ++ (t ∷ [])) ≡ suc (length made) = length-append made (t ∷ []) ∙ rw add-one in
     rw (e, ← long, next, drop-cons lent₀ (length made) 0 more′) (set-append-seam made (getD lent₀ (length made) 0) (drop (suc (length made)) lent₀) t ∙ sym (append-assoc made (t ∷ []) (drop (suc (length made)) lent₀)))
 
--- what follows a step, by whether the thread goes on
-follows-on : (o : Setup) (settled : Bool) (t : ℕ) (thread : Thread) (s : State) → s .threads t ≡ thread → goesOn settled thread ≡ true → following o settled t s ≡ stepOf settled t
-unfolding following
-follows-on o settled t thread s e g = rw (e, g)
+-- ---- the steps of those kept ahead
 
-follows-fresh : (o : Setup) (settled : Bool) (t : ℕ) (thread : Thread) (s : State) → s .threads t ≡ thread → goesOn settled thread ≡ false → following o settled t s ≡ fresh o settled s
-unfolding following
-follows-fresh o settled t thread s e g = rw (e, g)
+-- of a schedule they are its next ones
+next-ones : (ts ahead : List ℕ) (done n : ℕ) → done + n ≤ length ts → n ≤ length ahead → ((k : ℕ) → k < n → getD ahead k 0 ≡ getD ts (done + k) 0) → drop done ts ≡ take n ahead ++ drop (done + n) ts
+next-ones ts ahead done zero in-ts in-ahead are = let e : done ≡ done + 0 = omega arith in ap (λ k. drop k ts) e
+next-ones ts ahead done (suc n) in-ts in-ahead are =
+    let e : done + suc n ≡ suc (done + n) = omega arith in
+    next-ones ts ahead done n (omega arith) (omega arith) (λ k less. are k (omega arith))
+    ∙ ap (λ (l : List ℕ). take n ahead ++ l) (drop-cons ts (done + n) 0 (omega arith) ∙ ap (λ x. x ∷ drop (suc (done + n)) ts) (sym (are n (omega arith))))
+    ∙ sym (append-assoc (take n ahead) (getD ahead n 0 ∷ []) (drop (suc (done + n)) ts))
+    ∙ ap (λ (l : List ℕ). l ++ drop (suc (done + n)) ts) (sym (take-suc ahead n 0 (omega arith))) ∙ ap (λ k. take (suc n) ahead ++ drop k ts) (sym e)
 
--- ---- the loop's invariant after a step
+-- one that is chosen is the plan's, and what follows it comes after the plan
+steps-from-more : (o : Setup) (plan : Plan) (limit i : ℕ) (s : State) → i < limit → plan .going ≡ true
+    → stepsFrom o (limit - i) (nextOf plan) s ≡ plan .thread ∷ stepsFrom o (limit - (i + 1)) (afterwards o plan (step o (plan .thread) s)) (step o (plan .thread) s)
+unfolding stepsFrom
+steps-from-more o plan limit i s more going = let e : limit - i ≡ suc (limit - (i + 1)) = omega arith in rw (e, going)
 
-module _ {commands : List ℕ} {m₀ : Memory} {kinds itemKeys itemChutes kinds′ itemKeys′ itemChutes′ : List ℕ} {m m′ : Memory} {threads₀ threads : List Thread} {c : Settings} {lent₀ lent : List ℕ} {plan : Plan} {done n j : ℕ} {ahead : List ℕ}
-    (t : ℕ) (thread : Thread) (is : t ≡ getD ahead j 0) (more : j < n) (high : t < 65) (stepped : Steps commands t (threadsOf threads t) m kinds′ itemKeys′ itemChutes′ thread m′)
-    (keys : length (m′ .service .keys) ≡ length (m .service .keys)) (chutes : length (m′ .service .chutes) ≡ length (m .service .chutes))
-    (answers : length (m′ .service .answers) ≡ length (m .service .answers)) (image : length (m′ .service .image) ≡ length (m .service .image)) where
-  -- of a schedule
-  scheduled : (schedule : List ℕ) (plan′ : Plan) → Ahead (given schedule) plan done ahead n
-      → Along c commands (given schedule) lent₀ m₀ threads₀ kinds itemKeys itemChutes m threads lent plan (done + j)
-      → Along c commands (given schedule) lent₀ m₀ threads₀ kinds′ itemKeys′ itemChutes′ m′ (set threads t thread) lent plan′ (done + j + 1)
-  scheduled schedule plan′ w a = record {
-    made = a .made ++ (t ∷ []);
-    made-long = one-longer (a .made) t (done + j) (a .made-long);
-    few = omega (arith, w .left);
-    kept = kept-more t thread high (a .kept) stepped keys chutes answers image;
-    steady = tt;
-    filled = a .filled;
-    reaches = λ o sets cs room.
-        given-more o schedule (a .made) t (done + j) plan plan′ (shown m₀ (threadsOf threads₀)) (shown m (threadsOf threads)) (shown m′ (threadsOf (set threads t thread)))
-        (omega (arith, w .left)) (is ∙ w .are j more)
-        (state-more t thread high (a .kept) stepped keys chutes answers image o cs room) (a .reaches o sets cs room);
-  }
+one-of : (ahead : List ℕ) → 0 < length ahead → take 1 ahead ≡ getD ahead 0 0 ∷ []
+one-of ahead h = take-suc ahead 0 0 h
 
-  -- of the dispatcher, with what it plans then
-  choosing : (limit : ℕ) (plan′ : Plan) → limit ≤ length lent₀ → PlannedBy c true plan thread m′ (set threads t thread) plan′ → Ahead (chosen limit) plan done ahead n
-      → Along c commands (chosen limit) lent₀ m₀ threads₀ kinds itemKeys itemChutes m threads lent plan (done + j)
-      → Along c commands (chosen limit) lent₀ m₀ threads₀ kinds′ itemKeys′ itemChutes′ m′ (set threads t thread) (set lent (done + j) t) plan′ (done + j + 1)
-  choosing limit plan′ room p w a = record {
-    made = a .made ++ (t ∷ []);
-    made-long = one-longer (a .made) t (done + j) (a .made-long);
-    few = omega (arith, w .left);
-    kept = kept-more t thread high (a .kept) stepped keys chutes answers image;
-    steady = either-way (λ (q : Plan). q .thread ≤ 64) (a .steady) (λ f. f .0);
-    filled = filled-more (a .made) lent₀ lent t (done + j) (a .made-long) (omega (arith, w .left)) (a .filled);
-    reaches = λ o sets cs cap.
-        rw chosen-is (chosen-more o limit (a .made) (done + j) plan plan′ (shown m₀ (threadsOf threads₀)) (shown m (threadsOf threads)) (shown m′ (threadsOf (set threads (plan .thread) thread)))
-        (omega (arith, w .left)) going (rw chosen-is at (state-more t thread high (a .kept) stepped keys chutes answers image o cs cap)) (rw chosen-is at (follows o sets)) (a .reaches o sets cs cap));
-  }
-    where
-      going : plan .going ≡ true
-      going = w .alone .1 (omega arith)
+one-step : (o : Setup) (t : ℕ) (s : State) → steps o (t ∷ []) s ≡ step o t s
+unfolding steps
+one-step o t s = refl
 
-      chosen-is : t ≡ plan .thread
-      chosen-is = is ∙ w .are j more
+-- what is left before them is they and what is left after them
+left-more : (o : Setup) (b : Bool) (schedule : List ℕ) (limit : ℕ) (plan : Plan) (done n : ℕ) (ahead : List ℕ) (s s′ : State) → Ahead (orderFrom b schedule limit) plan done ahead n → (n ≡ 0 → ⊥) → n ≤ length ahead
+    → s′ ≡ steps o (take n ahead) s
+    → rest o (orderFrom b schedule limit) done (λ z. nextOf plan) s ≡ take n ahead ++ rest o (orderFrom b schedule limit) (done + n) (afterwards o plan) s′
+left-more o false schedule limit plan done n ahead s s′ w some h e = next-ones schedule ahead done n (w .left) h (w .are)
+left-more o true schedule limit plan done n ahead s s′ w some h e =
+    let less = positive n some in
+    let few = w .alone .0 in
+    let one : n ≡ 1 = omega arith in
+    let here : done + n ≡ done + 1 = omega arith in
+    let first : take n ahead ≡ plan .thread ∷ [] = ap (λ k. take k ahead) one ∙ one-of ahead (omega arith) ∙ ap (λ t. t ∷ []) (w .are 0 less) in
+    let next : s′ ≡ step o (plan .thread) s = e ∙ ap (λ (ts : List ℕ). steps o ts s) first ∙ one-step o (plan .thread) s in
+    rw (first, here, next) (steps-from-more o plan limit done s (omega (arith, w .left)) (w .alone .1 less))
 
-      -- the plan is kept or made anew
-      either-way : (P : Plan → Type 0) → P plan
-          → (Fresh (plan .settled) (getD (m′ .graph .next) 0 0) (m′ .graph .seq) (set threads t thread) (m′ .graph .loaded) (c .count) (c .largest) plan′ → P plan′) → P plan′
-      either-way P old new = go (goesOn (plan .settled) thread) refl
-        where
-          go : (b : Bool) → goesOn (plan .settled) thread ≡ b → P plan′
-          go true g = subst P (sym (p .same g)) old
-          go false g = new (p .other refl g)
+-- and in the lent list they are noted
+noted-more : (b : Bool) (schedule : List ℕ) (limit : ℕ) (plan : Plan) (done n : ℕ) (ahead made lent₀ lent lent′ : List ℕ) → Named 64 (orderFrom b schedule limit) lent₀ → Ahead (orderFrom b schedule limit) plan done ahead n → (n ≡ 0 → ⊥) → n ≤ length ahead
+    → length made ≡ done → lent′ ≡ notedIn (orderFrom b schedule limit) plan done n lent → Filled (orderFrom b schedule limit) made lent₀ lent → Filled (orderFrom b schedule limit) (made ++ take n ahead) lent₀ lent′
+noted-more false schedule limit plan done n ahead made lent₀ lent lent′ named w some h long e f = e ∙ f
+noted-more true schedule limit plan done n ahead made lent₀ lent lent′ named w some h long e f =
+    let less = positive n some in
+    let few = w .alone .0 in
+    let one : n ≡ 1 = omega arith in
+    let first : take n ahead ≡ plan .thread ∷ [] = ap (λ k. take k ahead) one ∙ one-of ahead (omega arith) ∙ ap (λ t. t ∷ []) (w .are 0 less) in
+    e ∙ rw (ne-eqb n 0 some, first) (filled-more made lent₀ lent (plan .thread) done long (omega (arith, w .left)) f)
 
-      follows : (o : Setup) → Sets c o → following o (plan .settled) t (shown m′ (threadsOf (set threads t thread))) ≡ nextOf plan′
-      follows o sets = go (goesOn (plan .settled) thread) refl
-        where
-          now : threadsOf (set threads t thread) t ≡ thread
-          now = thread-now t thread high (a .kept) stepped keys chutes answers image
-
-          go : (b : Bool) → goesOn (plan .settled) thread ≡ b → following o (plan .settled) t (shown m′ (threadsOf (set threads t thread))) ≡ nextOf plan′
-          go true g =
-              follows-on o (plan .settled) t thread (shown m′ (threadsOf (set threads t thread))) now g ∙ ap (stepOf (plan .settled)) chosen-is
-              ∙ rw (p .same g, going)
-          go false g =
-              follows-fresh o (plan .settled) t thread (shown m′ (threadsOf (set threads t thread))) now g
-              ∙ sym (planned c (plan .settled) m′ (set threads t thread) plan′ (p .other refl g) o sets)
-
-  -- before the last of those kept ahead, which only a schedule has
-  pub along-on : (b : Bool) (schedule : List ℕ) (limit i : ℕ) → i ≡ done + j + 1 → j + 1 < n → Ahead (orderFrom b schedule limit) plan done ahead n
-      → Along c commands (orderFrom b schedule limit) lent₀ m₀ threads₀ kinds itemKeys itemChutes m threads lent plan (done + j)
-      → Along c commands (orderFrom b schedule limit) lent₀ m₀ threads₀ kinds′ itemKeys′ itemChutes′ m′ (set threads t thread) lent plan i
-  along-on true schedule limit i e less w a = absurd (let few = w .alone .0 in omega arith)
-  along-on false schedule limit i e less w a = rw e (scheduled schedule plan w a)
-
-  -- at the last of them, noted at its place
-  pub along-last : (b : Bool) (schedule : List ℕ) (limit : ℕ) (plan′ : Plan) (lent′ : List ℕ) (at i : ℕ) → at ≡ done + j → i ≡ done + j + 1 → lent′ ≡ cond b (set lent at t) lent
-      → Named 64 (orderFrom b schedule limit) lent₀ → PlannedBy c b plan thread m′ (set threads t thread) plan′ → Ahead (orderFrom b schedule limit) plan done ahead n
-      → Along c commands (orderFrom b schedule limit) lent₀ m₀ threads₀ kinds itemKeys itemChutes m threads lent plan (done + j)
-      → Along c commands (orderFrom b schedule limit) lent₀ m₀ threads₀ kinds′ itemKeys′ itemChutes′ m′ (set threads t thread) lent′ plan′ i
-  along-last true schedule limit plan′ lent′ at i there e l named p w a = rw (l, there, e) (choosing limit plan′ named p w a)
-  along-last false schedule limit plan′ lent′ at i there e l named p w a = rw (l, e) (scheduled schedule plan′ w a)
-
--- ---- what the loop asks of it
-
-module _ {commands : List ℕ} {m₀ : Memory} {kinds itemKeys itemChutes : List ℕ} {m : Memory} {threads₀ threads : List Thread} {c : Settings} {lent₀ lent : List ℕ} {plan : Plan} {i : ℕ} where
+module _ {commands : List ℕ} {m₀ : Memory} {threads₀ : List Thread} {c : Settings} {lent₀ lent : List ℕ} {kinds itemKeys itemChutes : List ℕ} {m : Memory} {threads : List Thread} {plan : Plan} where
   -- the lent list stays as long
-  pub lent-long : (b : Bool) (schedule : List ℕ) (limit : ℕ) → Named 64 (orderFrom b schedule limit) lent₀ → Along c commands (orderFrom b schedule limit) lent₀ m₀ threads₀ kinds itemKeys itemChutes m threads lent plan i → length lent ≡ length lent₀
+  pub lent-long : {i : ℕ} (b : Bool) (schedule : List ℕ) (limit : ℕ) → Named 64 (orderFrom b schedule limit) lent₀ → Along c commands (orderFrom b schedule limit) lent₀ m₀ threads₀ kinds itemKeys itemChutes m threads lent plan i → length lent ≡ length lent₀
   lent-long false schedule limit named a = ap length (a .filled)
   lent-long true schedule limit named a =
       let long = a .made-long in let few = a .few in
       ap length (a .filled) ∙ length-append (a .made) (drop (length (a .made)) lent₀) ∙ omega (arith, length-drop (length (a .made)) lent₀)
 
-  -- and has room for a chosen step
-  pub lent-room : (b : Bool) (schedule : List ℕ) (limit : ℕ) → Named 64 (orderFrom b schedule limit) lent₀ → Along c commands (orderFrom b schedule limit) lent₀ m₀ threads₀ kinds itemKeys itemChutes m threads lent plan i
-      → i < most (orderFrom b schedule limit) → b ≡ true → i < length lent
-  lent-room true schedule limit named a more e = omega (arith, lent-long true schedule limit named a)
-  lent-room false schedule limit named a more e = absurd (true-false false e refl)
+  -- after a plan, the threads that it keeps ahead and their steps
+  pub along-block : {done n : ℕ} {plan′ : Plan} {kinds′ itemKeys′ itemChutes′ : List ℕ} {m′ : Memory} {threads′ : List Thread} (ahead lent′ : List ℕ) (b : Bool) (schedule : List ℕ) (limit : ℕ) → Named 64 (orderFrom b schedule limit) lent₀
+      → PlannedBy c b plan m threads plan′ → Ahead (orderFrom b schedule limit) plan′ done ahead n → (n ≡ 0 → ⊥) → n ≤ length ahead → lent′ ≡ notedIn (orderFrom b schedule limit) plan′ done n lent
+      → Block commands ahead m threads kinds′ itemKeys′ itemChutes′ m′ threads′ n → Along c commands (orderFrom b schedule limit) lent₀ m₀ threads₀ kinds itemKeys itemChutes m threads lent plan done
+      → Along c commands (orderFrom b schedule limit) lent₀ m₀ threads₀ kinds′ itemKeys′ itemChutes′ m′ threads′ lent′ plan′ (done + n)
+  along-block {done} {n} {plan′} {m′} {threads′} ahead lent′ b schedule limit named p w some h noted-is k a = record {
+    made = a .made ++ take n ahead;
+    made-long = length-append (a .made) (take n ahead) ∙ rw (a .made-long, length-take-le n ahead h);
+    few = w .left;
+    kept = record {
+      ready = k .kept .ready;
+      within = k .kept .within;
+      all = k .kept .all;
+      keys-long = k .kept .keys-long ∙ a .kept .keys-long;
+      chutes-long = k .kept .chutes-long ∙ a .kept .chutes-long;
+      answers-long = k .kept .answers-long ∙ a .kept .answers-long;
+      image-long = k .kept .image-long ∙ a .kept .image-long;
+    };
+    steady = p .named;
+    filled = noted-more b schedule limit plan′ done n ahead (a .made) lent₀ lent lent′ named w some h (a .made-long) noted-is (a .filled);
+    reaches = λ o sets cs cap.
+        let s₀ = shown m₀ (threadsOf threads₀) in
+        let s = shown m (threadsOf threads) in
+        let s′ = shown m′ (threadsOf threads′) in
+        let r = replanned c plan m threads plan′ b schedule limit done s₀ (a .made) p o sets (a .reaches o sets cs cap) in
+        let e = k .shows o cs (cap ∙ sym (a .kept .keys-long)) in
+        record {
+          state-is = e ∙ ap (steps o (take n ahead)) (r .state-is) ∙ sym (steps-append o (a .made) (take n ahead) s₀);
+          all-are =
+              r .all-are ∙ ap (λ (l : List ℕ). a .made ++ l) (left-more o b schedule limit plan′ done n ahead s s′ w some h e)
+              ∙ sym (append-assoc (a .made) (take n ahead) (rest o (orderFrom b schedule limit) (done + n) (afterwards o plan′) s′));
+        };
+  }
+
+-- a list as long is lent as well
+pub named-still : (b : Bool) (schedule : List ℕ) (limit : ℕ) (lent lent′ : List ℕ) → Named 64 (orderFrom b schedule limit) lent → length lent′ ≡ length lent → Named 64 (orderFrom b schedule limit) lent′
+named-still false schedule limit lent lent′ named e = named
+named-still true schedule limit lent lent′ named e = omega arith
 
 -- the most is a number, as the lists are
 pub most-fits : (b : Bool) (schedule : List ℕ) (limit high : ℕ) (lent : List ℕ) → Named 64 (orderFrom b schedule limit) lent → length schedule < high → length lent < high → most (orderFrom b schedule limit) < high
@@ -403,32 +391,36 @@ most-fits false schedule limit high lent named short room = short
 -- ---- after the last step
 
 -- all steps are made
-made-all : (o : Setup) (order : Order) (s₀ s : State) (made ahead : List ℕ) (i : ℕ) (plan : Plan) → Reaches o order s₀ s made i plan → Ahead order plan i ahead 0 → scheduleOf o order s₀ ≡ made
-made-all o (given ts) s₀ s made ahead i plan r w = r .all-are ∙ ap (λ (x : List ℕ). made ++ x) (drop-of-length-le ts {i = i} (w .none refl)) ∙ append-nil made
-made-all o (chosen limit) s₀ s made ahead i plan r w = r .all-are ∙ ap (λ (x : List ℕ). made ++ x) over ∙ append-nil made
+made-all : (o : Setup) (order : Order) (s₀ s : State) (made : List ℕ) (i : ℕ) (plan : Plan) → Reaches o order s₀ s made i (λ z. nextOf plan) → Over order plan i → scheduleOf o order s₀ ≡ made
+made-all o (given ts) s₀ s made i plan r over = r .all-are ∙ ap (λ (x : List ℕ). made ++ x) (drop-of-length-le ts {i = i} over) ∙ append-nil made
+made-all o (chosen limit) s₀ s made i plan r over = r .all-are ∙ ap (λ (x : List ℕ). made ++ x) none ∙ append-nil made
   where
-    over : stepsFrom o (limit - i) (nextOf plan) s ≡ []
-    over = ⊎-elim
+    none : stepsFrom o (limit - i) (nextOf plan) s ≡ []
+    none = ⊎-elim
         (λ g. rw g (steps-none o (limit - i) s))
         (λ le. let z : limit - i ≡ 0 = omega arith in rw z (steps-over o (nextOf plan) s))
-        (w .none refl)
+        over
 
--- and stand in the lent list
-filled-all : (order : Order) (made all lent₀ lent : List ℕ) → all ≡ made → Filled order made lent₀ lent → lent ≡ writtenIn order all lent₀
-filled-all (given ts) made all lent₀ lent e f = f
-filled-all (chosen limit) made all lent₀ lent e f = rw e f
+-- and stand in the lent list, into which none is written any more
+filled-all : (b : Bool) (schedule : List ℕ) (limit : ℕ) (plan : Plan) (made all lent₀ lent lent′ : List ℕ) (i n : ℕ) → n ≡ 0 → all ≡ made → lent′ ≡ notedIn (orderFrom b schedule limit) plan i n lent
+    → Filled (orderFrom b schedule limit) made lent₀ lent → lent′ ≡ writtenIn (orderFrom b schedule limit) all lent₀
+filled-all false schedule limit plan made all lent₀ lent lent′ i n z e same f = same ∙ f
+filled-all true schedule limit plan made all lent₀ lent lent′ i n z e same f = rw e (rw z at same ∙ f)
 
 -- lists are known by their parts
 pub same-lists : (l m : Lists) → l .state ≡ m .state → l .answers ≡ m .answers → l .keys ≡ m .keys → l .chutes ≡ m .chutes → l .image ≡ m .image → l ≡ m
 same-lists l m state answers keys chutes image = λ i. record { state = state i; answers = answers i; keys = keys i; chutes = chutes i; image = image i }
 
 -- the bytes written and the lists are those of the state that the arrays show
-pub performed : {commands lent₀ ahead : List ℕ} {order : Order} {m₀ : Memory} {threads₀ : List Thread} {kinds itemKeys itemChutes : List ℕ} {threads : List Thread} {plan : Plan} {done n : ℕ} (j : ℕ) (c : Settings) (k : Counters)
-    (next seq : List ℕ) (executing locked : List Bool) (waits : List (List ℕ)) (keys chutes answers image bytes lent : List ℕ)
-    → Along c commands order lent₀ m₀ threads₀ kinds itemKeys itemChutes (memory next seq executing locked waits keys chutes answers image k) threads lent plan (done + j) → Ahead order plan done ahead n → (j ≡ 0) × (n ≡ 0)
-    → Lays c k next seq executing locked waits threads bytes → Performed c commands order lent₀ m₀ threads₀ (allLists bytes keys chutes answers image) lent done
+pub performed : {commands lent₀ lent : List ℕ} {m₀ : Memory} {threads₀ : List Thread} {kinds itemKeys itemChutes : List ℕ} {threads : List Thread} {plan : Plan} {done n : ℕ} (b : Bool) (schedule : List ℕ) (limit : ℕ) (plan′ : Plan) (ahead : List ℕ) (c : Settings) (k : Counters)
+    (next seq : List ℕ) (executing locked : List Bool) (waits : List (List ℕ)) (keys chutes answers image bytes lent′ : List ℕ)
+    → Along c commands (orderFrom b schedule limit) lent₀ m₀ threads₀ kinds itemKeys itemChutes (memory next seq executing locked waits keys chutes answers image k) threads lent plan done
+    → PlannedBy c b plan (memory next seq executing locked waits keys chutes answers image k) threads plan′ → Ahead (orderFrom b schedule limit) plan′ done ahead n → n ≡ 0
+    → lent′ ≡ notedIn (orderFrom b schedule limit) plan′ done n lent
+    → Lays c k next seq executing locked waits threads bytes → Performed c commands (orderFrom b schedule limit) lent₀ m₀ threads₀ (allLists bytes keys chutes answers image) lent′ done
 unfolding listsOf
-performed {commands} {lent₀} {ahead} {order} {m₀} {threads₀} {threads} {plan} {done} {n} j c k next seq executing locked waits keys chutes answers image bytes lent a w none lays o sets cs room =
+performed {commands} {lent₀} {lent} {m₀} {threads₀} {threads} {plan} {done} {n} b schedule limit plan′ ahead c k next seq executing locked waits keys chutes answers image bytes lent′ a p w none same lays o sets cs room =
+    let order = orderFrom b schedule limit in
     let now = shown (memory next seq executing locked waits keys chutes answers image k) (threadsOf threads) in
     let sh : Shown k next seq executing locked waits threads now = record {
       graph-is = record { next-is = refl; seq-is = refl; executing-is = refl; locked-is = refl; waits-is = refl };
@@ -438,12 +430,11 @@ performed {commands} {lent₀} {ahead} {order} {m₀} {threads₀} {threads} {pl
       used-is = refl;
       limit-is = refl;
     } in
-    let r = a .reaches o sets cs room in
-    let here : done + j ≡ done = omega (arith, none .0) in
-    let all = made-all o order (shown m₀ (threadsOf threads₀)) now (a .made) ahead (done + j) plan r (rw (here, sym (none .1)) w) in
+    let r = replanned c plan (memory next seq executing locked waits keys chutes answers image k) threads plan′ b schedule limit done (shown m₀ (threadsOf threads₀)) (a .made) p o sets (a .reaches o sets cs room) in
+    let all = made-all o order (shown m₀ (threadsOf threads₀)) now (a .made) done plan′ r (w .none none) in
     let count : length answers ≡ length (o .commands) = sym (commands-length commands (length answers) (a .kept .ready .whole)) ∙ ap length (sym cs) in (
       same-lists (allLists bytes keys chutes answers image) (listsOf o now) (lays o now sets sh) (sym (tabulate-elements (length (o .commands)) answers 0 count)) refl refl refl
           ∙ ap (listsOf o) (r .state-is ∙ ap (λ (ts : List ℕ). steps o ts (shown m₀ (threadsOf threads₀))) (sym all)),
-      filled-all order (a .made) (scheduleOf o order (shown m₀ (threadsOf threads₀))) lent₀ lent all (a .filled),
-      sym here ∙ sym (a .made-long) ∙ ap length (sym all),
+      filled-all b schedule limit plan′ (a .made) (scheduleOf o order (shown m₀ (threadsOf threads₀))) lent₀ lent lent′ done n none all same (a .filled),
+      sym (a .made-long) ∙ ap length (sym all),
     )

@@ -1,10 +1,11 @@
 -- What making steps on the arrays needs and promises. Assumes nothing.
 use Prim.Native.Nat.{ℕ, _+_, _≤_, _<_}
 use mathlib.Core.Path.{_≡_}
-use mathlib.Core.Bool.{Bool, true, false}
+use mathlib.Core.Bool.{Bool, true, false, cond}
 use mathlib.Core.List.{List, _++_}
 use mathlib.Core.Logic.{_⊎_}
-use lib.ListN.{length, getD, drop}
+use lib.ListN.{length, getD, drop, set}
+use lib.Dec.{eqb}
 use Rattle.model.specs.declared.Thread.{Thread}
 use Rattle.model.specs.declared.Thread.the-variants.{Idle}
 use Rattle.model.specs.Setup.{Setup}
@@ -88,6 +89,11 @@ pub record Ahead (order : Order) (plan : Plan) (done : ℕ) (ahead : List ℕ) (
   pub are : (k : ℕ) → k < n → getD ahead k 0 ≡ nextThread order plan (done + k)
   pub alone : Alone order plan n
   pub none : n ≡ 0 → Over order plan done
+
+-- the lent list when they are kept: a chosen one is written down before its step
+abbrev pub notedIn : Order → Plan → ℕ → ℕ → List ℕ → List ℕ
+notedIn (given ts) plan done n lent = lent
+notedIn (chosen limit) plan done n lent = cond (eqb n 0) lent (set lent done (plan .thread))
 
 -- ---- the contracts
 

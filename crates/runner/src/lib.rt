@@ -1,13 +1,12 @@
 // The steps of a handed-back state: its bytes read into arrays, the steps of a schedule, or those that the dispatcher chooses, made on
 // these, and the bytes written again.
 ghost use mathlib.Core.Path.{_≡_};
-ghost use mathlib.Core.Bool.{true, false, cond};
-ghost use Prim.Native.Nat.{_≤_, _<_};
-ghost use lib.ListN.{length, set};
+ghost use Prim.Native.Nat.{_≤_};
+ghost use lib.ListN.{length};
 ghost use Rattle.choice.specs.declared.Plan.{Plan};
 ghost use Rattle.graph.specs.Memory.{memory};
 ghost use Rattle.state_bytes.specs.Layout.{allLists, allAtEntry, allAtExit, stateLength};
-ghost use Rattle.runner.specs.Performed.{CountersIn, SettingsIn, given, orderFrom, most, CallPasses, Ran, Ahead, Performs, Performed};
+ghost use Rattle.runner.specs.Performed.{CountersIn, SettingsIn, given, orderFrom, Named, most, notedIn, CallPasses, Ran, Ahead, Performs, Performed};
 use byte_fields::number_at;
 use choice::Plan;
 use choice::next_plan;
@@ -158,17 +157,19 @@ fn copy_ahead(ahead: &mut [u8], schedule: &[u8], done: usize) -> usize
     n
 }
 
-// The threads whose steps come next, of which so many are done: the schedule's, or the chosen one, if one is to come. How many.
+// The threads whose steps come next, where so many are done: the schedule's, or the chosen one, if one is to come, which goes into
+// the lent list. How many.
 fn look_ahead(
     ahead: &mut [u8],
+    lent: &mut [u8],
     chooses: bool,
     plan: Plan,
     schedule: &[u8],
     limit: usize,
     done: usize,
 ) -> usize
-    requires { ⌜ (length (now ahead) ≡ 256) × (done ≤ most (orderFrom chooses (now schedule) limit)) ⌝ }
-    ensures { λ r. ⌜ Ahead (orderFrom chooses (now (schedule .entry)) limit) plan done (now (ahead .exit)) r ⌝ }
+    requires { ⌜ (length (now ahead) ≡ 256) × (done ≤ most (orderFrom chooses (now schedule) limit)) × Named 64 (orderFrom chooses (now schedule) limit) (now lent) ⌝ }
+    ensures { λ r. ⌜ Ahead (orderFrom chooses (now (schedule .entry)) limit) plan done (now (ahead .exit)) r × (now (lent .exit) ≡ notedIn (orderFrom chooses (now (schedule .entry)) limit) plan done r (now (lent .entry))) ⌝ }
 {
     if !chooses {
         return copy_ahead(ahead, schedule, done);
@@ -176,20 +177,11 @@ fn look_ahead(
     if plan.going {
         if done < limit {
             ahead[0] = plan.thread;
+            lent[done] = plan.thread;
             return 1;
         }
     }
     0
-}
-
-// Writes a chosen step into the lent list.
-fn note(lent: &mut [u8], chooses: bool, i: usize, thread: u8)
-    requires { ⌜ (chooses ≡ true → i < length (now lent)) ⌝ }
-    ensures { λ _. ⌜ now (lent .exit) ≡ cond chooses (set (now (lent .entry)) i thread) (now (lent .entry)) ⌝ }
-{
-    if chooses {
-        lent[i] = thread;
-    }
 }
 
 // Makes the steps on the arrays, and writes the state that they then show. How many there were.
@@ -221,70 +213,58 @@ fn perform(
 {
     let count = settings.count as usize;
     let largest = settings.largest;
-    let none = Plan {
+    let mut plan = Plan {
         going: false,
         settled: false,
         thread: 0,
     };
-    let mut plan = next_plan(
-        chooses,
-        none,
-        Thread::Idle,
-        next[0],
-        &seq,
-        threads,
-        counters.loaded.0,
-        count,
-        largest,
-    );
     let mut ahead = [0u8; AHEAD];
     let mut done = 0;
-    let mut n = look_ahead(&mut ahead, chooses, plan, schedule, limit, done);
-    let mut j = 0;
-    while j < n {
-        let t = ahead[j];
-        let place = t as usize;
-        let thread = threads[place];
-        let r = threads::step(
-            &mut next,
-            &mut seq,
-            &mut executing,
-            &mut locked,
-            &mut waits,
-            &mut kinds,
-            &mut item_keys,
-            &mut item_chutes,
-            keys,
-            chutes,
-            answers,
-            image,
-            commands,
-            t,
-            thread,
-            counters,
+    loop {
+        let loaded = counters.loaded.0;
+        plan = next_plan(
+            chooses,
+            plan,
+            next[0],
+            &seq,
+            threads,
+            loaded,
+            count,
+            largest,
         );
-        let moved = r.thread;
-        threads[place] = moved;
-        counters = r.counters;
-        j += 1;
-        if n <= j {
-            done += j;
-            j = 0;
-            note(lent, chooses, done - 1, t);
-            let loaded = counters.loaded.0;
-            plan = next_plan(
-                chooses,
-                plan,
-                moved,
-                next[0],
-                &seq,
-                threads,
-                loaded,
-                count,
-                largest,
-            );
-            n = look_ahead(&mut ahead, chooses, plan, schedule, limit, done);
+        let n = look_ahead(&mut ahead, lent, chooses, plan, schedule, limit, done);
+        if n == 0 {
+            break;
         }
+        let mut j = 0;
+        while j < n {
+            let t = ahead[j];
+            let place = t as usize;
+            let thread = threads[place];
+            let r = threads::step(
+                &mut next,
+                &mut seq,
+                &mut executing,
+                &mut locked,
+                &mut waits,
+                &mut kinds,
+                &mut item_keys,
+                &mut item_chutes,
+                keys,
+                chutes,
+                answers,
+                image,
+                commands,
+                t,
+                thread,
+                counters,
+            );
+            let moved = r.thread;
+            threads[place] = moved;
+            counters = r.counters;
+            j += 1;
+        }
+        done += n;
     }
     write_state(
         state,
