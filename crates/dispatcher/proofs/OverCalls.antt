@@ -16,7 +16,7 @@ use Rattle.model.specs.Step.{State, step, opened, steps}
 use Rattle.model.specs.Statement.{Accepted, allWithin, removed}
 use Rattle.model.specs.Dispatch.{rank, chosen, Next, stop, stepOf, served, fresh, following, goesOn, stepsFrom, commandsLeft, stepsNeeded, dispatched}
 use Rattle.model.specs.Proof.Tests.{cond-cases}
-use Rattle.model.specs.Proof.Dispatching.{dispatched-few, dispatcher-finishes}
+use Rattle.model.specs.Proof.Dispatching.{dispatched-few, dispatched-within, dispatcher-finishes}
 use Rattle.model.specs.Proof.Entries.{needed-without, dispatched-without}
 use Rattle.model.specs.Proof.Finish.Foremost.{foremost-within}
 use Rattle.state_bytes.specs.Layout.{Lists, listsOf, setupIn, stateIn, stateFits, handedBackFit, imageFits}
@@ -32,38 +32,6 @@ use Rattle.controller.proofs.Answer.{accepts}
 use Rattle.controller.proofs.Demand3.{Reach, formed, read-back, opening-reaches, call-reaches, accepted-reaches, more-accepted, state-is, holds}
 use Rattle.dispatcher.specs.Calls.{neededNow, Made, DispatchOutcome, made, refused, madeFrom, dispatchOn, listsLeft}
 use Rattle.dispatcher.specs.OverCalls.{scheduleIn, Written, WhatIsWritten, AnyCall, advances, dispatches, afterAny, listsAfterAll, ProperAny, ProperAll, madeIn, performedBy, performedAll, Demand3WithDispatcher, Finishes, DispatcherFinishesOverCalls}
-
--- ---- the threads that the dispatcher names
-
--- a thread that comes next is there
-abbrev Within : ℕ → Next → Type 0
-Within largest stop = Unit {0}
-Within largest (stepOf settled t) = t ≤ largest
-
-module _ (o : Setup) (some-worker : 1 ≤ o .largest) where
-  served-within : (s : State) → Within (o .largest) (served o s)
-  unfolding served
-  served-within s = cond-cases (Within (o .largest)) (eqb (s .graph .next 0) 0) (λ _. cond-cases (Within (o .largest)) (leb (length (o .commands)) (s .graph .loaded)) (λ _. tt) (λ _. omega arith)) (λ _. some-worker)
-
-  fresh-within : (settled : Bool) (s : State) → Within (o .largest) (fresh o settled s)
-  unfolding fresh chosen
-  fresh-within true s = served-within s
-  fresh-within false s =
-      cond-cases (Within (o .largest)) (eqb (rank (s .graph .seq) (s .threads (chosen o s))) 0) (λ _. served-within s) (λ _. foremost-within (λ t. rank (s .graph .seq) (s .threads t)) (o .largest))
-
-  following-within : (settled : Bool) (t : ℕ) (s : State) → t ≤ o .largest → Within (o .largest) (following o settled t s)
-  unfolding following
-  following-within settled t s h = cond-cases (Within (o .largest)) (goesOn settled (s .threads t)) (λ _. h) (λ _. fresh-within settled s)
-
-  steps-within : (k : ℕ) (n : Next) (s : State) → Within (o .largest) n → allWithin (o .largest) (stepsFrom o k n s) ≡ true
-  unfolding stepsFrom allWithin
-  steps-within zero n s h = refl
-  steps-within (suc k) stop s h = refl
-  steps-within (suc k) (stepOf settled t) s h = rw (le-leb t (o .largest) h) (steps-within k (following o settled t (step o t s)) (step o t s) (following-within settled t (step o t s) h))
-
-  dispatched-within : (s : State) → allWithin (o .largest) (dispatched o s) ≡ true
-  unfolding dispatched
-  dispatched-within s = steps-within (stepsNeeded o s) (fresh o false s) s (fresh-within false s)
 
 -- ---- what is written
 

@@ -21,7 +21,6 @@ use Rattle.dispatcher.specs.declared.Dispatching.the-variants.{Dispatche
 
 -- "(n + w) × (3 × s + 6)", of the state that lists hold
 unfoldable pub neededNow : Lists → List ℕ → ℕ
-unfolding stepsNeeded setupIn stateIn
 neededNow l commands = stepsNeeded (setupIn (l .state) commands) (stateIn l)
 
 -- what the state bytes tell of it, whatever the other lists hold
@@ -34,7 +33,6 @@ neededOn l commands = cond (handedBackFit l commands) (cond (stateFits l) 0 12) 
 
 -- and the number, 0 where it is refused
 unfoldable pub countNeeded : Lists → List ℕ → ℕ
-unfolding neededNow
 countNeeded l commands = cond (handedBackFit l commands && stateFits l) (neededNow l commands) 0
 
 -- the document's values for each answer
@@ -62,7 +60,6 @@ pub data DispatchOutcome : Type 0 where
 
 -- "The count it reports is the length of the dealing written"; "bytes past the dealing stay untouched"
 unfoldable pub madeFrom : Setup → State → List ℕ → Made
-unfolding dispatched steps listsOf
 madeFrom o s lent = record {
   lists = listsOf o (steps o (dispatched o s) s);
   schedule = dispatched o s ++ drop (length (dispatched o s)) lent;
@@ -71,7 +68,6 @@ madeFrom o s lent = record {
 
 -- 6, then 12, as every call on a handed-back state; "A lent list shorter than the bound is refused 6, here tested after 12"
 unfoldable pub dispatchOn : Lists → List ℕ → List ℕ → DispatchOutcome
-unfolding neededNow madeFrom
 dispatchOn l commands lent =
     let o : Setup = setupIn (l .state) commands in
     cond (handedBackFit l commands && imageFits (o .capacity) l) (cond (stateFits l) (cond (leb (neededNow l commands) (length lent))
