@@ -321,6 +321,20 @@ mod tests {
             Second.advance(lent, commands, schedule) ^ self.0
         }
 
+        fn dispatch(
+            &self,
+            lent: &mut LentLists,
+            commands: &[u8],
+            schedule: &mut [u8],
+            count: &mut [u8],
+        ) -> u64 {
+            Second.dispatch(lent, commands, schedule, count) ^ self.0
+        }
+
+        fn steps_needed(&self, lists: Lists, count: &mut [u8]) -> u64 {
+            Second.steps_needed(lists, count) ^ self.0
+        }
+
         fn pending_counts(&self, lists: Lists, counts: &mut [u8]) -> u64 {
             Second.pending_counts(lists, counts) ^ self.0
         }

@@ -291,6 +291,21 @@ mod tests {
             answer
         }
 
+        fn dispatch(
+            &self,
+            lent: &mut LentLists,
+            commands: &[u8],
+            schedule: &mut [u8],
+            count: &mut [u8],
+        ) -> u64 {
+            let answer = Second.dispatch(lent, commands, schedule, count);
+            self.count("dispatch", answer)
+        }
+
+        fn steps_needed(&self, lists: Lists, count: &mut [u8]) -> u64 {
+            self.count("steps_needed", Second.steps_needed(lists, count))
+        }
+
         fn pending_counts(&self, lists: Lists, counts: &mut [u8]) -> u64 {
             self.count("pending_counts", Second.pending_counts(lists, counts))
         }

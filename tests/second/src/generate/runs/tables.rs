@@ -124,6 +124,31 @@ impl Showing {
             put(lent, &self.shown.table(&run, entries));
         }
     }
+
+    /// Goes on by a call with the table of the written commands, and shows the other.
+    fn go_on(
+        &self,
+        lent: &mut LentLists,
+        commands: &[u8],
+        call: impl FnOnce(&mut LentLists) -> u64,
+    ) -> u64 {
+        let opened = self.opened.borrow().get(commands).cloned();
+        let run = bytes::read_with_image(lent.handed(commands), lent.image);
+        let (Some(entries), Ok(run)) = (opened, run) else {
+            return call(lent);
+        };
+        let room = run.settings.room;
+        let right = serial::table_of(&entries, room, &run.commands, written(&run.answers));
+        put(lent, &right);
+        match call(lent) {
+            0 => self.show(lent, commands, &entries),
+            refused => {
+                put(lent, &run.store);
+                return refused;
+            }
+        }
+        0
+    }
 }
 
 /// Puts a table into lists of its room.
@@ -146,24 +171,26 @@ impl Depot for Showing {
         answer
     }
 
-    /// Goes on with the table of the written commands, and shows the other.
     fn advance(&self, lent: &mut LentLists, commands: &[u8], schedule: &[u8]) -> u64 {
-        let opened = self.opened.borrow().get(commands).cloned();
-        let run = bytes::read_with_image(lent.handed(commands), lent.image);
-        let (Some(entries), Ok(run)) = (opened, run) else {
-            return Second.advance(lent, commands, schedule);
-        };
-        let room = run.settings.room;
-        let right = serial::table_of(&entries, room, &run.commands, written(&run.answers));
-        put(lent, &right);
-        match Second.advance(lent, commands, schedule) {
-            0 => self.show(lent, commands, &entries),
-            refused => {
-                put(lent, &run.store);
-                return refused;
-            }
-        }
-        0
+        self.go_on(lent, commands, |lent| {
+            Second.advance(lent, commands, schedule)
+        })
+    }
+
+    fn dispatch(
+        &self,
+        lent: &mut LentLists,
+        commands: &[u8],
+        schedule: &mut [u8],
+        count: &mut [u8],
+    ) -> u64 {
+        self.go_on(lent, commands, |lent| {
+            Second.dispatch(lent, commands, schedule, count)
+        })
+    }
+
+    fn steps_needed(&self, lists: Lists, count: &mut [u8]) -> u64 {
+        Second.steps_needed(lists, count)
     }
 
     fn pending_counts(&self, lists: Lists, counts: &mut [u8]) -> u64 {
