@@ -735,7 +735,7 @@ mod tests {
     fn a_dispatch_tests_in_order_and_writes_nothing() {
         let mut caller = Caller::opened();
         let before = caller.state.clone();
-        let mut call = |caller: &mut Caller, length: usize, count: usize| {
+        let call = |caller: &mut Caller, length: usize, count: usize| {
             let (mut schedule, mut count) = (vec![9; length], vec![9; count]);
             let answer = caller.dispatch(&mut schedule, &mut count);
             assert!(schedule.iter().chain(&count).all(|byte| *byte == 9));
