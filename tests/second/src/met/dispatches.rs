@@ -25,7 +25,7 @@ named! {
     Written "dispatches with a written worker",
     Walking "dispatches with a walking worker",
     Clearing "dispatches with a clearing worker",
-    AllStates "dispatches with workers in four states or more",
+    SeveralStates "dispatches with workers in four states or more",
     FullChain "dispatches with no record free",
     FromEntries "dispatches of runs opened from entries",
     Changes "dispatches that write a worker change",
@@ -233,7 +233,7 @@ impl Dispatches {
             .iter()
             .for_each(|(met, holds)| self.note(*met, *holds));
         let several = states.iter().filter(|(_, holds)| *holds).count() >= 4;
-        self.note(Sort::AllStates, several);
+        self.note(Sort::SeveralStates, several);
         self.note(Sort::Loading, run.parties[0] != Party::Idle);
         let above = workers.iter().skip(run.in_force.into());
         let mut above = above.filter(|it| matches!(it, Party::Searching { .. }));

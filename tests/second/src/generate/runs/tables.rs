@@ -10,8 +10,8 @@ use std::ops::Range;
 use super::dealings::WAYS;
 use super::openings::Opening;
 use super::{
-    ANNOUNCEMENTS, CHECKPOINTS, FIXED, PASSES, READS, ROUND, SHIFTS, SWAPS, announcements,
-    checkpoints, limits, passes, play, reads, schedules, shifts,
+    ANNOUNCEMENTS, CHECKPOINTS, DISPATCHES, FIXED, PASSES, READS, ROUND, SHIFTS, SWAPS,
+    announcements, checkpoints, limits, passes, play, reads, schedules, shifts,
 };
 use crate::bytes::{self, FREE, Lists, USED};
 use crate::calls::{Given, LentLists};
@@ -248,7 +248,7 @@ fn sorts() -> Vec<Vec<u64>> {
         vec![limits::COUNT + 3, limits::COUNT + 7],
         rounds(17..20),
         rounds(21..22),
-        (SWAPS + 1..FIXED).collect(),
+        (SWAPS + 1..DISPATCHES).collect(),
     ];
     sorts.extend(ways(ANNOUNCEMENTS, announcements::FORMS, WAYS));
     sorts.extend(ways(READS, reads::FORMS, WAYS));
@@ -277,14 +277,14 @@ fn other_tables_are_told() {
     for runs in [rounds(0..16), (PASSES..SHIFTS).collect()] {
         assert_told(Shown::UpToTheLast, runs);
     }
-    for runs in [CHECKPOINTS..SWAPS, SWAPS + 1..FIXED] {
+    for runs in [CHECKPOINTS..SWAPS, SWAPS + 1..DISPATCHES] {
         assert_told(Shown::UpToTheLast, runs.clone().collect());
         assert_told(Shown::Imaged, runs.collect());
     }
     for runs in [SHIFTS..CHECKPOINTS, CHECKPOINTS..SWAPS] {
         assert_told(Shown::Changed, runs.collect());
     }
-    assert_told(Shown::FromNothing, (SWAPS + 1..FIXED).collect());
+    assert_told(Shown::FromNothing, (SWAPS + 1..DISPATCHES).collect());
 }
 
 /// At the end of a run, whose turns have a call each, none of them is told.
