@@ -21,6 +21,7 @@ use crate::generate::images::Draft;
 use crate::image;
 use crate::play::Play;
 use crate::random::Random;
+use crate::refusal::Refusal;
 use crate::run::{Party, Run};
 use crate::script::Step;
 use crate::serial::{self, Entries, written};
@@ -124,31 +125,6 @@ impl Showing {
             put(lent, &self.shown.table(&run, entries));
         }
     }
-
-    /// Goes on by a call with the table of the written commands, and shows the other.
-    fn go_on(
-        &self,
-        lent: &mut LentLists,
-        commands: &[u8],
-        call: impl FnOnce(&mut LentLists) -> u64,
-    ) -> u64 {
-        let opened = self.opened.borrow().get(commands).cloned();
-        let run = bytes::read_with_image(lent.handed(commands), lent.image);
-        let (Some(entries), Ok(run)) = (opened, run) else {
-            return call(lent);
-        };
-        let room = run.settings.room;
-        let right = serial::table_of(&entries, room, &run.commands, written(&run.answers));
-        put(lent, &right);
-        match call(lent) {
-            0 => self.show(lent, commands, &entries),
-            refused => {
-                put(lent, &run.store);
-                return refused;
-            }
-        }
-        0
-    }
 }
 
 /// Puts a table into lists of its room.
@@ -171,22 +147,29 @@ impl Depot for Showing {
         answer
     }
 
+    /// Goes on with the table of the written commands, and shows the other.
     fn advance(&self, lent: &mut LentLists, commands: &[u8], schedule: &[u8]) -> u64 {
-        self.go_on(lent, commands, |lent| {
-            Second.advance(lent, commands, schedule)
-        })
+        let opened = self.opened.borrow().get(commands).cloned();
+        let run = bytes::read_with_image(lent.handed(commands), lent.image);
+        let (Some(entries), Ok(run)) = (opened, run) else {
+            return Second.advance(lent, commands, schedule);
+        };
+        let room = run.settings.room;
+        let right = serial::table_of(&entries, room, &run.commands, written(&run.answers));
+        put(lent, &right);
+        match Second.advance(lent, commands, schedule) {
+            0 => self.show(lent, commands, &entries),
+            refused => {
+                put(lent, &run.store);
+                return refused;
+            }
+        }
+        0
     }
 
-    fn dispatch(
-        &self,
-        lent: &mut LentLists,
-        commands: &[u8],
-        schedule: &mut [u8],
-        count: &mut [u8],
-    ) -> u64 {
-        self.go_on(lent, commands, |lent| {
-            Second.dispatch(lent, commands, schedule, count)
-        })
+    /// Refuses, so that what a dispatch must do does not tell the table first.
+    fn dispatch(&self, _: &mut LentLists, _: &[u8], _: &mut [u8], _: &mut [u8]) -> u64 {
+        Refusal::Length.number()
     }
 
     fn steps_needed(&self, lists: Lists, count: &mut [u8]) -> u64 {
@@ -228,7 +211,7 @@ fn assert_told(shown: Shown, runs: Vec<u64>) {
 
 /// Random runs of these kinds of a round.
 fn rounds(kinds: Range<u64>) -> Vec<u64> {
-    let rounds = (0..20).map(|round| FIXED + round * ROUND);
+    let rounds = (0..60).map(|round| FIXED + round * ROUND);
     let runs = rounds.flat_map(|first| kinds.clone().map(move |kind| first + kind));
     runs.collect()
 }
