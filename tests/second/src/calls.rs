@@ -729,30 +729,42 @@ mod tests {
         }
     }
 
-    /// A.6: 6 for the lengths, then 12, then 6 for a list that is shorter than the bound. Nothing is
-    /// written.
+    /// What a dispatch answers that is lent lists of these lengths, and into which it writes nothing.
+    fn refused_dispatch(caller: &mut Caller, length: usize, count: usize) -> u64 {
+        let (mut schedule, mut count) = (vec![9; length], vec![9; count]);
+        let answer = caller.dispatch(&mut schedule, &mut count);
+        assert!(schedule.iter().chain(&count).all(|byte| *byte == 9));
+        answer
+    }
+
+    /// A.6: 6 for the number's list, then 12, then 6 for a list that is shorter than the bound.
     #[test]
     fn a_dispatch_tests_in_order_and_writes_nothing() {
         let mut caller = Caller::opened();
         let before = caller.state.clone();
-        let call = |caller: &mut Caller, length: usize, count: usize| {
-            let (mut schedule, mut count) = (vec![9; length], vec![9; count]);
-            let answer = caller.dispatch(&mut schedule, &mut count);
-            assert!(schedule.iter().chain(&count).all(|byte| *byte == 9));
-            answer
-        };
         for length in [0, 1, 35] {
-            assert_eq!(call(&mut caller, length, 8), 6);
+            assert_eq!(refused_dispatch(&mut caller, length, 8), 6);
         }
         for count in [0, 7, 9, 16] {
-            assert_eq!(call(&mut caller, 36, count), 6);
+            assert_eq!(refused_dispatch(&mut caller, 36, count), 6);
+            assert_eq!(caller.report(steps_needed, &mut vec![9; count]), 6);
         }
         caller.state[0] = 2;
-        assert_eq!(call(&mut caller, 36, 8), 12);
-        assert_eq!(call(&mut caller, 35, 8), 12);
-        assert_eq!(call(&mut caller, 0, 8), 12);
-        assert_eq!(call(&mut caller, 36, 7), 6);
-        assert_eq!(caller.report(steps_needed, &mut [9; 8]), 12);
+        for length in [0, 35, 36, 37] {
+            assert_eq!(refused_dispatch(&mut caller, length, 8), 12);
+            assert_eq!(refused_dispatch(&mut caller, length, 7), 6);
+        }
+        let mut count = [9; 8];
+        assert_eq!(caller.report(steps_needed, &mut count), 12);
+        assert_eq!(count, [9; 8]);
+        caller.state[0] = 1;
+        assert_eq!(caller.state, before);
+    }
+
+    /// A.6: each list in a wrong length is 6, though the run is out of range. The question for the
+    /// bound is lent no image.
+    #[test]
+    fn a_dispatch_tests_lengths_before_the_run() {
         for list in 0..5 {
             let mut caller = Caller::opened();
             caller.state[0] = 2;
@@ -764,18 +776,9 @@ mod tests {
                 &mut caller.image,
             ];
             lists.into_iter().nth(list).expect("a list").push(0);
-            assert_eq!(call(&mut caller, 36, 8), 6);
+            assert_eq!(refused_dispatch(&mut caller, 36, 8), 6);
             let needed = caller.report(steps_needed, &mut [9; 8]);
-            assert_eq!(
-                needed,
-                if list == 4 { 12 } else { 6 },
-                "the image is not lent"
-            );
-        }
-        caller.state[0] = 1;
-        assert_eq!(caller.state, before);
-        for count in [0, 7, 9] {
-            assert_eq!(caller.report(steps_needed, &mut vec![9; count]), 6);
+            assert_eq!(needed, if list == 4 { 12 } else { 6 });
         }
     }
 

@@ -17,7 +17,7 @@ pub fn differs(before: &Host, after: &Host, lent: Dispatch, answer: u64) -> Opti
     let Some(run) = before.run() else {
         return Some("the dispatch is accepted of lists that are no run".to_string());
     };
-    let (turns, used) = match dealing(after, lent) {
+    let (turns, used) = match reported(after, lent) {
         Ok(turns) => (turns, turns.len() as u64),
         Err(words) => return Some(words),
     };
@@ -54,7 +54,7 @@ fn refused_differs(before: &Host, after: &Host, lent: Dispatch) -> Option<Differ
 }
 
 /// The turns that are reported, if the list has so many and is left as it was behind them.
-fn dealing(after: &Host, lent: Dispatch) -> Result<&[u8], Difference> {
+fn reported(after: &Host, lent: Dispatch) -> Result<&[u8], Difference> {
     let reported = number(after.list(List::Out)).ok_or("no number of turns")?;
     let turns = usize::try_from(reported).ok();
     let parts = turns.and_then(|turns| after.list(List::Schedule).split_at_checked(turns));
@@ -114,4 +114,62 @@ fn is_removed(run: &Run, place: usize) -> bool {
 pub fn number(list: &[u8]) -> Option<u64> {
     let bytes: [u8; TURN_COUNT] = list.try_into().ok()?;
     Some(u64::from_be_bytes(bytes))
+}
+
+#[cfg(test)]
+mod tests {
+    use super::*;
+    use crate::bytes::{KEY, LOCKED, NUMBER, STATE};
+    use crate::depot::Depot;
+    use crate::image::RECORD;
+    use crate::play::Play;
+    use crate::script::Open;
+
+    /// A play of one worker change, which is opened in a graph of one record: 18 turns are enough.
+    fn opened(depot: &dyn Depot) -> Play<'_> {
+        let mut play = Play::new(depot);
+        let commands = crate::command::encode(5, &crate::identifier::NONE, 1);
+        let steps = [
+            Step::Lend([STATE, KEY, NUMBER, NUMBER, 2 * RECORD]),
+            Step::Open(Open {
+                settings: [1, 1, 1],
+                commands,
+                source: None,
+            }),
+        ];
+        assert_eq!(play.take_all(steps), Ok(0));
+        play
+    }
+
+    const DISPATCH: Step = Step::Dispatch(Dispatch {
+        length: 18,
+        seed: 1,
+        count: TURN_COUNT,
+    });
+
+    fn used(play: &Play) -> Option<u64> {
+        number(play.host().list(List::Out))
+    }
+
+    /// A run that was changed need not come to its end; a copy of it that was kept before must.
+    #[test]
+    fn only_runs_that_dealings_reach_must_come_to_their_end() {
+        let lock = Step::Change {
+            list: List::State,
+            offset: LOCKED,
+            bits: 1,
+        };
+        let mut play = opened(&Second);
+        assert!(play.host().is_reached());
+        assert_eq!(play.take_all([Step::Keep, lock, DISPATCH]), Ok(0));
+        assert!(!play.host().is_reached());
+        assert_eq!(used(&play), Some(18), "the head stays locked");
+        assert_eq!(play.take_all([Step::Restore, DISPATCH]), Ok(0));
+        assert!(play.host().is_reached());
+        assert_eq!(used(&play), Some(9));
+        let words = unfinished(&opened(&Second).host().run().expect("a run"));
+        let words = words.expect("nothing is done");
+        assert_eq!(words, "behind the dispatch command 1 is not removed");
+        assert_eq!(unfinished(&play.host().run().expect("a run")), None);
+    }
 }

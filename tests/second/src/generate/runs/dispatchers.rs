@@ -145,19 +145,29 @@ impl Flawed {
         }
     }
 
-    /// Dispatches with a list that is long enough, and copies what fits into the one that is lent.
-    fn dispatch_short(
+    /// Dispatches as the second program, also with lists that it refuses and the flaw does not.
+    fn dispatch_all(
         &self,
+        run: &Result<Run, u64>,
         lent: &mut LentLists,
         commands: &[u8],
         schedule: &mut [u8],
         count: &mut [u8],
     ) -> u64 {
-        let mut longer = schedule.to_vec();
-        longer.resize(schedule.len() + 100_000, 0);
-        let answer = Second.dispatch(lent, commands, &mut longer, count);
-        schedule.copy_from_slice(&longer[..schedule.len()]);
-        answer
+        let length = schedule.len();
+        match (self.0, run) {
+            (Flaw::WithoutWorkers, Ok(run)) if less(run, run.largest.into()) <= length as u64 => {
+                let mut longer = schedule.to_vec();
+                longer.resize(length + turns_needed(run) as usize, 0);
+                let answer = Second.dispatch(lent, commands, &mut longer, count);
+                schedule.copy_from_slice(&longer[..length]);
+                answer
+            }
+            (Flaw::LongCount, _) if count.len() > TURN_COUNT => {
+                Second.dispatch(lent, commands, schedule, &mut count[..TURN_COUNT])
+            }
+            _ => Second.dispatch(lent, commands, schedule, count),
+        }
     }
 }
 
@@ -181,27 +191,16 @@ impl Depot for Flawed {
         let run = bytes::read_with_image(lent.handed(commands), lent.image);
         let run = run.map_err(|refusal| refusal.number());
         let contents = schedule.to_vec();
-        let short = |run: &Run| less(run, run.largest.into()) <= contents.len() as u64;
-        let answer = match (self.0, &run) {
-            (Flaw::WithoutWorkers, Ok(run)) if short(run) => {
-                self.dispatch_short(lent, commands, schedule, count)
-            }
-            (Flaw::LongCount, _) if count.len() > TURN_COUNT => {
-                Second.dispatch(lent, commands, schedule, &mut count[..TURN_COUNT])
-            }
-            _ => Second.dispatch(lent, commands, schedule, count),
-        };
+        let answer = self.dispatch_all(&run, lent, commands, schedule, count);
         let flawed = self.answer(&run, answer, contents.len(), count.len());
-        if flawed != 0 || answer != 0 {
+        let (0, Ok(run), Some(used)) = (flawed, run, number(&count[..TURN_COUNT.min(count.len())]))
+        else {
             before.put(lent);
             schedule.copy_from_slice(&contents);
             if self.0 == Flaw::RefusedCounts {
                 count.fill(0);
             }
             return flawed;
-        }
-        let (Ok(run), Some(used)) = (run, number(count)) else {
-            return 0;
         };
         let right = schedule[..used as usize].to_vec();
         let turns = self.turns(run, &right, contents.len());

@@ -14,10 +14,13 @@ use crate::command::Kind;
 use crate::dispatch::turns_needed;
 use crate::generate::commands::with_key;
 use crate::generate::images::Draft;
+use crate::host::Host;
 use crate::play::Play;
+use crate::play::dispatches::number;
 use crate::random::Random;
 use crate::run::{Party, Run};
 use crate::script::{Dispatch, List, Step};
+use crate::text::input;
 
 /// How many runs there are: those of many commands, and each form of a list so often in each way.
 pub const COUNT: u64 = MANY + FORMS * WAYS * 2;
@@ -65,14 +68,26 @@ fn open(form: u64, random: &mut Random, play: &mut Play) -> Played {
     opening.open_from(source, play)
 }
 
-/// From the opening, and again from the end.
+/// From the opening, and again from the end. The program is given the same turns.
 fn at_the_ends(random: &mut Random, play: &mut Play) -> Played {
     needed(play)?;
     dispatch(random, play)?;
     play.take(Step::Serial)?;
+    let input = program_input(play.host());
+    play.take(Step::Program(input))?;
     interlude(random, play)?;
     needed(play)?;
     dispatch(random, play)
+}
+
+/// The input of the program with the settings, the commands and the turns of a dispatch from the
+/// opening; its store is empty at first, whatever the run was opened from.
+fn program_input(host: &Host) -> Vec<u8> {
+    let turns = number(host.list(List::Out)).unwrap_or(0) as usize;
+    let settings = host.run().map(|run| run.settings);
+    let settings = settings.expect("a dispatch leaves a run");
+    let schedule = &host.list(List::Schedule)[..turns];
+    input::encode(settings, host.list(List::Commands), schedule)
 }
 
 /// From somewhere behind a dealing of any sort, and behind calls that leave the run as it is.
