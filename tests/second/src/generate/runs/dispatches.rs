@@ -18,7 +18,7 @@ use crate::host::Host;
 use crate::play::Play;
 use crate::play::dispatches::number;
 use crate::random::Random;
-use crate::run::{Party, Run};
+use crate::run::{Party, RECORDS, Run};
 use crate::script::{Dispatch, List, Step};
 use crate::text::input;
 
@@ -70,13 +70,11 @@ fn open(form: u64, random: &mut Random, play: &mut Play) -> Played {
 
 /// From the opening, and again from the end. The program is given the same turns.
 fn at_the_ends(random: &mut Random, play: &mut Play) -> Played {
-    needed(play)?;
     dispatch(random, play)?;
     play.take(Step::Serial)?;
     let input = program_input(play.host());
     play.take(Step::Program(input))?;
     interlude(random, play)?;
-    needed(play)?;
     dispatch(random, play)
 }
 
@@ -95,7 +93,6 @@ fn from_the_middle(random: &mut Random, play: &mut Play) -> Played {
     middle(random, play)?;
     interlude(random, play)?;
     interlude(random, play)?;
-    needed(play)?;
     dispatch(random, play)?;
     play.take(Step::Serial)?;
     Ok(())
@@ -110,10 +107,7 @@ fn from_every_moment(random: &mut Random, play: &mut Play) -> Played {
     };
     for piece in schedule.chunks(schedule.len() / MOMENTS + 1) {
         play.take(Step::Advance(piece.to_vec()))?;
-        apart(play, |play| {
-            needed(play)?;
-            dispatch(random, play)
-        })?;
+        apart(play, |play| dispatch(random, play))?;
     }
     dispatch(random, play)
 }
@@ -151,7 +145,6 @@ fn many(number: u64, random: &mut Random, play: &mut Play) -> Played {
         }
         _ => {}
     }
-    needed(play)?;
     dispatch(random, play)
 }
 
@@ -225,7 +218,6 @@ fn changed(random: &mut Random, play: &mut Play) -> Played {
     for change in 0..CHANGES {
         apart(play, |play| {
             change_run(change, &run, random, play)?;
-            needed(play)?;
             dispatch(random, play)?;
             step_on(random, play)
         })?;
@@ -234,7 +226,7 @@ fn changed(random: &mut Random, play: &mut Play) -> Played {
 }
 
 /// How many changes there are.
-const CHANGES: u64 = 10;
+const CHANGES: u64 = 11;
 
 /// A change of records or of parties, by its number.
 fn change_run(change: u64, run: &Run, random: &mut Random, play: &mut Play) -> Played {
@@ -251,9 +243,13 @@ fn change_run(change: u64, run: &Run, random: &mut Random, play: &mut Play) -> P
         3 => state(play, NEXT, record),
         4 => set_number(play, PLACE, place),
         5 => set_number(play, PLACE + 2 * any, place),
-        6 => set_number(play, LOADED, random.below(count + 1) as u16),
-        7 => state(play, SETS + 24 * any + 7, random.below(2) as u8),
-        8 => {
+        6 => {
+            let past = usize::from(run.settings.size) + 1;
+            set_number(play, PLACE + 2 * past.min(RECORDS - 1), place)
+        }
+        7 => set_number(play, LOADED, random.below(count + 1) as u16),
+        8 => state(play, SETS + 24 * any + 7, random.below(2) as u8),
+        9 => {
             let past = run.largest + 1;
             let worker = random.pick(&[1, run.largest, past]).min(64);
             set_party(play, worker, party(record, random))
@@ -284,8 +280,9 @@ fn needed(play: &mut Play) -> Played {
     Ok(())
 }
 
-/// Dispatches with a list that is as long as the bound, or longer.
+/// Asks for the bound, and dispatches with a list that is as long, or longer.
 pub fn dispatch(random: &mut Random, play: &mut Play) -> Played {
+    needed(play)?;
     let length = bound(play) + random.pick(&[0, 0, 1, 2, 17]);
     take(random, play, length, TURN_COUNT)
 }
