@@ -5,14 +5,15 @@ use crate::calls::TURN_COUNT;
 use crate::depot::Second;
 use crate::dispatch::turns_needed;
 use crate::host::{Host, filling};
-use crate::refusal::answer_words;
+use crate::refusal::{Refusal, answer_words};
 use crate::run::{Party, Run};
 use crate::script::{Dispatch, List, Step};
 
 /// How a dispatch with this answer differs from what it must do, by the lists before and after it.
 pub fn differs(before: &Host, after: &Host, lent: Dispatch, answer: u64) -> Option<Difference> {
-    if answer != 0 {
-        return refused_differs(before, after, lent);
+    let answered = answer_differs(before, lent, answer);
+    if answered.is_some() || answer != 0 {
+        return answered.or_else(|| refused_differs(before, after, lent));
     }
     let Some(run) = before.run() else {
         return Some("the dispatch is accepted of lists that are no run".to_string());
@@ -38,6 +39,19 @@ pub fn needed_differs(host: &Host) -> Option<Difference> {
     let found = number(host.list(List::Out))?;
     let words = format!("{found} turns are said to be enough, of {right}");
     (found != right).then_some(words)
+}
+
+/// A run that dealings reach, with its lists, is refused 6 where what is lent is too short or the
+/// number's list has another length, and nothing else is refused.
+fn answer_differs(before: &Host, lent: Dispatch, answer: u64) -> Option<Difference> {
+    let run = before.run().filter(|_| before.is_reached())?;
+    let enough = bound(&run);
+    let fits = lent.count == TURN_COUNT && lent.length as u64 >= enough;
+    let right = if fits { 0 } else { Refusal::Length.number() };
+    let told = answer_words(answer);
+    let Dispatch { length, count, .. } = lent;
+    let words = format!("{told} with {length} bytes for {enough} turns and {count} for the number");
+    (answer != right).then_some(words)
 }
 
 /// A refusal writes nothing.

@@ -1,6 +1,6 @@
-//! Dispatchers with one flaw each in what document 02's A.6 asks for. Played on both sides, so that
-//! nothing but the judgements of A.6 itself can tell, or, where its refusals are at fault, against
-//! the second program.
+//! Dispatchers with one flaw each in what document 02's A.6 asks for. They are played on both sides,
+//! so that nothing but the judgements of A.6 itself can tell, and against the second program, which
+//! alone tells those that test in another order.
 
 use super::{DISPATCHES, FIXED, dispatches, play};
 use crate::bytes::{self, Lists};
@@ -257,7 +257,7 @@ fn told<'a>(play_of: impl Fn() -> Play<'a>) -> Option<Difference> {
 }
 
 /// Each flaw, and words of what tells it without the second program.
-const ALONE: [(Flaw, &[&str]); 15] = [
+const ALONE: [(Flaw, &[&str]); 18] = [
     (Flaw::OneMore, &["the written turns"]),
     (Flaw::OneFewer, &["behind the", "is written"]),
     (Flaw::LowFirst, &["turns in a list of"]),
@@ -279,6 +279,9 @@ const ALONE: [(Flaw, &[&str]); 15] = [
     ),
     (Flaw::WithoutWorkers, &["turns are said to be enough"]),
     (Flaw::WithoutRecords, &["turns are said to be enough"]),
+    (Flaw::ExactRefused, &["refused 6 with", "8 for the number"]),
+    (Flaw::LongerRefused, &["refused 6 with", "8 for the number"]),
+    (Flaw::LongCount, &["accepted with", "9 for the number"]),
 ];
 
 #[test]

@@ -33,7 +33,7 @@ pub const MANY: u64 = 4;
 const MOMENTS: usize = 40;
 /// Turns of the run that they are of.
 const MOST: usize = 2_000;
-/// What a run has whose lists are none, so that any length will do.
+/// How long a list is lent where there is no run, and so no bound.
 const ANY: usize = 36;
 
 /// Plays the run of a number below the count.
