@@ -4,6 +4,7 @@
 
 use crate::bytes::{self, Lists, MOST_COMMANDS};
 use crate::command;
+use crate::dispatch;
 use crate::identifier;
 use crate::image;
 use crate::refusal::{Fault, Refusal};
@@ -15,6 +16,8 @@ pub const COUNTS: usize = 150;
 /// Entries of the worker status, two bytes each.
 pub const STATUSES: usize = 64;
 const STATUS_BYTES: usize = 2;
+/// Bytes of a number of turns.
+pub const TURN_COUNT: usize = 8;
 
 /// Settings as they are asked for, right or not: graph size, workers and room.
 pub type Asked = [u64; 3];
@@ -71,6 +74,49 @@ pub fn advance(lent: &mut LentLists, commands: &[u8], schedule: &[u8]) -> u64 {
         lent.write(&run);
         Ok(())
     }))
+}
+
+/// How long the list must be that a dispatch is lent to write its turns into.
+pub fn steps_needed(lists: Lists, count: &mut [u8]) -> u64 {
+    answer(report(lists, count.len() == TURN_COUNT).map(|run| {
+        count.copy_from_slice(&dispatch::turns_needed(&run).to_be_bytes());
+    }))
+}
+
+/// Makes turns of the dispatcher's choice to the end of the run, writes them into the schedule, and
+/// how many they are into the count. Document 02, A.6: "A lent list shorter than the bound is
+/// refused 6, here tested after 12; bytes past the dealing stay untouched."
+pub fn dispatch(
+    lent: &mut LentLists,
+    commands: &[u8],
+    schedule: &mut [u8],
+    count: &mut [u8],
+) -> u64 {
+    answer(
+        dispatched(lent, commands, schedule, count.len()).map(|(run, turns)| {
+            lent.write(&run);
+            schedule[..turns.len()].copy_from_slice(&turns);
+            count.copy_from_slice(&(turns.len() as u64).to_be_bytes());
+        }),
+    )
+}
+
+/// The run behind a dispatch, and its turns, or refusal 6, 12 or again 6.
+fn dispatched(
+    lent: &LentLists,
+    commands: &[u8],
+    schedule: &[u8],
+    count: usize,
+) -> Result<(Run, Vec<u8>), Refusal> {
+    if count != TURN_COUNT {
+        return Err(Refusal::Length);
+    }
+    let mut run = bytes::read_with_image(lent.handed(commands), lent.image)?;
+    if (schedule.len() as u64) < dispatch::turns_needed(&run) {
+        return Err(Refusal::Length);
+    }
+    let turns = dispatch::dispatch(&mut run);
+    Ok((run, turns))
 }
 
 /// How many records each record of the chain waits for, in chain order.
@@ -232,6 +278,11 @@ mod tests {
         fn advance(&mut self, schedule: &[u8]) -> u64 {
             let (mut lent, commands) = self.lend();
             advance(&mut lent, commands, schedule)
+        }
+
+        fn dispatch(&mut self, schedule: &mut [u8], count: &mut [u8]) -> u64 {
+            let (mut lent, commands) = self.lend();
+            dispatch(&mut lent, commands, schedule, count)
         }
 
         fn report(&mut self, call: fn(Lists, &mut [u8]) -> u64, out: &mut [u8]) -> u64 {
@@ -652,6 +703,83 @@ mod tests {
         let [state, keys] = [caller.state, caller.keys];
         let lists = [state, keys, caller.chutes, caller.answers, caller.image];
         assert!(lists.concat().iter().all(|byte| *byte == 9));
+    }
+
+    /// Document 02, A.6, in bytes, on document 01's example behind its first turn: 17 turns of 36 that
+    /// are enough. What is written is dealt by hand on a copy, and leaves the same lists.
+    #[test]
+    fn a_dispatch_in_bytes() {
+        for more in [0, 1, 7] {
+            let [mut caller, mut by_hand] = [Caller::opened(), Caller::opened()];
+            assert_eq!((caller.advance(&[0]), by_hand.advance(&[0])), (0, 0));
+            let mut needed = [9; 8];
+            assert_eq!(caller.report(steps_needed, &mut needed), 0);
+            assert_eq!(needed, [0, 0, 0, 0, 0, 0, 0, 36]);
+            let (mut schedule, mut count) = (vec![9; 36 + more], [9; 8]);
+            assert_eq!(caller.dispatch(&mut schedule, &mut count), 0);
+            assert_eq!(count, [0, 0, 0, 0, 0, 0, 0, 16]);
+            let turns = [0, 1, 1, 1, 1, 1, 1, 1, 0, 0, 1, 1, 1, 1, 1, 1];
+            assert_eq!(schedule[..16], turns);
+            assert_eq!(schedule[16..], vec![9; 20 + more]);
+            assert_eq!(by_hand.advance(&turns), 0);
+            assert!(caller.state == by_hand.state && caller.keys == by_hand.keys);
+            assert_eq!(caller.answers, [3, 232, 0, 7]);
+            assert_eq!(caller.chutes, [0, 7, 0, 0, 0, 0, 0, 0]);
+            assert_eq!(caller.image, [0; 80]);
+        }
+    }
+
+    /// What a dispatch answers that is lent lists of these lengths, and into which it writes nothing.
+    fn refused_dispatch(caller: &mut Caller, length: usize, count: usize) -> u64 {
+        let (mut schedule, mut count) = (vec![9; length], vec![9; count]);
+        let answer = caller.dispatch(&mut schedule, &mut count);
+        assert!(schedule.iter().chain(&count).all(|byte| *byte == 9));
+        answer
+    }
+
+    /// A.6: 6 for the number's list, then 12, then 6 for a list that is shorter than the bound.
+    #[test]
+    fn a_dispatch_tests_in_order_and_writes_nothing() {
+        let mut caller = Caller::opened();
+        let before = caller.state.clone();
+        for length in [0, 1, 35] {
+            assert_eq!(refused_dispatch(&mut caller, length, 8), 6);
+        }
+        for count in [0, 7, 9, 16] {
+            assert_eq!(refused_dispatch(&mut caller, 36, count), 6);
+            assert_eq!(caller.report(steps_needed, &mut vec![9; count]), 6);
+        }
+        caller.state[0] = 2;
+        for length in [0, 35, 36, 37] {
+            assert_eq!(refused_dispatch(&mut caller, length, 8), 12);
+            assert_eq!(refused_dispatch(&mut caller, length, 7), 6);
+        }
+        let mut count = [9; 8];
+        assert_eq!(caller.report(steps_needed, &mut count), 12);
+        assert_eq!(count, [9; 8]);
+        caller.state[0] = 1;
+        assert_eq!(caller.state, before);
+    }
+
+    /// A.6: each list in a wrong length is 6, though the run is out of range. The question for the
+    /// bound is lent no image.
+    #[test]
+    fn a_dispatch_tests_lengths_before_the_run() {
+        for list in 0..5 {
+            let mut caller = Caller::opened();
+            caller.state[0] = 2;
+            let lists = [
+                &mut caller.state,
+                &mut caller.keys,
+                &mut caller.chutes,
+                &mut caller.answers,
+                &mut caller.image,
+            ];
+            lists.into_iter().nth(list).expect("a list").push(0);
+            assert_eq!(refused_dispatch(&mut caller, 36, 8), 6);
+            let needed = caller.report(steps_needed, &mut [9; 8]);
+            assert_eq!(needed, if list == 4 { 12 } else { 6 });
+        }
     }
 
     #[test]

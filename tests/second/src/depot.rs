@@ -12,6 +12,17 @@ pub trait Depot {
 
     fn advance(&self, lent: &mut LentLists, commands: &[u8], schedule: &[u8]) -> u64;
 
+    /// Advances by turns of its own choice; it is lent lists for these turns and for their number.
+    fn dispatch(
+        &self,
+        lent: &mut LentLists,
+        commands: &[u8],
+        schedule: &mut [u8],
+        count: &mut [u8],
+    ) -> u64;
+
+    fn steps_needed(&self, lists: Lists, count: &mut [u8]) -> u64;
+
     fn pending_counts(&self, lists: Lists, counts: &mut [u8]) -> u64;
 
     fn worker_status(&self, lists: Lists, status: &mut [u8]) -> u64;
@@ -34,6 +45,20 @@ impl Depot for Second {
 
     fn advance(&self, lent: &mut LentLists, commands: &[u8], schedule: &[u8]) -> u64 {
         calls::advance(lent, commands, schedule)
+    }
+
+    fn dispatch(
+        &self,
+        lent: &mut LentLists,
+        commands: &[u8],
+        schedule: &mut [u8],
+        count: &mut [u8],
+    ) -> u64 {
+        calls::dispatch(lent, commands, schedule, count)
+    }
+
+    fn steps_needed(&self, lists: Lists, count: &mut [u8]) -> u64 {
+        calls::steps_needed(lists, count)
     }
 
     fn pending_counts(&self, lists: Lists, counts: &mut [u8]) -> u64 {

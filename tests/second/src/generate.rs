@@ -51,12 +51,14 @@ pub enum Sort {
     Checkpoints,
     /// Runs that are opened from the image of another's checkpoint, with the rest of its list.
     Swaps,
+    /// Runs that are dispatched.
+    Dispatches,
     /// An input of the program.
     Programs,
 }
 
 impl Sort {
-    pub const ALL: [Sort; 14] = [
+    pub const ALL: [Sort; 15] = [
         Sort::Identifiers,
         Sort::Keys,
         Sort::Commands,
@@ -70,6 +72,7 @@ impl Sort {
         Sort::Shifts,
         Sort::Checkpoints,
         Sort::Swaps,
+        Sort::Dispatches,
         Sort::Programs,
     ];
 
@@ -88,6 +91,7 @@ impl Sort {
             Sort::Shifts => "shifts",
             Sort::Checkpoints => "checkpoints",
             Sort::Swaps => "swaps",
+            Sort::Dispatches => "dispatches",
             Sort::Programs => "programs",
         }
     }

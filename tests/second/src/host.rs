@@ -5,7 +5,7 @@ use crate::calls::{Given, LentLists};
 use crate::depot::Depot;
 use crate::image;
 use crate::run::Run;
-use crate::script::{List, Step};
+use crate::script::{Dispatch, List, Step};
 use crate::serial::Entries;
 
 /// Stands on both sides of a list, so that a write past its ends is seen.
@@ -19,16 +19,19 @@ pub struct Host {
     memory: Memory,
     /// What the store had at the last opening that was accepted.
     entries: Entries,
-    kept: (Memory, Entries),
+    /// Whether the lists are as that opening and calls behind it left them.
+    reached: bool,
+    kept: (Memory, Entries, bool),
 }
 
 impl Default for Host {
     fn default() -> Host {
         let memory = List::ALL.map(|_| guarded(&[]));
         Host {
-            kept: (memory.clone(), Entries::new()),
+            kept: (memory.clone(), Entries::new(), false),
             memory,
             entries: Entries::new(),
+            reached: false,
         }
     }
 }
@@ -46,6 +49,11 @@ impl Host {
     /// What the store had at the last opening that was accepted.
     pub fn entries(&self) -> &Entries {
         &self.entries
+    }
+
+    /// Whether nothing but calls changed the lists since that opening, so that dealings reach them.
+    pub fn is_reached(&self) -> bool {
+        self.reached
     }
 
     /// The lists of the run but its image.
@@ -68,6 +76,9 @@ impl Host {
 
     /// Takes a step; the answer of a call, 0 of another step.
     pub fn take(&mut self, depot: &dyn Depot, step: &Step) -> u64 {
+        if matches!(step, Step::Lend(_) | Step::Change { .. } | Step::Resize(..)) {
+            self.reached = false;
+        }
         match step {
             Step::Lend(lengths) => {
                 for (list, length) in List::ALL.into_iter().zip(lengths) {
@@ -84,8 +95,10 @@ impl Host {
                 let longer = [self.list(*list), &rest].concat();
                 self.put(*list, &longer[..*length]);
             }
-            Step::Keep => self.kept = (self.memory.clone(), self.entries.clone()),
-            Step::Restore => (self.memory, self.entries) = self.kept.clone(),
+            Step::Keep => {
+                self.kept = (self.memory.clone(), self.entries.clone(), self.reached);
+            }
+            Step::Restore => (self.memory, self.entries, self.reached) = self.kept.clone(),
             Step::Serial | Step::Unbroken(_) => {}
             Step::Program(input) => self.put(List::Out, &depot.program(input)),
             call => return self.call(depot, call),
@@ -107,6 +120,7 @@ impl Host {
         };
         let answer = depot.open(&mut lent, kept);
         if answer == 0 {
+            self.reached = true;
             let store = given.source.and_then(|source| image::read(source).ok());
             self.entries = store.map_or(Entries::new(), |store| store.entries().collect());
         }
@@ -119,6 +133,10 @@ impl Host {
             Step::Advance(schedule) => {
                 let (mut lent, commands, _) = self.lend();
                 depot.advance(&mut lent, commands, schedule)
+            }
+            Step::Dispatch(dispatch) => self.dispatch(depot, *dispatch),
+            Step::StepsNeeded(length) => {
+                self.write_out(*length, |lists, out| depot.steps_needed(lists, out))
             }
             Step::PendingCounts(length) => {
                 self.write_out(*length, |lists, out| depot.pending_counts(lists, out))
@@ -136,6 +154,22 @@ impl Host {
         }
     }
 
+    /// Lends the two lists that a dispatch needs besides, and dispatches.
+    fn dispatch(&mut self, depot: &dyn Depot, dispatch: Dispatch) -> u64 {
+        let mut schedule = guarded(&dispatch.contents());
+        let mut count = guarded(&filling(dispatch.count));
+        let (mut lent, commands, _) = self.lend();
+        let answer = depot.dispatch(
+            &mut lent,
+            commands,
+            within_mut(&mut schedule),
+            within_mut(&mut count),
+        );
+        self.memory[List::Schedule as usize] = schedule;
+        self.memory[List::Out as usize] = count;
+        answer
+    }
+
     /// Makes a call that is lent a list of this length to write.
     fn write_out(&mut self, length: usize, call: impl Fn(Lists, &mut [u8]) -> u64) -> u64 {
         let mut out = guarded(&filling(length));
@@ -150,7 +184,7 @@ impl Host {
 
     /// What is lent to be written, the commands, and the image to open from.
     fn lend(&mut self) -> (LentLists<'_>, &[u8], &[u8]) {
-        let [state, keys, chutes, answers, image, commands, source, _] =
+        let [state, keys, chutes, answers, image, commands, source, ..] =
             self.memory.each_mut().map(|it| within_mut(it));
         let lent = LentLists {
             state,
@@ -177,7 +211,7 @@ fn within_mut(memory: &mut [u8]) -> &mut [u8] {
 }
 
 /// Bytes none of which is 0, so that an untouched list is told from a cleared one.
-fn filling(length: usize) -> Vec<u8> {
+pub fn filling(length: usize) -> Vec<u8> {
     let block: Vec<u8> = (1..=u8::MAX).collect();
     let mut bytes = block.repeat(length / block.len() + 1);
     bytes.truncate(length);

@@ -2,13 +2,14 @@
 //! code must do, and is run beside it on the same inputs.
 //!
 //! - The second writing: `identifier`, `command` and `serial` are what a command means, `store`,
-//!   `image` and `run` the records and turns, `bytes` and `calls` the public calls on byte lists,
-//!   `program` the program, and `refusal` the numbers of refusal and how a call answers them.
+//!   `image` and `run` the records and turns, `dispatch` the dispatcher's choice of turns, `bytes`
+//!   and `calls` the public calls on byte lists, `program` the program, and `refusal` the numbers of
+//!   refusal and how a call answers them.
 //! - The comparison: `depot` names the calls that are compared, `script` is the steps of one input,
 //!   `host` a caller that takes them, `play` two callers side by side, and `generate` makes the
 //!   inputs from a seed (`random`); `hex` shows them, and `met` counts what they meet of worker
-//!   changes, checkpoints, images and tables in the middle of runs. The program `compare_depot` runs
-//!   it.
+//!   changes, checkpoints, images, tables in the middle of runs and dispatches. The program
+//!   `compare_depot` runs it.
 //! - The tools: `text` turns the program's input into text and back for `depot_text`, and `draw`
 //!   makes a picture of a run for `depot_draw`.
 
@@ -18,6 +19,7 @@ pub mod bytes;
 pub mod calls;
 pub mod command;
 pub mod depot;
+pub mod dispatch;
 pub mod draw;
 pub mod generate;
 pub mod hex;

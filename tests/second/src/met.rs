@@ -1,5 +1,6 @@
 //! How often the compared inputs meet what document 02's A.2 brings: its refusals, and the turns at
-//! which the worker count decides; in `images`, what A.3 does; and in `moments`, what A.10 does.
+//! which the worker count decides; in `images`, what A.3 does; in `moments`, what A.10 does; and in
+//! `dispatches`, what A.6 does.
 //! One that no input met would leave the comparison blind there.
 
 /// An enum of what is counted, with the words for each.
@@ -23,6 +24,7 @@ macro_rules! named {
     };
 }
 
+pub mod dispatches;
 pub mod images;
 pub mod moments;
 
@@ -32,6 +34,7 @@ use crate::bytes::{CHAIN, IN_FORCE, LARGEST, LOCK_COUPLED, standing};
 use crate::command::{Kind, LENGTH};
 use crate::host::Host;
 use crate::identifier;
+use crate::met::dispatches::Dispatches;
 use crate::met::images::Images;
 use crate::met::moments::Moments;
 use crate::run::{HEAD, Party, Run};
@@ -150,6 +153,7 @@ pub struct Met {
     pub characters: [u64; identifier::LENGTH],
     pub images: Images,
     pub moments: Moments,
+    pub dispatches: Dispatches,
 }
 
 impl Default for Met {
@@ -159,6 +163,7 @@ impl Default for Met {
             characters: [0; identifier::LENGTH],
             images: Images::default(),
             moments: Moments::default(),
+            dispatches: Dispatches::default(),
         }
     }
 }
@@ -172,6 +177,7 @@ impl AddAssign<&Met> for Met {
         }
         self.images.add(&other.images);
         self.moments.add(&other.moments);
+        self.dispatches.add(&other.dispatches);
     }
 }
 
@@ -188,13 +194,15 @@ impl Met {
             .chain(characters)
             .chain(self.images.lines())
             .chain(self.moments.lines())
+            .chain(self.dispatches.lines())
             .collect()
     }
 
     /// Whether something was never met.
     pub fn lacks_any(&self) -> bool {
         let changes = self.events.contains(&0) || self.characters.contains(&0);
-        changes || self.images.lacks_any() || self.moments.lacks_any()
+        let images = self.images.lacks_any() || self.moments.lacks_any();
+        changes || images || self.dispatches.lacks_any()
     }
 
     pub fn count(&self, event: Event) -> u64 {
@@ -213,6 +221,7 @@ impl Met {
             Step::Advance(schedule) => self.note_dealing(host, schedule, answer),
             Step::WorkerStatus(_) if answer == 0 => self.note_report(host),
             Step::Serial => self.moments.note_judged(host),
+            Step::StepsNeeded(_) => self.dispatches.note_needed(answer),
             _ => {}
         }
     }
@@ -360,6 +369,8 @@ mod tests {
         met.images = Images::met(2);
         assert!(met.lacks_any(), "no moment is met");
         met.moments = Moments::met(2);
+        assert!(met.lacks_any(), "no dispatch is met");
+        met.dispatches = Dispatches::met(2);
         assert!(!met.lacks_any());
         for index in 0..Event::ALL.len() {
             assert_eq!(Event::ALL[index] as usize, index);
@@ -376,7 +387,8 @@ mod tests {
         sum += &met;
         assert_eq!(sum.count(Event::Opened), 4);
         let lines = sum.lines();
-        let others = sum.images.lines().count() + sum.moments.lines().count();
+        let images = sum.images.lines().count() + sum.moments.lines().count();
+        let others = images + sum.dispatches.lines().count();
         let counts = Event::ALL.len() + identifier::LENGTH;
         assert_eq!(lines.len(), counts + others);
         assert_eq!(lines[1], "counts refused 14: 4");

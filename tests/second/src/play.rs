@@ -1,5 +1,8 @@
 //! Takes each step of a run with the second program and with the code that it judges, and tells
-//! the first difference between them, or from what serial runs give, in words.
+//! the first difference between them, or from what serial runs give, in words. What a dispatch must
+//! do is held against it too, in `dispatches`.
+
+pub mod dispatches;
 
 use crate::bytes::{
     CHAIN, COUNT, EXECUTING, FREE, IN_FORCE, KEY, LARGEST, LOADED, LOCKED, NEXT, NUMBER, PARTY,
@@ -12,7 +15,7 @@ use crate::image;
 use crate::met::Met;
 use crate::refusal::answer_words;
 use crate::run::{Party, Run};
-use crate::script::{List, Step};
+use crate::script::{Dispatch, List, Step};
 use crate::serial::{self, Entries, written};
 use crate::store::Store;
 
@@ -60,15 +63,18 @@ impl<'a> Play<'a> {
     /// Takes a step on both sides; the answer, if nothing differs.
     pub fn take(&mut self, step: Step) -> Result<u64, Difference> {
         let expected = self.take_expected(&step);
+        let before = matches!(step, Step::Dispatch(_)).then(|| self.found.clone());
         let found = self.found.take(self.judged, &step);
         let different = if expected != found {
             Some(answers_differ(expected, found))
         } else if self.expected.memory() != self.found.memory() {
             Some(self.lists_differ(&step))
         } else {
-            match &step {
-                Step::Serial => self.serial_differs(),
-                Step::Unbroken(commands) => self.unbroken_differs(commands),
+            match (&step, &before) {
+                (Step::Serial, _) => self.serial_differs(),
+                (Step::Unbroken(commands), _) => self.unbroken_differs(commands),
+                (Step::Dispatch(lent), Some(before)) => self.dispatch_differs(before, *lent, found),
+                (Step::StepsNeeded(_), _) if found == 0 => dispatches::needed_differs(&self.found),
                 _ => None,
             }
         };
@@ -84,16 +90,35 @@ impl<'a> Play<'a> {
     fn take_expected(&mut self, step: &Step) -> u64 {
         let noted = matches!(
             step,
-            Step::Lend(_) | Step::Open(_) | Step::Advance(_) | Step::WorkerStatus(_)
+            Step::Lend(_)
+                | Step::Open(_)
+                | Step::Advance(_)
+                | Step::Dispatch(_)
+                | Step::WorkerStatus(_)
         );
         let before = noted.then(|| self.expected.clone());
         let answer = self.expected.take(self.second, step);
-        if let Some(before) = before {
-            self.met.note_step(&before, step, answer);
-        } else if *step == Step::Serial {
-            self.met.note_step(&self.expected, step, answer);
+        match (step, before) {
+            (Step::Dispatch(lent), Some(before)) => {
+                let dispatches = &mut self.met.dispatches;
+                dispatches.note_dispatch(&before, &self.expected, *lent, answer);
+            }
+            (_, Some(before)) => self.met.note_step(&before, step, answer),
+            (Step::Serial | Step::StepsNeeded(_), None) => {
+                self.met.note_step(&self.expected, step, answer);
+            }
+            _ => {}
         }
         answer
+    }
+
+    /// How the judged side's dispatch differs from what document 02's A.6 asks for, and what it leaves
+    /// of a run that dealings reach from what serial runs give.
+    fn dispatch_differs(&self, before: &Host, lent: Dispatch, answer: u64) -> Option<Difference> {
+        dispatches::differs(before, &self.found, lent, answer).or_else(|| {
+            let judged = answer == 0 && before.is_reached();
+            judged.then(|| self.serial_differs()).flatten()
+        })
     }
 
     /// Takes all steps up to the first that differs; the last answer, if none does.
@@ -274,7 +299,7 @@ fn entry_width(list: List) -> usize {
     match list {
         List::Keys => KEY,
         List::Chutes | List::Answers => NUMBER,
-        List::State | List::Image | List::Commands | List::Source | List::Out => 1,
+        List::State | List::Image | List::Commands | List::Source | List::Schedule | List::Out => 1,
     }
 }
 
@@ -321,6 +346,20 @@ mod tests {
             Second.advance(lent, commands, schedule) ^ self.0
         }
 
+        fn dispatch(
+            &self,
+            lent: &mut LentLists,
+            commands: &[u8],
+            schedule: &mut [u8],
+            count: &mut [u8],
+        ) -> u64 {
+            Second.dispatch(lent, commands, schedule, count) ^ self.0
+        }
+
+        fn steps_needed(&self, lists: Lists, count: &mut [u8]) -> u64 {
+            Second.steps_needed(lists, count) ^ self.0
+        }
+
         fn pending_counts(&self, lists: Lists, counts: &mut [u8]) -> u64 {
             Second.pending_counts(lists, counts) ^ self.0
         }
@@ -343,7 +382,7 @@ mod tests {
     }
 
     /// Each call once; the lists are no run, so that most are refused.
-    fn calls() -> [Step; 7] {
+    fn calls() -> [Step; 9] {
         let open = |source: Option<Vec<u8>>| {
             Step::Open(Open {
                 settings: [1; 3],
@@ -354,6 +393,12 @@ mod tests {
         [
             open(None),
             Step::Advance(vec![]),
+            Step::Dispatch(Dispatch {
+                length: 0,
+                seed: 0,
+                count: 8,
+            }),
+            Step::StepsNeeded(8),
             Step::PendingCounts(150),
             Step::WorkerStatus(128),
             Step::ReadIdentifier(b"AAx00000000AA".to_vec(), 8),
@@ -376,7 +421,7 @@ mod tests {
 
     #[test]
     fn another_character_is_told() {
-        let words = Play::new(&Turned(1 << 32)).take(calls()[4].clone());
+        let words = Play::new(&Turned(1 << 32)).take(calls()[6].clone());
         let expected = "step 1: refused 13, character 2; \
                         by the second program refused 13, character 3";
         assert_eq!(words, Err(expected.to_string()));

@@ -101,6 +101,20 @@ impl Party {
             Party::Idle | Party::Searching { .. } => None,
         }
     }
+
+    /// The record that it stands on in the chain, if it stands there.
+    pub fn at(self) -> Option<u8> {
+        match self {
+            Party::Loading { at, .. }
+            | Party::Searching { at }
+            | Party::Walking { at, .. }
+            | Party::Clearing { at, .. } => Some(at),
+            Party::Idle
+            | Party::Holding { .. }
+            | Party::LookedUp { .. }
+            | Party::Written { .. } => None,
+        }
+    }
 }
 
 #[derive(Clone, Debug, PartialEq, Eq)]

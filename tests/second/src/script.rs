@@ -5,9 +5,11 @@ use std::fmt;
 
 use crate::calls::{Asked, Given};
 use crate::hex::{from_hex, hex};
+use crate::random::Random;
 
-/// The lists that a caller keeps. `Source` is the image that the last opening was given, and `Out`
-/// what a report or an identifier call writes.
+/// The lists that a caller keeps. `Source` is the image that the last opening was given, `Schedule`
+/// what a dispatch writes its turns into, and `Out` what it writes their number into and what a
+/// report or an identifier call writes.
 #[derive(Clone, Copy, Debug, PartialEq, Eq)]
 pub enum List {
     State,
@@ -17,11 +19,12 @@ pub enum List {
     Image,
     Commands,
     Source,
+    Schedule,
     Out,
 }
 
 impl List {
-    pub const ALL: [List; 8] = [
+    pub const ALL: [List; 9] = [
         List::State,
         List::Keys,
         List::Chutes,
@@ -29,11 +32,12 @@ impl List {
         List::Image,
         List::Commands,
         List::Source,
+        List::Schedule,
         List::Out,
     ];
-    /// Those that are handed back to a dealing, all but the last two.
+    /// Those that are handed back to a dealing, all but the last three.
     pub const HANDED: [List; 6] = {
-        let [handed @ .., _, _] = List::ALL;
+        let [handed @ .., _, _, _] = List::ALL;
         handed
     };
 
@@ -46,6 +50,7 @@ impl List {
             List::Image => "image",
             List::Commands => "commands",
             List::Source => "source",
+            List::Schedule => "schedule",
             List::Out => "out",
         }
     }
@@ -84,13 +89,33 @@ impl Open {
     }
 }
 
+/// What a dispatch is lent besides the lists of its run.
+#[derive(Clone, Copy, Debug, PartialEq, Eq)]
+pub struct Dispatch {
+    /// Of the list for its turns.
+    pub length: usize,
+    /// The seed of what this list holds before.
+    pub seed: u64,
+    /// The length of the list for the number of turns.
+    pub count: usize,
+}
+
+impl Dispatch {
+    /// What the list for its turns holds before.
+    pub fn contents(&self) -> Vec<u8> {
+        Random::new(self.seed).bytes(self.length)
+    }
+}
+
 #[derive(Clone, Debug, PartialEq, Eq)]
 pub enum Step {
     /// Lends state, keys, chutes, answers and image of these lengths in bytes, with any contents.
     Lend([usize; 5]),
     Open(Open),
     Advance(Vec<u8>),
-    /// With a list of this length, as the next three.
+    Dispatch(Dispatch),
+    /// With a list of this length, as the next four.
+    StepsNeeded(usize),
     PendingCounts(usize),
     WorkerStatus(usize),
     ReadIdentifier(Vec<u8>, usize),
@@ -147,6 +172,12 @@ impl Step {
     fn parse_short(words: &[&str]) -> Option<Step> {
         match *words {
             ["advance", schedule] => Some(Step::Advance(from_hex(schedule)?)),
+            ["dispatch", length, seed, count] => Some(Step::Dispatch(Dispatch {
+                length: length.parse().ok()?,
+                seed: seed.parse().ok()?,
+                count: count.parse().ok()?,
+            })),
+            ["steps_needed", length] => Some(Step::StepsNeeded(length.parse().ok()?)),
             ["pending_counts", length] => Some(Step::PendingCounts(length.parse().ok()?)),
             ["worker_status", length] => Some(Step::WorkerStatus(length.parse().ok()?)),
             ["read_identifier", text, length] => {
@@ -186,6 +217,12 @@ impl fmt::Display for Step {
             Step::Lend([a, b, c, d, e]) => write!(f, "lend {a} {b} {c} {d} {e}"),
             Step::Open(open) => write!(f, "{open}"),
             Step::Advance(schedule) => write!(f, "advance {}", hex(schedule)),
+            Step::Dispatch(Dispatch {
+                length,
+                seed,
+                count,
+            }) => write!(f, "dispatch {length} {seed} {count}"),
+            Step::StepsNeeded(length) => write!(f, "steps_needed {length}"),
             Step::PendingCounts(length) => write!(f, "pending_counts {length}"),
             Step::WorkerStatus(length) => write!(f, "worker_status {length}"),
             Step::ReadIdentifier(text, length) => {
@@ -224,6 +261,12 @@ mod tests {
                 source: Some(vec![0, 255]),
             }),
             Step::Advance(vec![0, 255]),
+            Step::Dispatch(Dispatch {
+                length: 1,
+                seed: u64::MAX,
+                count: 8,
+            }),
+            Step::StepsNeeded(9),
             Step::PendingCounts(150),
             Step::WorkerStatus(128),
             Step::ReadIdentifier(vec![65], 8),

@@ -108,6 +108,58 @@ fn drawn_as_kept(name: &str, workers: &str) -> (String, String) {
     (program::output(&packed), picture)
 }
 
+/// Document 02, A.6, for a person: a list is packed without anyone writing turns, run to its end, and
+/// drawn: worker 1 alone serves each command behind its loading.
+#[test]
+fn a_list_is_packed_with_the_turns_of_the_dispatcher() {
+    let packed = run(
+        TEXT,
+        &[&SETTINGS[..], &["--dispatch"]].concat(),
+        LIST.as_bytes(),
+    );
+    let turns = [[0, 0, 1, 1, 1, 1, 1, 1, 1].as_slice(), &[0, 0], &[1; 6]].concat();
+    let input = [&EXAMPLE[..38], &turns].concat();
+    assert_eq!(packed, (Some(0), input, String::new()));
+    assert_eq!(
+        program::output(&packed.1),
+        "1 insert AA000000005AA 1000\n2 read AA000000005AA 7\nstore 1 chain 0\n"
+    );
+    let list = b"workers 2\ninsert AA000000005AA 7\nread AA000000005AA\ncheckpoint\n";
+    let (_, packed, _) = run(TEXT, &[&SETTINGS[..], &["--dispatch"]].concat(), list);
+    assert!(program::output(&packed).ends_with("\nstore 1 chain 0\n"));
+    let (status, picture, words) = run(DRAW, &[], &packed);
+    assert_eq!((status, words), (Some(0), String::new()));
+    let picture = String::from_utf8(picture).expect("words");
+    for told in [
+        "turn 1, loader: loading",
+        "turn 6, worker 1: writes answer 1000 of command 1",
+        "turn 15, worker 1: writes answer 1000 of command 2",
+        "turn 23, worker 1: looks up and writes answer 7 of command 3",
+        "turn 35, worker 1: becomes idle",
+        "Worker count in force: 1 from the opening; 2 from turn 6.",
+        "Image: zeros from the opening; place 4 and 1 entry from turn 32.",
+    ] {
+        assert!(picture.contains(&format!(">{told}<")), "{told}");
+    }
+    assert!(!picture.contains("turn 36,"));
+}
+
+/// With the turns of its dispatch, a list of 2,621 inserts fits into the 65,536 bytes that the program
+/// reads, and one insert more does not, though its list alone would.
+#[test]
+fn a_list_that_is_too_long_to_be_dispatched_is_told() {
+    let options = [&SETTINGS[..], &["--dispatch"]].concat();
+    let list = |count: usize| "insert AA000000005AA 7\n".repeat(count);
+    let (status, packed, words) = run(TEXT, &options, list(2621).as_bytes());
+    assert_eq!((status, packed.len()), (Some(0), 6 + 2621 * (16 + 9)));
+    assert_eq!(words, "");
+    let told = run(TEXT, &options, list(2622).as_bytes());
+    let words = "depot_text: refused 5: an input of 65556 bytes, over 65536\n";
+    assert_eq!(told, (Some(1), Vec::new(), words.to_string()));
+    let (status, packed, _) = run(TEXT, &SETTINGS, list(2622).as_bytes());
+    assert_eq!((status, packed.len()), (Some(0), 6 + 2622 * 16));
+}
+
 /// Document 02, A.2, for a person: worker changes are packed and shown again, and one that is
 /// refused is told.
 #[test]
@@ -196,11 +248,13 @@ fn a_faulty_identifier_is_told_with_its_character() {
 
 #[test]
 fn options_that_are_not_understood_end_with_2_and_the_usage() {
-    let cases: [(&str, &[&str]); 6] = [
+    let twice = [&SETTINGS[..], &["--dispatch", "--turns", "1"]].concat();
+    let cases: [(&str, &[&str]); 7] = [
         (TEXT, &[]),
         (TEXT, &["pack"]),
         (TEXT, &["pack", "--size", "x"]),
         (TEXT, &["unpack", "--turns", "1"]),
+        (TEXT, &twice),
         (TEXT, &["wrap"]),
         (DRAW, &["run.svg"]),
     ];
@@ -212,6 +266,7 @@ fn options_that_are_not_understood_end_with_2_and_the_usage() {
             words.contains("workers COUNT | checkpoint"),
             program == TEXT
         );
+        assert_eq!(words.contains("| --dispatch\n"), program == TEXT);
     }
 }
 

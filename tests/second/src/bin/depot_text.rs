@@ -12,11 +12,12 @@ use second::text::{show, show_turns};
 const USAGE: &str = "\
 usage: depot_text pack --size N --workers N --room N [TURNS] < list.txt > input.bin
        depot_text unpack [--turns-file FILE] < input.bin > list.txt
-TURNS: --turns \"0 1 ..\" | --turns-file FILE | --round-robin COUNT | --random SEED COUNT
+TURNS: --turns \"0 1 ..\" | --turns-file FILE | --round-robin COUNT | --random SEED COUNT | --dispatch
 list.txt has a line a command, with its place before it or without:
        insert IDENTIFIER CHUTE | update IDENTIFIER CHUTE | delete IDENTIFIER | read IDENTIFIER |
        workers COUNT | checkpoint
-Behind # is a comment. Turns go to parties 0 up to the largest of --workers and the list's counts.";
+Behind # is a comment. Turns go to parties 0 up to the largest of --workers and the list's counts.
+With --dispatch they are the dispatcher's, which bring the list to its end.";
 
 /// Why there is no output.
 enum Failure {

@@ -1,13 +1,16 @@
 //! Compared runs of the whole depot, made from a seed: openings, schedules of every sort fed whole
 //! and in pieces, with judgements by the serial run and refused calls between them, items announced
 //! again, reads beside other commands, commands that pass inserts and deletes, worker counts that
-//! change, checkpoints, runs that are opened from the images of others, handed-back lists that were
-//! changed, and the program.
+//! change, checkpoints, runs that are opened from the images of others, dispatches, handed-back lists
+//! that were changed, and the program.
 
 mod announcements;
 mod changes;
 mod checkpoints;
 mod dealings;
+#[cfg(test)]
+mod dispatchers;
+mod dispatches;
 #[cfg(test)]
 mod flaws;
 mod limits;
@@ -31,16 +34,17 @@ use crate::script::{List, Step};
 use openings::Opening;
 
 /// How many runs are always compared, whatever the seed adds to them.
-pub const FIXED: u64 = SWAPS + swaps::COUNT;
+pub const FIXED: u64 = DISPATCHES + dispatches::COUNT;
 /// Where those with items announced again begin, those with reads beside other commands, those with
 /// commands that pass inserts and deletes, those with worker counts that change, those with
-/// checkpoints and those that are swapped for another.
+/// checkpoints, those that are swapped for another and those that are dispatched.
 const ANNOUNCEMENTS: u64 = limits::COUNT + LONG;
 const READS: u64 = ANNOUNCEMENTS + announcements::COUNT;
 const PASSES: u64 = READS + reads::COUNT;
 const SHIFTS: u64 = PASSES + passes::COUNT;
 const CHECKPOINTS: u64 = SHIFTS + shifts::COUNT;
 const SWAPS: u64 = CHECKPOINTS + checkpoints::COUNT;
+const DISPATCHES: u64 = SWAPS + swaps::COUNT;
 /// Long runs among them.
 const LONG: u64 = 14;
 /// Random runs come in rounds of this many kinds.
@@ -56,6 +60,7 @@ const MOMENTS: u64 = 3;
 pub fn sort(index: u64) -> Sort {
     match index.checked_sub(FIXED) {
         Some(index) if index % ROUND == PROGRAM => Sort::Programs,
+        None if index >= DISPATCHES => Sort::Dispatches,
         None if index >= SWAPS => Sort::Swaps,
         None if index >= CHECKPOINTS => Sort::Checkpoints,
         None if index >= SHIFTS => Sort::Shifts,
@@ -90,8 +95,11 @@ pub fn play(seed: u64, index: u64, play: &mut Play) -> Result<(), Difference> {
     if index < SWAPS {
         return checkpoints::play(index - CHECKPOINTS, random, play);
     }
-    if index < FIXED {
+    if index < DISPATCHES {
         return swaps::play(index - SWAPS, random, play);
+    }
+    if index < FIXED {
+        return dispatches::play(index - DISPATCHES, random, play);
     }
     let index = index - FIXED;
     match index % ROUND {
@@ -195,7 +203,8 @@ fn moment(random: &mut Random, play: &mut Play) -> Result<(), Difference> {
     Ok(())
 }
 
-/// A call that leaves the run as it is: an empty dealing, a report or a refused call.
+/// A call that leaves the run as it is: an empty dealing, a report, a refused call or, on a copy, a
+/// dispatch.
 fn interlude(random: &mut Random, play: &mut Play) -> Result<(), Difference> {
     let length = |random: &mut Random, right: usize| random.pick(&[right, right - 1, right + 1, 0]);
     let step = match random.below(8) {
@@ -206,7 +215,7 @@ fn interlude(random: &mut Random, play: &mut Play) -> Result<(), Difference> {
         4 => return apart(play, |play| wrong_length(random, play)),
         5 => return apart(play, |play| openings::refused(random, play)),
         6 => return apart(play, |play| changes::one_byte(random, play)),
-        _ => return Ok(()),
+        _ => return apart(play, |play| dispatches::dispatch(random, play)),
     };
     play.take(step)?;
     Ok(())
@@ -291,6 +300,21 @@ mod tests {
             answer
         }
 
+        fn dispatch(
+            &self,
+            lent: &mut LentLists,
+            commands: &[u8],
+            schedule: &mut [u8],
+            count: &mut [u8],
+        ) -> u64 {
+            let answer = Second.dispatch(lent, commands, schedule, count);
+            self.count("dispatch", answer)
+        }
+
+        fn steps_needed(&self, lists: Lists, count: &mut [u8]) -> u64 {
+            self.count("steps_needed", Second.steps_needed(lists, count))
+        }
+
         fn pending_counts(&self, lists: Lists, counts: &mut [u8]) -> u64 {
             self.count("pending_counts", Second.pending_counts(lists, counts))
         }
@@ -319,7 +343,9 @@ mod tests {
     #[test]
     fn every_call_meets_each_of_its_refusals() {
         let depot = Counting::default();
-        for index in (0..limits::COUNT).chain(FIXED..FIXED + 4000) {
+        let dispatches = DISPATCHES + dispatches::MANY..FIXED;
+        let indexes = (0..limits::COUNT).chain(dispatches);
+        for index in indexes.chain(FIXED..FIXED + 4000) {
             play(1, index, &mut Play::new(&depot)).expect("the second program is itself");
         }
         // Random openings seldom meet refusal 14 and those of images.
@@ -339,6 +365,8 @@ mod tests {
             [0, 1, 2, 3, 4, 5, 6, 7, 8, 9, 10, 13, 14, 15, 16]
         );
         assert_eq!(depot.met("advance"), [0, 6, 11, 12]);
+        assert_eq!(depot.met("dispatch"), [0, 6, 12]);
+        assert_eq!(depot.met("steps_needed"), [0, 6, 12]);
         assert_eq!(depot.met("pending_counts"), [0, 6, 12]);
         assert_eq!(depot.met("worker_status"), [0, 6, 12]);
         assert_eq!(

@@ -1,9 +1,10 @@
-//! The options of `depot_text pack`: the settings, and one of four ways to give the turns.
+//! The options of `depot_text pack`: the settings, and one of five ways to give the turns.
 
 use super::input::{Input, check_length, check_schedule, check_settings};
 use super::{read_list, read_number, read_turns};
+use crate::dispatch::dispatch;
 use crate::random::Random;
-use crate::run::largest_count;
+use crate::run::Run;
 
 const SETTINGS: [&str; 3] = ["--size", "--workers", "--room"];
 
@@ -20,8 +21,15 @@ pub struct Options {
 enum Turns {
     Given(Vec<u64>),
     File(String),
-    RoundRobin { count: u64 },
-    Random { seed: u64, count: u64 },
+    RoundRobin {
+        count: u64,
+    },
+    Random {
+        seed: u64,
+        count: u64,
+    },
+    /// The dispatcher's, from the opening to the end.
+    Dispatch,
 }
 
 impl Options {
@@ -54,13 +62,12 @@ impl Options {
         read_file: impl Fn(&str) -> Result<Vec<u8>, String>,
     ) -> Result<Vec<u8>, String> {
         let settings = check_settings(self.size, self.workers, self.room)?;
-        let commands = read_list(list)?;
-        let largest = largest_count(settings.workers, &commands);
-        let parties = self.turns.parties(largest, read_file)?;
-        let schedule = check_schedule(&parties, largest)?;
+        let run = Run::open(settings, read_list(list)?);
+        let parties = self.turns.parties(&run, read_file)?;
+        let schedule = check_schedule(&parties, run.largest)?;
         let input = Input {
             settings,
-            commands,
+            commands: run.commands,
             schedule,
         };
         Ok(input.bytes()?)
@@ -88,18 +95,19 @@ impl Turns {
                 seed: read_value(name, values.next())?,
                 count: read_value(name, values.next())?,
             }),
+            "--dispatch" => Ok(Turns::Dispatch),
             _ => Err(format!("unknown option `{name}`")),
         }
     }
 
-    /// The parties of the turns, one after the other; round-robin and random turns are those of all
-    /// parties up to the largest worker count.
+    /// The parties of the turns of a run that is opened, one after the other; round-robin and random
+    /// turns are those of all parties up to the largest worker count.
     fn parties(
         &self,
-        largest: u8,
+        run: &Run,
         read_file: impl Fn(&str) -> Result<Vec<u8>, String>,
     ) -> Result<Vec<u64>, String> {
-        let parties = u64::from(largest) + 1;
+        let parties = u64::from(run.largest) + 1;
         match self {
             Turns::Given(turns) => Ok(turns.clone()),
             Turns::File(file) => {
@@ -114,6 +122,10 @@ impl Turns {
                 check_length(*count as usize)?;
                 let mut random = Random::new(*seed);
                 Ok((0..*count).map(|_| random.below(parties)).collect())
+            }
+            Turns::Dispatch => {
+                let turns = dispatch(&mut run.clone());
+                Ok(turns.into_iter().map(u64::from).collect())
             }
         }
     }
@@ -161,7 +173,7 @@ mod tests {
     }
 
     #[test]
-    fn turns_are_given_in_four_ways_or_not_at_all() {
+    fn turns_are_given_in_five_ways_or_not_at_all() {
         assert_eq!(pack(SMALL).unwrap().len(), 38);
         let given = Options::read(&[
             "--turns",
@@ -184,6 +196,11 @@ mod tests {
         assert!((0..3).all(|party| random.contains(&party)));
         assert_eq!(random, turns("--random 5 300"));
         assert_ne!(random, turns("--random 6 300"));
+        let [insert, read] = [
+            [0, 0, 1, 1, 1, 1, 1, 1, 1].as_slice(),
+            &[0, 0, 1, 1, 1, 1, 1, 1],
+        ];
+        assert_eq!(turns("--dispatch"), [insert, read].concat());
     }
 
     /// Document 02, A.2: turns go to parties up to the largest count of the opening and the list.

@@ -55,6 +55,21 @@ impl Judge {
         self.hold_image(run, written);
     }
 
+    /// Document 02, A.6: the turns of a dispatch from a state, within the bound, which by hand lead to
+    /// the same state, at the end of the run.
+    pub fn hold_dispatch(&self, run: &Run, turns: &[u8], after: &Run) {
+        let (used, bound) = (turns.len() as u64, bound(run));
+        assert!(used <= bound, "{used} of {bound}, {:?}", run.commands);
+        let mut by_hand = run.clone();
+        by_hand.advance(turns);
+        assert_eq!(by_hand, *after, "{turns:?}");
+        let mut places = 1..=run.commands.len() as u16;
+        assert!(places.all(|place| is_removed(after, place)), "{turns:?}");
+        let idle = |party: &Party| *party == Party::Idle;
+        assert!(after.parties.iter().all(idle), "{turns:?}");
+        self.hold(after);
+    }
+
     /// Document 02, A.10: the table of the commands of a set, run alone.
     fn table(&self, run: &Run, set: usize) -> &Store {
         self.tables[set].get_or_init(|| {
@@ -251,6 +266,15 @@ pub fn is_written(run: &Run, place: u16) -> bool {
     };
     let parties = &run.parties[..=usize::from(run.largest)];
     is_removed(run, place) || parties.iter().any(wrote)
+}
+
+/// Document 02, A.6: (n + w) × (3 × s + 6), "with n commands that are not yet loaded or whose records
+/// are not yet returned, w the largest worker count and s the graph size".
+pub fn bound(run: &Run) -> u64 {
+    let places = 1..=run.commands.len() as u16;
+    let left = places.filter(|place| !is_removed(run, *place)).count() as u64;
+    let [workers, size] = [run.largest, run.settings.size].map(u64::from);
+    (left + workers) * (3 * size + 6)
 }
 
 /// Whether the command was loaded and its record returned.

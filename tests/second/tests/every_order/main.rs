@@ -3,7 +3,8 @@
 //! against the states, and the order of a worker's states against the turns; the sets of the
 //! records, and who is written before whom, are held against the dependence of documents 01 and 02,
 //! who begins a search and takes a command against the worker counts of document 02's A.2, the
-//! image against its A.3, and the table of every state against its A.10.
+//! image against its A.3, and the table of every state against its A.10. From every state is
+//! dispatched on a copy, which is held against A.6.
 
 mod judge;
 mod lists;
@@ -18,6 +19,7 @@ use met::{Counted, Imaged, Met};
 use search::{every_order, every_order_by};
 use second::command::Command;
 use second::command::Kind::{self, Delete, Insert, Read, Update};
+use second::dispatch::dispatch;
 use second::image;
 use second::run::{Party, Run};
 use second::serial::{self, Entries};
@@ -53,6 +55,8 @@ fn every_order_of_up_to_two_commands() {
 fn every_order_of_three_commands() {
     let met = met_by(&[1, 2, 3], &lists(3, 2));
     assert!(met.states > 1_000_000);
+    // In a graph of one record with one worker: the end of a search, and nine turns a command.
+    assert_eq!(met.nearest, (1 + 3 * 9, (3 + 1) * 9));
     assert!(met.others.iter().all(|it| *it > 1000), "{:?}", met.others);
     for earlier in Kind::OF_ITEMS {
         for later in Kind::OF_ITEMS {
@@ -336,4 +340,36 @@ fn the_judge_notices_a_wrong_table() {
     }
     assert!((1..=5).all(|place| judge::is_written(&run, place)));
     assert!(noticed.iter().all(|states| *states >= 3), "{noticed:?}");
+}
+
+/// Document 02, A.6: the judge notices a dispatch that stops before its last turn, one that reports
+/// other turns than it makes, a turn too many or too few, and one that makes more than the bound, in
+/// every state from which there is something to do.
+#[test]
+fn the_judge_notices_a_wrong_dispatch() {
+    let mut run = Run::open(settings(2, 2, 2), passing());
+    let judge = Judge::of(&run, &Entries::new());
+    let notices = |run: &Run, turns: &[u8], after: &Run| {
+        let held = || judge.hold_dispatch(run, turns, after);
+        catch_unwind(AssertUnwindSafe(held)).is_err()
+    };
+    let mut states = 0;
+    while !run.is_finished() {
+        let mut after = run.clone();
+        let turns = dispatch(&mut after);
+        assert!(!notices(&run, &turns, &after));
+        let (_, fewer) = turns.split_last().expect("a turn");
+        let mut stopped = run.clone();
+        stopped.advance(fewer);
+        assert!(notices(&run, fewer, &stopped));
+        assert!(notices(&run, fewer, &after));
+        assert!(notices(&run, &[&turns[..], &[1]].concat(), &after));
+        let waits = vec![0; judge::bound(&run) as usize + 1 - turns.len()];
+        let allowed = [&turns[..], &waits[1..]].concat();
+        assert!(!notices(&run, &allowed, &after));
+        assert!(notices(&run, &[allowed, vec![0]].concat(), &after));
+        run.advance(&[states % 3]);
+        states += 1;
+    }
+    assert!(states > 50, "{states}");
 }

@@ -178,6 +178,8 @@ pub struct Met {
     /// States whose table is not that of all commands up to the last that is written, and states
     /// whose table is not that of all loaded ones.
     pub others: [usize; 2],
+    /// Of the dispatch that came nearest to its bound, the turns that it used, and the bound.
+    pub nearest: (u64, u64),
 }
 
 impl Met {
@@ -195,6 +197,14 @@ impl Met {
     pub fn note_tables(&mut self, others: [bool; 2]) {
         for (count, other) in self.others.iter_mut().zip(others) {
             *count += usize::from(other);
+        }
+    }
+
+    /// Notes how many turns a dispatch used, and its bound.
+    pub fn note_dispatch(&mut self, used: u64, bound: u64) {
+        let (most, of) = self.nearest;
+        if used * of >= most * bound {
+            self.nearest = (used, bound);
         }
     }
 

@@ -3,10 +3,11 @@
 use std::collections::HashMap;
 
 use second::bytes::party_bytes;
+use second::dispatch::dispatch;
 use second::run::{Party, Run};
 use second::serial::Entries;
 
-use crate::judge::{Judge, hold_count, hold_pass, hold_turn};
+use crate::judge::{Judge, bound, hold_count, hold_pass, hold_turn};
 use crate::met::{Met, passes};
 
 /// The states of one setting, numbered as they are met, and which leads to which.
@@ -32,6 +33,7 @@ pub fn every_order_by(judge: &Judge, first: Run, met: &mut Met) {
     while let Some((number, run)) = left.pop() {
         judge.hold(&run);
         met.note_tables(judge.others(&run));
+        hold_dispatch(judge, &run, met);
         for party in 0..=run.largest {
             let mut after = run.clone();
             let moved = after.turn(party);
@@ -61,6 +63,14 @@ pub fn every_order_by(judge: &Judge, first: Run, met: &mut Met) {
     assert_eq!(search.leading_to_a_finish(), states, "{judge:?}");
     met.states += states;
     met.settings += 1;
+}
+
+/// Judges a dispatch from a state, on a copy, and notes how many turns it used.
+fn hold_dispatch(judge: &Judge, run: &Run, met: &mut Met) {
+    let mut after = run.clone();
+    let turns = dispatch(&mut after);
+    judge.hold_dispatch(run, &turns, &after);
+    met.note_dispatch(turns.len() as u64, bound(run));
 }
 
 /// Judges a turn by the worker counts, and notes it, if it is a worker's.

@@ -63,6 +63,38 @@ unsafe extern "C" {
         schedule: *const u8,
         schedule_length: usize,
     ) -> u64;
+    fn depot_dispatch(
+        state: *mut u8,
+        state_length: usize,
+        keys: *mut u8,
+        keys_length: usize,
+        chutes: *mut u8,
+        chutes_length: usize,
+        answers: *mut u8,
+        answers_length: usize,
+        image: *mut u8,
+        image_length: usize,
+        commands: *const u8,
+        commands_length: usize,
+        schedule: *mut u8,
+        schedule_length: usize,
+        count: *mut u8,
+        count_length: usize,
+    ) -> u64;
+    fn depot_steps_needed(
+        state: *const u8,
+        state_length: usize,
+        keys: *const u8,
+        keys_length: usize,
+        chutes: *const u8,
+        chutes_length: usize,
+        answers: *const u8,
+        answers_length: usize,
+        commands: *const u8,
+        commands_length: usize,
+        count: *mut u8,
+        count_length: usize,
+    ) -> u64;
     fn depot_pending_counts(
         state: *const u8,
         state_length: usize,
@@ -155,6 +187,22 @@ impl Depot for Archive {
         unsafe { on_run!(depot_advance, lent, commands, first, length) }
     }
 
+    fn dispatch(
+        &self,
+        lent: &mut LentLists,
+        commands: &[u8],
+        schedule: &mut [u8],
+        count: &mut [u8],
+    ) -> u64 {
+        let (first, length) = (schedule.as_mut_ptr(), schedule.len());
+        let (count, bytes) = (count.as_mut_ptr(), count.len());
+        unsafe { on_run!(depot_dispatch, lent, commands, first, length, count, bytes) }
+    }
+
+    fn steps_needed(&self, lists: Lists, count: &mut [u8]) -> u64 {
+        report(depot_steps_needed, lists, count)
+    }
+
     fn pending_counts(&self, lists: Lists, counts: &mut [u8]) -> u64 {
         report(depot_pending_counts, lists, counts)
     }
@@ -191,7 +239,7 @@ impl Depot for Archive {
     }
 }
 
-/// The form that the two reports have.
+/// The form that the reports have.
 type Report = unsafe extern "C" fn(
     *const u8,
     usize,

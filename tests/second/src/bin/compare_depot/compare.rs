@@ -89,6 +89,7 @@ fn compare_all(archive: &Archive, seed: u64, runs: u64) -> bool {
         tally.count(runs::sort(index), &play, outcome);
     }
     println!("met: {}", tally.met.lines().join(", "));
+    println!("{}", tally.met.dispatches.nearest());
     if tally.met.lacks_any() {
         println!("compare_depot: something is never met");
     }

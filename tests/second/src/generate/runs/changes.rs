@@ -1,8 +1,8 @@
 //! Handed-back lists that were changed: single bytes at every offset, settings with lists that fit
-//! them or do not, what a look-up found, and the store. What is accepted is stepped on.
+//! them or do not, what a look-up found, and the store. What is accepted is stepped on, or dispatched.
 
 use super::openings::Opening;
-use super::{apart, reports, schedules};
+use super::{apart, dispatches, reports, schedules};
 use crate::bytes::{
     COUNT, IN_FORCE, KEY, LARGEST, LOADED, NUMBER, PARTY, PARTY_BYTES, ROOM, SIZE, STATE, USED,
     WORKERS, party_bytes, write_numbers, write_words,
@@ -17,6 +17,8 @@ use crate::store::Store;
 
 /// Offsets that one run changes.
 const OFFSETS: u64 = 24;
+/// Of how many changed runs one is dispatched.
+const DISPATCHED: u64 = 4;
 /// Values at and next to bounds of the state's fields.
 const VALUES: [u8; 14] = [0, 1, 2, 3, 4, 5, 6, 7, 8, 64, 65, 150, 151, 255];
 
@@ -96,13 +98,16 @@ fn middle(random: &mut Random, play: &mut Play) -> Result<(), Difference> {
     Ok(())
 }
 
-/// Turns and reports on whatever state there is now.
+/// Turns and reports on whatever state there is now, and then more turns or a dispatch.
 pub fn step_on(random: &mut Random, play: &mut Play) -> Result<(), Difference> {
     let state = play.host().list(List::State);
     let workers = state.get(LARGEST).copied().unwrap_or(1);
     let schedule = schedules::some(random, workers.min(64), 60);
     play.take(Step::Advance(schedule))?;
     reports(play)?;
+    if random.below(DISPATCHED) == 0 {
+        return dispatches::dispatch(random, play);
+    }
     let schedule = schedules::some(random, workers.min(64), 400);
     play.take(Step::Advance(schedule))?;
     Ok(())

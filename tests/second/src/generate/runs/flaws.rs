@@ -200,6 +200,20 @@ impl Depot for Flawed {
         if unmeasured { 0 } else { answer }
     }
 
+    fn dispatch(
+        &self,
+        lent: &mut LentLists,
+        commands: &[u8],
+        schedule: &mut [u8],
+        count: &mut [u8],
+    ) -> u64 {
+        Second.dispatch(lent, commands, schedule, count)
+    }
+
+    fn steps_needed(&self, lists: Lists, count: &mut [u8]) -> u64 {
+        Second.steps_needed(lists, count)
+    }
+
     fn pending_counts(&self, lists: Lists, counts: &mut [u8]) -> u64 {
         Second.pending_counts(lists, counts)
     }

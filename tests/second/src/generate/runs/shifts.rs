@@ -111,7 +111,7 @@ fn to_the_end(random: &mut Random, host: &Host, most: usize) -> Vec<u8> {
 }
 
 /// An opening of a form: counts of the opening and the list, and what stands between them.
-fn opening(form: u64, random: &mut Random) -> Opening {
+pub fn opening(form: u64, random: &mut Random) -> Opening {
     let mut keys = keys(random, ITEMS);
     if random.below(4) != 0 && !keys.contains(&0) {
         keys[0] = 0;
