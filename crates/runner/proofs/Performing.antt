@@ -20,6 +20,7 @@ use Rattle.model.specs.Statement.{allWithin}
 use Rattle.model.specs.Proof.Tests.{true-false, eqb-cases}
 use Rattle.model.specs.Proof.Upd.{upd-at, upd-other}
 use Rattle.model.specs.Proof.Finish.Schedule.{steps-append}
+use Rattle.model.specs.Proof.Finish.Ends.{steps-none}
 use Rattle.model.specs.declared.Counters.{Counters}
 use Rattle.graph.specs.Arrays.{NodesWithin}
 use Rattle.command.specs.Read.{commandsIn}
@@ -142,12 +143,7 @@ ahead-named (chosen limit) j lent a more named steady = omega (arith, a .are j m
 
 -- ---- before the first step
 
--- no more steps where none is to come
-steps-none : (o : Setup) (k : ℕ) (s : State) → stepsFrom o k stop s ≡ []
-unfolding stepsFrom
-steps-none o zero s = refl
-steps-none o (suc k) s = refl
-
+-- no more steps after the most
 steps-over : (o : Setup) (n : Next) (s : State) → stepsFrom o 0 n s ≡ []
 unfolding stepsFrom
 steps-over o n s = refl

@@ -137,7 +137,7 @@ unfolding steps ghostSteps allWithin
 two-more o s g t m within l f = let a = f .2 in (rw (le-leb t (o .largest) within) (f .0), f .1, omega arith)
 
 -- where there is nothing to come, there is no step
-steps-none : (o : Setup) (k : ℕ) (s : State) → stepsFrom o k stop s ≡ []
+pub steps-none : (o : Setup) (k : ℕ) (s : State) → stepsFrom o k stop s ≡ []
 unfolding stepsFrom
 steps-none o zero s = refl
 steps-none o (suc k) s = refl
