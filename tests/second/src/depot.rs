@@ -1,5 +1,8 @@
 //! The calls of the proved code that are compared, on numbers and byte lists as C makes them.
 
+#[cfg(test)]
+pub mod altered;
+
 use crate::bytes::Lists;
 use crate::calls::{self, Given, LentLists};
 use crate::program;

@@ -4,7 +4,8 @@
 
 use super::{DISPATCHES, FIXED, dispatches, play};
 use crate::bytes::{self, Lists};
-use crate::calls::{Given, LentLists, TURN_COUNT};
+use crate::calls::{LentLists, TURN_COUNT};
+use crate::depot::altered::Altered;
 use crate::depot::{Depot, Second};
 use crate::dispatch::turns_needed;
 use crate::play::{Difference, Play, dispatches::number};
@@ -171,15 +172,7 @@ impl Flawed {
     }
 }
 
-impl Depot for Flawed {
-    fn open(&self, lent: &mut LentLists, given: Given) -> u64 {
-        Second.open(lent, given)
-    }
-
-    fn advance(&self, lent: &mut LentLists, commands: &[u8], schedule: &[u8]) -> u64 {
-        Second.advance(lent, commands, schedule)
-    }
-
+impl Altered for Flawed {
     fn dispatch(
         &self,
         lent: &mut LentLists,
@@ -227,26 +220,6 @@ impl Depot for Flawed {
             count.copy_from_slice(&less(&run, parts).to_be_bytes());
         }
         answer
-    }
-
-    fn pending_counts(&self, lists: Lists, counts: &mut [u8]) -> u64 {
-        Second.pending_counts(lists, counts)
-    }
-
-    fn worker_status(&self, lists: Lists, status: &mut [u8]) -> u64 {
-        Second.worker_status(lists, status)
-    }
-
-    fn read_identifier(&self, text: &[u8], key: &mut [u8]) -> u64 {
-        Second.read_identifier(text, key)
-    }
-
-    fn write_identifier(&self, key: u64, text: &mut [u8]) -> u64 {
-        Second.write_identifier(key, text)
-    }
-
-    fn program(&self, input: &[u8]) -> Vec<u8> {
-        Second.program(input)
     }
 }
 

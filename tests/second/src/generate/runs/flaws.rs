@@ -2,9 +2,10 @@
 //! and serial runs tell each wrong image without the second program.
 
 use super::{CHECKPOINTS, SWAPS, play};
-use crate::bytes::{self, Lists};
+use crate::bytes;
 use crate::calls::{Asked, Given, LentLists};
 use crate::command::Kind;
+use crate::depot::altered::Altered;
 use crate::depot::{Depot, Second};
 use crate::generate::{Sort, cases};
 use crate::image::{self, RECORD, Record};
@@ -177,7 +178,7 @@ fn chain_length(image: &[u8]) -> usize {
     RECORD * (usize::from(used) + 1)
 }
 
-impl Depot for Flawed {
+impl Altered for Flawed {
     fn open(&self, lent: &mut LentLists, given: Given) -> u64 {
         if let Some(source) = given.source {
             return self.open_from(lent, source, given);
@@ -198,40 +199,6 @@ impl Depot for Flawed {
         }
         let unmeasured = answer == 6 && self.0 == Flaw::Unmeasured && schedule.is_empty();
         if unmeasured { 0 } else { answer }
-    }
-
-    fn dispatch(
-        &self,
-        lent: &mut LentLists,
-        commands: &[u8],
-        schedule: &mut [u8],
-        count: &mut [u8],
-    ) -> u64 {
-        Second.dispatch(lent, commands, schedule, count)
-    }
-
-    fn steps_needed(&self, lists: Lists, count: &mut [u8]) -> u64 {
-        Second.steps_needed(lists, count)
-    }
-
-    fn pending_counts(&self, lists: Lists, counts: &mut [u8]) -> u64 {
-        Second.pending_counts(lists, counts)
-    }
-
-    fn worker_status(&self, lists: Lists, status: &mut [u8]) -> u64 {
-        Second.worker_status(lists, status)
-    }
-
-    fn read_identifier(&self, text: &[u8], key: &mut [u8]) -> u64 {
-        Second.read_identifier(text, key)
-    }
-
-    fn write_identifier(&self, key: u64, text: &mut [u8]) -> u64 {
-        Second.write_identifier(key, text)
-    }
-
-    fn program(&self, input: &[u8]) -> Vec<u8> {
-        Second.program(input)
     }
 }
 

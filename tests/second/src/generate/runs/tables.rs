@@ -13,9 +13,10 @@ use super::{
     ANNOUNCEMENTS, CHECKPOINTS, DISPATCHES, FIXED, PASSES, READS, ROUND, SHIFTS, SWAPS,
     announcements, checkpoints, limits, passes, play, reads, schedules, shifts,
 };
-use crate::bytes::{self, FREE, Lists, USED};
+use crate::bytes::{self, FREE, USED};
 use crate::calls::{Given, LentLists};
 use crate::command::Kind;
+use crate::depot::altered::Altered;
 use crate::depot::{Depot, Second};
 use crate::generate::images::Draft;
 use crate::image;
@@ -133,7 +134,8 @@ fn put(lent: &mut LentLists, table: &Store) {
     bytes::write_numbers(&[table.used], &mut lent.state[USED..FREE]);
 }
 
-impl Depot for Showing {
+/// A dispatch goes on with the table that is shown.
+impl Altered for Showing {
     fn open(&self, lent: &mut LentLists, given: Given) -> u64 {
         let answer = Second.open(lent, given);
         if answer == 0 {
@@ -164,41 +166,6 @@ impl Depot for Showing {
             }
         }
         0
-    }
-
-    /// Goes on with the table that is shown.
-    fn dispatch(
-        &self,
-        lent: &mut LentLists,
-        commands: &[u8],
-        schedule: &mut [u8],
-        count: &mut [u8],
-    ) -> u64 {
-        Second.dispatch(lent, commands, schedule, count)
-    }
-
-    fn steps_needed(&self, lists: Lists, count: &mut [u8]) -> u64 {
-        Second.steps_needed(lists, count)
-    }
-
-    fn pending_counts(&self, lists: Lists, counts: &mut [u8]) -> u64 {
-        Second.pending_counts(lists, counts)
-    }
-
-    fn worker_status(&self, lists: Lists, status: &mut [u8]) -> u64 {
-        Second.worker_status(lists, status)
-    }
-
-    fn read_identifier(&self, text: &[u8], key: &mut [u8]) -> u64 {
-        Second.read_identifier(text, key)
-    }
-
-    fn write_identifier(&self, key: u64, text: &mut [u8]) -> u64 {
-        Second.write_identifier(key, text)
-    }
-
-    fn program(&self, input: &[u8]) -> Vec<u8> {
-        Second.program(input)
     }
 }
 
