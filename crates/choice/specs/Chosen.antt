@@ -1,9 +1,8 @@
 -- What the choice promises: a thread that there can be and, on every state that the numbers and arrays show, the model's. Assumes nothing.
 use Prim.Native.Nat.{ℕ, _≤_}
 use mathlib.Core.Path.{_≡_}
-use mathlib.Core.Bool.{Bool, true, false, cond}
+use mathlib.Core.Bool.{Bool, true, false, cond, not, _&&_}
 use mathlib.Core.List.{List}
-use mathlib.Core.Logic.{_⊎_}
 use lib.ListN.{length, getD}
 use Rattle.model.specs.declared.Thread.{Thread}
 use Rattle.model.specs.declared.Thread.the-variants.{Idle}
@@ -29,9 +28,16 @@ Fresh settled first seq threads loaded count largest p =
     (p .thread ≤ 64) × ((o : Setup) (s : State) → s .graph .next 0 ≡ first → s .graph .loaded ≡ loaded → length (o .commands) ≡ count
     → o .largest ≡ largest → s .graph .seq ≡ numbers seq → ((t : ℕ) → s .threads t ≡ getD threads t Idle) → nextOf p ≡ Dispatch.fresh o settled s)
 
--- what comes after the steps of a plan: where the dispatcher chooses, its thread while that goes on, and else another; a plan that is not going has
--- no thread
-pub record Planned (chooses : Bool) (plan : Plan) (first : ℕ) (seq : List ℕ) (threads : List Thread) (loaded count largest : ℕ) (r : Plan) : Type 0 where
+-- whether the thread of a plan goes on; a plan that is not going has none
+abbrev pub staysWith : Plan → Thread → Bool
+staysWith plan thread = plan .going && goesOn (plan .settled) thread
+
+-- whether all threads must be looked at: where the dispatcher chooses, while not settled, and the thread does not go on
+abbrev pub looksAt : Bool → Plan → Thread → Bool
+looksAt chooses plan thread = chooses && not (plan .settled) && not (staysWith plan thread)
+
+-- where they need not: the plan while its thread goes on, and then, as it is settled, what comes where all are idle
+pub record Kept (chooses : Bool) (plan : Plan) (thread : Thread) (first loaded count : ℕ) (r : Plan) : Type 0 where
   pub named : r .thread ≤ 64
-  pub same : plan .going ≡ true → goesOn (plan .settled) (getD threads (plan .thread) Idle) ≡ true → r ≡ plan
-  pub other : chooses ≡ true → (plan .going ≡ false) ⊎ (goesOn (plan .settled) (getD threads (plan .thread) Idle) ≡ false) → Fresh (plan .settled) first seq threads loaded count largest r
+  pub same : staysWith plan thread ≡ true → r ≡ plan
+  pub other : chooses ≡ true → staysWith plan thread ≡ false → (plan .settled ≡ true) × Served first loaded count r

@@ -1,11 +1,12 @@
 // The dispatcher's choice: which thread steps next, of the threads and of the few parts of the graph that it goes by.
 ghost use mathlib.Core.Path.{_≡_};
+ghost use mathlib.Core.Bool.{false};
 ghost use Prim.Native.Nat.{ℕ, suc, _≤_};
 ghost use lib.ListN.{getD};
 ghost use Rattle.model.specs.declared.Thread.the-variants.{Idle};
 ghost use Rattle.model.specs.Dispatch.{rank, foremost, goesOn};
 ghost use Rattle.graph.specs.Arrays.{numbers, NodesWithin};
-ghost use Rattle.choice.specs.Chosen.{Served, Fresh, Planned};
+ghost use Rattle.choice.specs.Chosen.{Served, Fresh, Kept, looksAt};
 use model::Thread;
 use node_set::Node;
 
@@ -104,9 +105,24 @@ fn served(first: u8, loaded: usize, count: usize) -> Plan
     }
 }
 
-// Another thread than before: while not settled the foremost of all, unless all are idle.
-fn fresh(
-    settled: bool,
+// Whether all threads must be looked at: where the dispatcher chooses, while not settled, and the thread of the plan does not go on.
+pub fn looks(chooses: bool, plan: Plan, thread: Thread) -> bool
+    ensures { λ r. ⌜ r ≡ looksAt chooses plan thread ⌝ }
+{
+    if !chooses {
+        return false;
+    }
+    if plan.settled {
+        return false;
+    }
+    if plan.going {
+        return !goes_on(false, thread);
+    }
+    true
+}
+
+// The foremost of all threads, unless all are idle.
+pub fn look_around(
     first: u8,
     seq: &[u16; 151],
     threads: [Thread; 65],
@@ -115,11 +131,8 @@ fn fresh(
     largest: u8,
 ) -> Plan
     requires { ⌜ ((t : ℕ) → NodesWithin (getD threads t Idle)) × (largest ≤ 64) ⌝ }
-    ensures { λ r. ⌜ Fresh settled first (now (seq .entry)) threads loaded count largest r ⌝ }
+    ensures { λ r. ⌜ Fresh false first (now (seq .entry)) threads loaded count largest r ⌝ }
 {
-    if settled {
-        return served(first, loaded, count);
-    }
     let t = foremost_of(seq, threads, largest);
     let thread = threads[t as usize];
     if rank_of(seq, thread) == 0 {
@@ -132,29 +145,26 @@ fn fresh(
     }
 }
 
-// What comes next: where the dispatcher chooses, the thread of the plan while it goes on, and then another; else the plan stays.
+// What comes next where not all threads must be looked at: the thread of the plan while it goes on, and then, as it is settled,
+// worker 1 or the loader; where the dispatcher does not choose, the plan stays.
 pub fn next_plan(
     chooses: bool,
     plan: Plan,
+    thread: Thread,
     first: u8,
-    seq: &[u16; 151],
-    threads: [Thread; 65],
     loaded: usize,
     count: usize,
-    largest: u8,
 ) -> Plan
-    requires { ⌜ (plan .thread ≤ 64) × ((t : ℕ) → NodesWithin (getD threads t Idle)) × (largest ≤ 64) ⌝ }
-    ensures { λ r. ⌜ Planned chooses plan first (now (seq .entry)) threads loaded count largest r ⌝ }
+    requires { ⌜ (plan .thread ≤ 64) × (looksAt chooses plan thread ≡ false) ⌝ }
+    ensures { λ r. ⌜ Kept chooses plan thread first loaded count r ⌝ }
 {
     if !chooses {
         return plan;
     }
     if plan.going {
-        let t = plan.thread as usize;
-        let thread = threads[t];
         if goes_on(plan.settled, thread) {
             return plan;
         }
     }
-    fresh(plan.settled, first, seq, threads, loaded, count, largest)
+    served(first, loaded, count)
 }

@@ -195,7 +195,7 @@ pub fn dispatch(
         answers,
         image,
         commands,
-        commands,
+        commands, // no schedule is given
         schedule,
         true,
         limit,

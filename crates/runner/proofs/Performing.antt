@@ -3,13 +3,13 @@ use Prim.Native.Nat.{ℕ, zero, suc, _+_, _-_, _≤_, _<_}
 use native.Mathlib.Omega.{arith}
 use native.Mathlib.Numerals.{add-one}
 use mathlib.Core.Path.{_≡_, refl, sym, ap, _∙_, fun-ext, subst}
-use mathlib.Core.Bool.{Bool, true, false, cond, and-eq-true-iff}
+use mathlib.Core.Bool.{Bool, true, false, cond, not, _&&_, and-eq-true-iff}
 use mathlib.Core.List.{List, [], _∷_, _++_, append-assoc, append-nil}
 use mathlib.Core.Logic.{_⊎_, inl, inr, ⊎-elim}
 use lib.ListN.{length, getD, take, drop, set, length-set, length-append, length-drop, drop-of-length-le}
 use lib.Dec.{leb}
 use lib.Seq.{take-suc, length-take-le, drop-cons, set-append-seam, getD-set-same, getD-set-other}
-use borrow.Author.Tests.{leb-true, le-leb, ne-eqb}
+use borrow.Author.Tests.{leb-true, le-leb, ne-eqb, not-true}
 use Rattle.model.specs.declared.Thread.{Thread}
 use Rattle.model.specs.declared.Thread.the-variants.{Idle}
 use Rattle.model.specs.Upd.{upd}
@@ -30,7 +30,7 @@ use Rattle.state_bytes.specs.declared.Settings.{Settings}
 use Rattle.state_bytes.specs.Layout.{Lists, allLists, listsOf}
 use Rattle.state_bytes.specs.Written.{Sets, Shown, Lays}
 use Rattle.choice.specs.declared.Plan.{Plan}
-use Rattle.choice.specs.Chosen.{nextOf, Fresh, Planned}
+use Rattle.choice.specs.Chosen.{nextOf, Fresh, staysWith, looksAt, Kept as Kept′}
 use Rattle.runner.specs.Performed.{Order, given, chosen, orderFrom, scheduleOf, Named, writtenIn, most, nextThread, Over, Ahead, notedIn, Performed}
 use Rattle.byte_fields.proofs.Bytes.{tabulate-elements}
 
@@ -228,9 +228,33 @@ block-more {m₁} {m′} {threads₁} {threads} ahead j thread h high stepped ke
 
 -- ---- the invariant when another thread is planned
 
--- a plan made of the arrays
-abbrev pub PlannedBy : Settings → Bool → Plan → Memory → List Thread → Plan → Type 0
-PlannedBy c chooses plan m threads plan′ = Planned chooses plan (getD (m .graph .next) 0 0) (m .graph .seq) threads (m .graph .loaded) (c .count) (c .largest) plan′
+-- a plan made of the arrays: the same while its thread goes on, and else another
+pub record PlannedBy (c : Settings) (chooses : Bool) (plan : Plan) (m : Memory) (threads : List Thread) (plan′ : Plan) : Type 0 where
+  pub named : plan′ .thread ≤ 64
+  pub same : staysWith plan (threadsOf threads (plan .thread)) ≡ true → plan′ ≡ plan
+  pub other : chooses ≡ true → staysWith plan (threadsOf threads (plan .thread)) ≡ false
+      → Fresh (plan .settled) (getD (m .graph .next) 0 0) (m .graph .seq) threads (m .graph .loaded) (c .count) (c .largest) plan′
+
+-- made by looking at all threads
+module _ (c : Settings) (chooses : Bool) (plan : Plan) (m : Memory) (threads : List Thread) (plan′ : Plan) where
+  pub by-looking : looksAt chooses plan (threadsOf threads (plan .thread)) ≡ true → Fresh false (getD (m .graph .next) 0 0) (m .graph .seq) threads (m .graph .loaded) (c .count) (c .largest) plan′
+      → PlannedBy c chooses plan m threads plan′
+  by-looking looks f =
+      let both = and-eq-true-iff (chooses && not (plan .settled)) (not (staysWith plan (threadsOf threads (plan .thread)))) .0 looks in
+      let unsettled : plan .settled ≡ false = not-true (plan .settled) (and-eq-true-iff chooses (not (plan .settled)) .0 (both .0) .1) in
+      let ends : staysWith plan (threadsOf threads (plan .thread)) ≡ false = not-true _ (both .1) in
+      record { named = f .0; same = λ stays. absurd (true-false _ stays ends); other = λ _ _. rw unsettled f }
+
+  -- or without
+  pub by-keeping : Kept′ chooses plan (threadsOf threads (plan .thread)) (getD (m .graph .next) 0 0) (m .graph .loaded) (c .count) plan′ → PlannedBy c chooses plan m threads plan′
+  unfolding fresh
+  by-keeping k = record {
+    named = k .named;
+    same = k .same;
+    other = λ chosen ends.
+        let settled = k .other chosen ends in
+        (settled .1 .0, λ o s first loaded count largest seq ts. settled .1 .1 o s first loaded count ∙ rw (settled .0));
+  }
 
 -- what follows a step, by whether the thread goes on
 follows-on : (o : Setup) (settled : Bool) (t : ℕ) (s : State) → goesOn settled (s .threads t) ≡ true → following o settled t s ≡ stepOf settled t
@@ -249,16 +273,16 @@ planned c plan m threads plan′ p o sets = going (plan .going) refl
     s : State
     s = shown m (threadsOf threads)
 
-    another : (plan .going ≡ false) ⊎ (goesOn (plan .settled) (threadsOf threads (plan .thread)) ≡ false) → nextOf plan′ ≡ fresh o (plan .settled) s
-    another why = p .other refl why .1 o s refl refl (sets .count) (sets .largest) refl (λ t. refl)
+    another : staysWith plan (threadsOf threads (plan .thread)) ≡ false → nextOf plan′ ≡ fresh o (plan .settled) s
+    another ends = p .other refl ends .1 o s refl refl (sets .count) (sets .largest) refl (λ t. refl)
 
     goes : plan .going ≡ true → (b : Bool) → goesOn (plan .settled) (threadsOf threads (plan .thread)) ≡ b → nextOf plan′ ≡ following o (plan .settled) (plan .thread) s
-    goes g true e = rw (p .same g e, g) (sym (follows-on o (plan .settled) (plan .thread) s e))
-    goes g false e = another (inr e) ∙ sym (follows-fresh o (plan .settled) (plan .thread) s e)
+    goes g true e = rw (p .same (rw (g, e)), g) (sym (follows-on o (plan .settled) (plan .thread) s e))
+    goes g false e = another (rw (g, e)) ∙ sym (follows-fresh o (plan .settled) (plan .thread) s e)
 
     going : (b : Bool) → plan .going ≡ b → nextOf plan′ ≡ afterwards o plan s
     going true g = rw g (goes g _ refl)
-    going false g = rw g (another (inl g))
+    going false g = rw g (another (rw g))
 
 -- so what is left is what the new plan begins with
 replanned : (c : Settings) (plan : Plan) (m : Memory) (threads : List Thread) (plan′ : Plan) (b : Bool) (schedule : List ℕ) (limit i : ℕ) (s₀ : State) (made : List ℕ) → PlannedBy c b plan m threads plan′ → (o : Setup) → Sets c o

@@ -9,6 +9,8 @@ ghost use Rattle.state_bytes.specs.Layout.{allLists, allAtEntry, allAtExit, sta
 ghost use Rattle.runner.specs.Performed.{CountersIn, SettingsIn, given, orderFrom, Named, most, notedIn, CallPasses, Ran, Ahead, Performs, Performed};
 use byte_fields::number_at;
 use choice::Plan;
+use choice::look_around;
+use choice::looks;
 use choice::next_plan;
 use command::Seq;
 use model::Counters;
@@ -222,16 +224,13 @@ fn perform(
     let mut done = 0;
     loop {
         let loaded = counters.loaded.0;
-        plan = next_plan(
-            chooses,
-            plan,
-            next[0],
-            &seq,
-            threads,
-            loaded,
-            count,
-            largest,
-        );
+        let at = plan.thread as usize;
+        let current = threads[at];
+        if looks(chooses, plan, current) {
+            plan = look_around(next[0], &seq, threads, loaded, count, largest);
+        } else {
+            plan = next_plan(chooses, plan, current, next[0], loaded, count);
+        }
         let n = look_ahead(&mut ahead, lent, chooses, plan, schedule, limit, done);
         if n == 0 {
             break;

@@ -1,4 +1,4 @@
--- `choice::fresh` meets its contract: the foremost thread is the model's, and so is its rank. Assumes nothing.
+-- `choice::look_around` meets its contract: the foremost thread is the model's, and so is its rank. Assumes nothing.
 use Prim.Native.Nat.{ℕ, _≤_}
 use native.Mathlib.Omega.{arith}
 use mathlib.Core.Path.{_≡_, sym}
@@ -15,8 +15,8 @@ use Rattle.model.specs.Step.{State}
 use Rattle.model.specs.Dispatch as Dispatch
 use Rattle.model.specs.Proof.Finish.Foremost.{foremost-within}
 use Rattle.graph.specs.Arrays.{numbers}
-use Rattle.choice.proofs.fresh.Statement.{statement}
-use Rattle.choice.proofs.fresh.Tie as tie
+use Rattle.choice.proofs.look_around.Statement.{statement}
+use Rattle.choice.proofs.look_around.Tie as tie
 
 -- while not settled the model goes by the foremost thread t and its rank r, for the arrays show its numbers and threads
 by-foremost : (o : Setup) (s : State) (seq : List ℕ) (threads : List Thread) {largest t r : ℕ}
@@ -27,13 +27,6 @@ unfolding Dispatch.fresh Dispatch.chosen
 by-foremost o s seq threads {largest} {t} largest-is seq-is threads-are is has =
     let chosen : Dispatch.chosen o s ≡ t = simp (largest-is, seq-is, threads-are) (sym is) in
     rw (chosen, seq-is, threads-are t, ← has)
-
-served-requires : tie.Need-served-requires
-served-requires c κs = search needs
-
-returns : tie.Need-returns
-unfolding Dispatch.fresh
-returns c = (c .served .ensures .0, λ o s first loaded count largest seq threads. rw (c .before .if1 .taken) (c .served .ensures .1 o s first loaded count))
 
 foremost-of-requires : tie.Need-foremost-of-requires
 foremost-of-requires c κs = search needs
@@ -47,50 +40,48 @@ mul-thread c = search needs
 -- the foremost thread is one of those up to the largest worker count
 few : (c : tie.After-foremost-of) → c .foremost-of .result ≤ 64
 few c =
-    let a = c .before .before .args in
-    omega (arith, c .before .before .pre .1, c .foremost-of .ensures, foremost-within (λ u. Dispatch.rank (numbers (a .seq .now)) (getD (a .t4) u Idle)) (a .largest))
+    let a = c .before .args in
+    omega (arith, c .before .pre .1, c .foremost-of .ensures, foremost-within (λ u. Dispatch.rank (numbers (a .seq .now)) (getD (a .t3) u Idle)) (a .largest))
 
 array-copy-out-thread : tie.Need-array-copy-out-thread
 array-copy-out-thread c = omega (arith, few c)
 
 rank-of-requires : tie.Need-rank-of-requires
-rank-of-requires c κs = c .before .before .before .pre .0 _
+rank-of-requires c κs = c .before .before .pre .0 _
 
-served-requires-2 : tie.Need-served-requires-2
-served-requires-2 c κs = search needs
+served-requires : tie.Need-served-requires
+served-requires c κs = search needs
+
+returns : tie.Need-returns
+returns c =
+    let ranked = c .before .before in
+    let found = ranked .before .before in
+    let a = found .before .args in (
+      c .served .ensures .0,
+      λ o s first loaded count largest seq threads.
+          rw (by-foremost o s (a .seq .now) (a .t3) largest seq threads (found .foremost-of .ensures) (ranked .rank-of .ensures), eq-eqb _ 0 (c .before .if1 .taken))
+          (c .served .ensures .1 o s first loaded count),
+    )
 
 returns-2 : tie.Need-returns-2
 returns-2 c =
-    let ranked = c .before .before in
-    let found = ranked .before .before in
-    let a = found .before .before .args in (
-      c .served2 .ensures .0,
-      λ o s first loaded count largest seq threads.
-          rw (found .before .if1 .left, by-foremost o s (a .seq .now) (a .t4) largest seq threads (found .foremost-of .ensures) (ranked .rank-of .ensures), eq-eqb _ 0 (c .before .if2 .taken))
-          (c .served2 .ensures .1 o s first loaded count),
-    )
-
-returns-3 : tie.Need-returns-3
-returns-3 c =
     let ranked = c .before in
     let found = ranked .before .before in
-    let a = found .before .before .args in (
+    let a = found .before .args in (
       few found,
       λ o s first loaded count largest seq threads.
-          rw (found .before .if1 .left, by-foremost o s (a .seq .now) (a .t4) largest seq threads (found .foremost-of .ensures) (ranked .rank-of .ensures), ne-eqb _ 0 (c .if2 .left)),
+          rw (by-foremost o s (a .seq .now) (a .t3) largest seq threads (found .foremost-of .ensures) (ranked .rank-of .ensures), ne-eqb _ 0 (c .if1 .left)),
     )
 
-pub fresh-spec : {M : Type 1} → statement M
-fresh-spec =
+pub look-around-spec : {M : Type 1} → statement M
+look-around-spec =
     tie.close
     (tie.spec
-    served-requires
-    returns
     foremost-of-requires
     cast-thread
     mul-thread
     array-copy-out-thread
     rank-of-requires
-    served-requires-2
-    returns-2
-    returns-3)
+    served-requires
+    returns
+    returns-2)
