@@ -36,7 +36,7 @@ module _ {left used size largest : ℕ} where
   -- the bound's parts are those of the state that the lists hold
   needed-of : (l : Lists) (commands : List ℕ) → Parts (l .state) left used size largest → length (commandsIn commands) ≡ countIn (l .state)
       → (left + used + largest) * (3 * size + 6) ≡ neededNow l commands
-  unfolding neededNow stepsNeeded commandsLeft setupIn countIn
+  unfolding neededNow stepsNeeded commandsLeft setupIn countIn stateIn
   needed-of l commands p count =
       let loaded = ap (λ (n : ℕ). n - numberAt 2 8 (l .state)) (sym count) in
       let nodes = ap (λ (n : ℕ). countBelow (suc n) (λ n. not (eqb (stateIn l .graph .seq n) 0))) (p .size-is) in
