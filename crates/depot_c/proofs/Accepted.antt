@@ -71,10 +71,12 @@ advance-accepted l commands schedule =
 abbrev IsMade : DispatchOutcome → Type 0
 IsMade outcome = packed (Dispatcher.refusalIn outcome) ≡ 0 → (d : Made) × (outcome ≡ made d)
 
+-- a number from 1 on is no answer 0
 unmade-number : (n : ℕ) → 0 < n → IsMade (Dispatcher.refused (plain n))
 unfolding Dispatcher.refusalIn
 unmade-number n some e = absurd (omega arith)
 
+-- test by test, as above
 dispatch-made : (l : Lists) (commands lent : List ℕ) → IsMade (dispatchOn l commands lent)
 unfolding dispatchOn
 dispatch-made l commands lent =
@@ -84,13 +86,14 @@ dispatch-made l commands lent =
     (λ _. unmade-number 6 (omega arith))) (λ _. unmade-number 12 (omega arith))) (λ _. unmade-number 6 (omega arith))
 
 -- a count of another length than eight bytes answers 6
-long-answered : (long : Bool) (n : ℕ) → cond long n 6 ≡ 0 → (long ≡ true) × (n ≡ 0)
-long-answered true n e = (refl, e)
-long-answered false n e = absurd (omega arith)
+long-if-zero : (long : Bool) (n : ℕ) → cond long n 6 ≡ 0 → (long ≡ true) × (n ≡ 0)
+long-if-zero true n e = (refl, e)
+long-if-zero false n e = absurd (omega arith)
 
 -- so a call that answers 0 was lent eight bytes for the count, and dispatched
 pub dispatch-accepted : (b : Lists) (commands lent count : List ℕ) → dispatchAnswer b commands lent count ≡ 0
     → (countLong count ≡ true) × (d : Made) × (dispatchOn (decoded b) commands lent ≡ made d)
 dispatch-accepted b commands lent count e =
-    let both = long-answered (countLong count) _ e in
-    (both .0, dispatch-made (decoded b) commands lent (both .1))
+    let both = long-if-zero (countLong count) _ e in
+    let is = dispatch-made (decoded b) commands lent (both .1) in
+    (both .0, is .0, is .1)

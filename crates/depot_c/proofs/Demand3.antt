@@ -66,7 +66,7 @@ pub record BytesReach (o : Setup) (b : Lists) (ts : List ℕ) : Type 0 where
   pub bytes : b ≡ encoded lists
   pub reach : Reach o lists ts
 
--- the byte lists of an accepted opening are those of the lists that no step has left
+-- the byte lists of an accepted opening are those that the empty schedule reaches
 pub opening-bytes : (size workers capacity : ℕ) (commands : List ℕ) (source : Source) (lent b : Lists)
     → openAnswer size workers capacity commands source lent ≡ 0 → openLeft size workers capacity commands source lent ≡ b
     → let o : Setup = setupOf size workers capacity commands source in
@@ -75,12 +75,15 @@ unfolding left
 opening-bytes size workers capacity commands source lent b answer is =
     let o : Setup = setupOf size workers capacity commands source in
     let a = opening-accepted size workers capacity commands source (decoded lent) answer in
-    let opening : IsOpened o commands (a .0) = accepted-opening size workers capacity commands source (decoded lent) (a .0) (a .1) in
-    (opening .setup, opening .long, record {
-      lists = a .0;
-      bytes = sym is ∙ ap (λ (x : CallOutcome). left x lent) (a .1);
-      reach = opening-reaches o (a .0) (opening .lists);
-    })
+    let opening : IsOpened o commands (a .0) = accepted-opening size workers capacity commands source (decoded lent) (a .0) (a .1) in (
+      opening .setup,
+      opening .long,
+      record {
+        lists = a .0;
+        bytes = sym is ∙ ap (λ (x : CallOutcome). left x lent) (a .1);
+        reach = opening-reaches o (a .0) (opening .lists);
+      },
+    )
 
 -- a call that answers 0 adds its schedule, and any other adds nothing and leaves the byte lists
 pub answered-reaches : (o : Setup) (answer : ℕ) (after b : Lists) (ts schedule : List ℕ) → (answer ≡ 0 → BytesReach o after (ts ++ schedule)) → BytesReach o b ts
@@ -126,7 +129,7 @@ module _ (o : Setup) (acc : Accepted o) (commands : List ℕ) (same : o .command
         reach = accepted-reaches o acc commands same long (r .lists) (a .0) ts schedule (r .reach) (ap (λ (l : Lists). advanceOn l commands schedule) (sym (read-reached b ts r)) ∙ a .1);
       }
 
-  -- a proper call is handed the byte lists reached
+  -- a proper call, if it answers 0, was handed the byte lists reached, and goes on from there
   pub call-reaches : (call : Call) (b : Lists) (ts : List ℕ) → (answerTo call ≡ 0 → (call .lists ≡ b) × (call .commands ≡ commands)) → BytesReach o b ts
       → BytesReach o (afterCall call b) (ts ++ cond (eqb (answerTo call) 0) (call .schedule) [])
   unfolding answerTo afterCall
