@@ -7,7 +7,7 @@ use native.Mathlib.Omega.{arith}
 use mathlib.Core.Path.{_≡_, refl, ap, _∙_}
 use mathlib.Core.Bool.{true, not}
 use mathlib.Core.List.{List, [], _∷_, _++_, append-assoc, append-nil}
-use lib.ListN.{length}
+use lib.ListN.{length, take}
 use lib.Dec.{eqb}
 use borrow.Author.Tests.{eq-eqb}
 use Rattle.byte_fields.specs.Bytes.{numberAt, bytesOf}
@@ -64,7 +64,7 @@ module _ (b : Lists) (commands lent count : List ℕ) (long : countLong count �
   -- so the schedule is as many bytes of the lent list as they say
   made-written : bytesWritten b commands lent count ≡ scheduleIn d
   unfolding bytesWritten refusalIn countIn lentLeft
-  made-written = rw (long, e) (rw count-read)
+  made-written = rw (long, e) (ap (λ (n : ℕ). take n (d .schedule)) count-read)
 
 -- handed to `depot_advance`, what an accepted call wrote leaves the same bytes
 by-hand : (b : Lists) (commands lent count : List ℕ) → dispatchAnswer b commands lent count ≡ 0
