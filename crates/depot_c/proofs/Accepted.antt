@@ -2,7 +2,7 @@
 use Prim.Native.Nat.{ℕ, _+_, _/_, _%_, _<_}
 use native.Mathlib.Omega.{arith}
 use mathlib.Core.Path.{_≡_, refl}
-use mathlib.Core.Bool.{_&&_}
+use mathlib.Core.Bool.{Bool, true, false, cond, _&&_}
 use mathlib.Core.List.{List, [], _∷_}
 use lib.ListN.{length}
 use lib.Dec.{eqb, leb}
@@ -16,7 +16,9 @@ use Rattle.state_bytes.specs.Layout.{Lists, setupIn, lengthsFit, stateFits, han
 use Rattle.state_bytes.specs.Outcome.{CallOutcome, accepted, refused, refusalIn}
 use Rattle.opening.specs.Calls.{Source, sourceLong, sourceChained, sourceFits, openedWith, openOn, setupOf}
 use Rattle.controller.specs.Calls.{advanceOn}
-use Rattle.depot_c.specs.Boundary.{answerOf}
+use Rattle.dispatcher.specs.Calls.{neededNow, Made, DispatchOutcome, made, dispatchOn}
+use Rattle.dispatcher.specs.Calls as Dispatcher
+use Rattle.depot_c.specs.Boundary.{decoded, packed, answerOf, countLong, dispatchAnswer}
 
 -- an accepted call answers 0
 pub accepted-answers : (l : Lists) → answerOf (accepted l) ≡ 0
@@ -62,3 +64,36 @@ advance-accepted l commands schedule =
     cond-cases IsAccepted (stateFits l) (λ _.
     cond-cases IsAccepted (allWithin _ schedule) (λ _ _. (_, refl))
     (λ _. refused-number 11 (omega arith))) (λ _. refused-number 12 (omega arith))) (λ _. refused-number 6 (omega arith))
+
+-- ---- dispatching
+
+-- an outcome of the dispatcher that answers 0 is no refusal
+abbrev IsMade : DispatchOutcome → Type 0
+IsMade outcome = packed (Dispatcher.refusalIn outcome) ≡ 0 → (d : Made) × (outcome ≡ made d)
+
+-- a number from 1 on is no answer 0
+unmade-number : (n : ℕ) → 0 < n → IsMade (Dispatcher.refused (plain n))
+unfolding Dispatcher.refusalIn
+unmade-number n some e = absurd (omega arith)
+
+-- test by test, as above
+dispatch-made : (l : Lists) (commands lent : List ℕ) → IsMade (dispatchOn l commands lent)
+unfolding dispatchOn
+dispatch-made l commands lent =
+    cond-cases IsMade (handedBackFit l commands && imageFits (setupIn (l .state) commands .capacity) l) (λ _.
+    cond-cases IsMade (stateFits l) (λ _.
+    cond-cases IsMade (leb (neededNow l commands) (length lent)) (λ _ _. (_, refl))
+    (λ _. unmade-number 6 (omega arith))) (λ _. unmade-number 12 (omega arith))) (λ _. unmade-number 6 (omega arith))
+
+-- a count of another length than eight bytes answers 6
+long-if-zero : (long : Bool) (n : ℕ) → cond long n 6 ≡ 0 → (long ≡ true) × (n ≡ 0)
+long-if-zero true n e = (refl, e)
+long-if-zero false n e = absurd (omega arith)
+
+-- so a call that answers 0 was lent eight bytes for the count, and dispatched
+pub dispatch-accepted : (b : Lists) (commands lent count : List ℕ) → dispatchAnswer b commands lent count ≡ 0
+    → (countLong count ≡ true) × (d : Made) × (dispatchOn (decoded b) commands lent ≡ made d)
+dispatch-accepted b commands lent count e =
+    let both = long-if-zero (countLong count) _ e in
+    let is = dispatch-made (decoded b) commands lent (both .1) in
+    (both .0, is .0, is .1)

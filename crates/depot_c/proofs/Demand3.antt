@@ -22,12 +22,12 @@ use Rattle.state_bytes.proofs.StateParts.{thread-length, part-lies}
 use Rattle.state_bytes.proofs.RoundTrip.{lists-state, lists-answers, lists-keys, lists-chutes}
 use Rattle.state_bytes.specs.Outcome.{CallOutcome, accepted}
 use Rattle.controller.specs.Calls.{advanceOn}
-use Rattle.opening.specs.Calls.{setupOf}
+use Rattle.opening.specs.Calls.{Source, setupOf}
 use Rattle.controller.specs.Demand3.{Call}
 use Rattle.opening.proofs.Accepted.{IsOpened, accepted-opening}
 use Rattle.controller.proofs.Demand3.{Reach, opening-reaches, formed, accepted-reaches, state-is, holds}
 use Rattle.depot_c.specs.Numbers.{bytesIn}
-use Rattle.depot_c.specs.Boundary.{areWhole, numberLists, decoded, encoded, left, advanceAnswer, advanceLeft}
+use Rattle.depot_c.specs.Boundary.{areWhole, numberLists, decoded, encoded, left, openAnswer, openLeft, advanceAnswer, advanceLeft}
 use Rattle.depot_c.specs.Demand3.{answerTo, afterCall, bytesAfter, ProperBytes, bytesSchedules, answerAt, TableIs, IsIdle, BytesHoldAfter, Demand3OverBytes}
 use Rattle.depot_c.proofs.Entries.{bytes-in-length, number-in-bytes, bytes-in-read-back}
 use Rattle.depot_c.proofs.Outcomes.{decoded-whole}
@@ -60,6 +60,40 @@ encoded-read-back l fit =
 
 -- ---- what calls reach
 
+-- the byte lists are those of lists that a schedule reaches
+pub record BytesReach (o : Setup) (b : Lists) (ts : List ℕ) : Type 0 where
+  pub lists : Lists
+  pub bytes : b ≡ encoded lists
+  pub reach : Reach o lists ts
+
+-- the byte lists of an accepted opening are those that the empty schedule reaches
+pub opening-bytes : (size workers capacity : ℕ) (commands : List ℕ) (source : Source) (lent b : Lists)
+    → openAnswer size workers capacity commands source lent ≡ 0 → openLeft size workers capacity commands source lent ≡ b
+    → let o : Setup = setupOf size workers capacity commands source in
+    Accepted o × (length commands ≡ 16 * length (o .commands)) × BytesReach o b []
+unfolding left
+opening-bytes size workers capacity commands source lent b answer is =
+    let o : Setup = setupOf size workers capacity commands source in
+    let a = opening-accepted size workers capacity commands source (decoded lent) answer in
+    let opening : IsOpened o commands (a .0) = accepted-opening size workers capacity commands source (decoded lent) (a .0) (a .1) in (
+      opening .setup,
+      opening .long,
+      record {
+        lists = a .0;
+        bytes = sym is ∙ ap (λ (x : CallOutcome). left x lent) (a .1);
+        reach = opening-reaches o (a .0) (opening .lists);
+      },
+    )
+
+-- a call that answers 0 adds its schedule, and any other adds nothing and leaves the byte lists
+pub answered-reaches : (o : Setup) (answer : ℕ) (after b : Lists) (ts schedule : List ℕ) → (answer ≡ 0 → BytesReach o after (ts ++ schedule)) → BytesReach o b ts
+    → BytesReach o (cond (eqb answer 0) after b) (ts ++ cond (eqb answer 0) schedule [])
+answered-reaches o answer after b ts schedule zero-reaches r = by (eqb answer 0) refl
+  where
+    by : (t : Bool) → eqb answer 0 ≡ t → BytesReach o (cond t after b) (ts ++ cond t schedule [])
+    by true e = zero-reaches (eqb-true answer 0 e)
+    by false e = rw (append-nil ts) r
+
 module _ (o : Setup) (acc : Accepted o) (commands : List ℕ) (same : o .commands ≡ commandsIn commands) (long : length commands ≡ 16 * length (o .commands)) where
   -- the numbers of a reached state's lists fit: each key is a command's, a first entry's or 0, and an answer is a number of two bytes
   state-bounded : (ts : List ℕ) → allWithin (o .largest) ts ≡ true → Bounded (listsOf o (steps o ts (opened o)))
@@ -80,18 +114,12 @@ module _ (o : Setup) (acc : Accepted o) (commands : List ℕ) (same : o .command
   pub reached-read-back : (l : Lists) (ts : List ℕ) → Reach o l ts → decoded (encoded l) ≡ l
   reached-read-back l ts r = rw (r .1) (encoded-read-back (listsOf o (steps o ts (opened o))) (state-bounded ts (r .0)))
 
-  -- the byte lists are those of lists that a schedule reaches
-  record BytesReach (b : Lists) (ts : List ℕ) : Type 0 where
-    lists : Lists
-    bytes : b ≡ encoded lists
-    reach : Reach o lists ts
-
-  -- what is read of them is these lists
-  read-reached : (b : Lists) (ts : List ℕ) (r : BytesReach b ts) → decoded b ≡ r .lists
+  -- and what is read of byte lists that calls reach is the lists reached
+  pub read-reached : (b : Lists) (ts : List ℕ) (r : BytesReach o b ts) → decoded b ≡ r .lists
   read-reached b ts r = ap decoded (r .bytes) ∙ reached-read-back (r .lists) ts (r .reach)
 
   -- an accepted call adds its schedule, and leaves the bytes of the lists reached
-  accepted-call : (b : Lists) (ts schedule : List ℕ) → BytesReach b ts → advanceAnswer b commands schedule ≡ 0 → BytesReach (advanceLeft b commands schedule) (ts ++ schedule)
+  pub accepted-call : (b : Lists) (ts schedule : List ℕ) → BytesReach o b ts → advanceAnswer b commands schedule ≡ 0 → BytesReach o (advanceLeft b commands schedule) (ts ++ schedule)
   unfolding left
   accepted-call b ts schedule r e =
       let a = advance-accepted (decoded b) commands schedule e in
@@ -101,22 +129,19 @@ module _ (o : Setup) (acc : Accepted o) (commands : List ℕ) (same : o .command
         reach = accepted-reaches o acc commands same long (r .lists) (a .0) ts schedule (r .reach) (ap (λ (l : Lists). advanceOn l commands schedule) (sym (read-reached b ts r)) ∙ a .1);
       }
 
-  -- a refused call adds nothing, and leaves the byte lists
-  call-reaches : (call : Call) (b : Lists) (ts : List ℕ) → (answerTo call ≡ 0 → (call .lists ≡ b) × (call .commands ≡ commands)) → BytesReach b ts
-      → BytesReach (afterCall call b) (ts ++ cond (eqb (answerTo call) 0) (call .schedule) [])
+  -- a proper call, if it answers 0, was handed the byte lists reached, and goes on from there
+  pub call-reaches : (call : Call) (b : Lists) (ts : List ℕ) → (answerTo call ≡ 0 → (call .lists ≡ b) × (call .commands ≡ commands)) → BytesReach o b ts
+      → BytesReach o (afterCall call b) (ts ++ cond (eqb (answerTo call) 0) (call .schedule) [])
   unfolding answerTo afterCall
-  call-reaches call b ts proper r = by (eqb (answerTo call) 0) refl
-    where
-      by : (t : Bool) → eqb (answerTo call) 0 ≡ t
-          → BytesReach (cond t (advanceLeft (call .lists) (call .commands) (call .schedule)) b) (ts ++ cond t (call .schedule) [])
-      by true e =
-          let zero-answer = eqb-true (answerTo call) 0 e in
-          let handed = proper zero-answer in
-          rw (handed .0, handed .1) (accepted-call b ts (call .schedule) r (rw (handed .0, handed .1) at zero-answer))
-      by false e = rw (append-nil ts) r
+  call-reaches call b ts proper r =
+      answered-reaches o (answerTo call) (advanceLeft (call .lists) (call .commands) (call .schedule)) b ts (call .schedule)
+      (λ zero-answer.
+      let handed = proper zero-answer in
+      rw (handed .0, handed .1) (accepted-call b ts (call .schedule) r (rw (handed .0, handed .1) at zero-answer)))
+      r
 
   -- call by call
-  calls-reach : (calls : List Call) (b : Lists) (ts : List ℕ) → BytesReach b ts → ProperBytes commands b calls → BytesReach (bytesAfter calls b) (ts ++ bytesSchedules calls)
+  calls-reach : (calls : List Call) (b : Lists) (ts : List ℕ) → BytesReach o b ts → ProperBytes commands b calls → BytesReach o (bytesAfter calls b) (ts ++ bytesSchedules calls)
   unfolding bytesAfter bytesSchedules
   calls-reach [] b ts r proper = rw append-nil r
   calls-reach (call ∷ calls) b ts r proper =
@@ -127,7 +152,7 @@ module _ (o : Setup) (acc : Accepted o) (commands : List ℕ) (same : o .command
   -- ---- the five parts
 
   -- the bytes of a thread that is read as idle are an idle one's: they are laid out so
-  idle-read : (l : Lists) (ts : List ℕ) → Reach o l ts → (t : ℕ) → t ≤ o .largest → stateIn l .threads t ≡ Idle → IsIdle t (encoded l)
+  pub idle-read : (l : Lists) (ts : List ℕ) → Reach o l ts → (t : ℕ) → t ≤ o .largest → stateIn l .threads t ≡ Idle → IsIdle t (encoded l)
   unfolding encoded
   idle-read l ts r t h e =
       let s : State = steps o ts (opened o) in
@@ -170,7 +195,7 @@ module _ (o : Setup) (acc : Accepted o) (commands : List ℕ) (same : o .command
     call-read more m e = rw (reached-read-back l ts r, e) (accepted-answers m, refl)
 
     -- each part is the one over calls on numbers
-    bytes-hold : BytesHoldAfter o commands (encoded l) ts
+    pub bytes-hold : BytesHoldAfter o commands (encoded l) ts
     bytes-hold =
         let numbers = holds o acc commands same long l ts r in
         let f = numbers .finish in
@@ -185,17 +210,9 @@ module _ (o : Setup) (acc : Accepted o) (commands : List ℕ) (same : o .command
           image = image-read ∙ numbers .image;
         }
 
--- the opening's byte lists are those of the lists that no step has left, and every proper list of calls goes on from there
+-- every proper list of calls goes on from the opening's byte lists
 pub demand-3-over-byte-calls : Demand3OverBytes
-unfolding left
 demand-3-over-byte-calls size workers capacity commands source lent b answer is calls proper =
-    let o : Setup = setupOf size workers capacity commands source in
-    let a = opening-accepted size workers capacity commands source (decoded lent) answer in
-    let opening : IsOpened o commands (a .0) = accepted-opening size workers capacity commands source (decoded lent) (a .0) (a .1) in
-    let first : BytesReach o (opening .setup) commands refl (opening .long) b [] = record {
-      lists = a .0;
-      bytes = sym is ∙ ap (λ (x : CallOutcome). left x lent) (a .1);
-      reach = opening-reaches o (a .0) (opening .lists);
-    } in
-    let last = calls-reach o (opening .setup) commands refl (opening .long) calls b [] first proper in
-    rw (last .bytes) (bytes-hold o (opening .setup) commands refl (opening .long) (last .lists) (bytesSchedules calls) (last .reach))
+    let first = opening-bytes size workers capacity commands source lent b answer is in
+    let last = calls-reach _ (first .0) commands refl (first .1) calls b [] (first .2) proper in
+    rw (last .bytes) (bytes-hold _ (first .0) commands refl (first .1) (last .lists) (bytesSchedules calls) (last .reach))

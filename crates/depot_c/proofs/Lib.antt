@@ -4,3 +4,4 @@ pub mod Reporting
 pub mod Dispatched
 pub mod Accepted
 pub mod Demand3
+pub mod Dispatching

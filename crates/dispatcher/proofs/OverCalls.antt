@@ -41,17 +41,17 @@ passed true n x d e = (refl, e)
 passed false n x d e = absurd (let z : _≡_ {A = ℕ} 0 1 = cc in omega arith)
 
 -- what an accepted call passed, and came to
-record Passes (l : Lists) (commands lent : List ℕ) (d : Made) : Type 0 where
-  fit : handedBackFit l commands ≡ true
+pub record Passes (l : Lists) (commands lent : List ℕ) (d : Made) : Type 0 where
+  pub fit : handedBackFit l commands ≡ true
   imaged : imageFits (setupIn (l .state) commands .capacity) l ≡ true
-  whole : stateFits l ≡ true
+  pub whole : stateFits l ≡ true
   room : neededNow l commands ≤ length lent
   is : madeFrom (setupIn (l .state) commands) (stateIn l) lent ≡ d
 
 dealt-same : (c d : Made) → made c ≡ made d → c ≡ d
 dealt-same c d e = cc
 
-passes : (l : Lists) (commands lent : List ℕ) (d : Made) → dispatchOn l commands lent ≡ made d → Passes l commands lent d
+pub passes : (l : Lists) (commands lent : List ℕ) (d : Made) → dispatchOn l commands lent ≡ made d → Passes l commands lent d
 unfolding dispatchOn
 passes l commands lent d e =
     let a = passed _ 6 _ d e in let b = passed _ 12 _ d (a .1) in let c = passed _ 6 _ d (b .1) in
@@ -170,7 +170,7 @@ module _ (o : Setup) (acc : Accepted o) (commands : List ℕ) (same : o .command
   schedule-now = ap (λ (x : Setup). dispatched x (stateIn l)) setup-is ∙ dispatched-without o (stateIn l) ∙ ap (dispatched o) state-read
 
   -- they pass the tests of a call, since an empty schedule is accepted
-  tests-passed : (handedBackFit l commands ≡ true) × (imageFits (setupIn (l .state) commands .capacity) l ≡ true) × (stateFits l ≡ true)
+  pub tests-passed : (handedBackFit l commands ≡ true) × (imageFits (setupIn (l .state) commands .capacity) l ≡ true) × (stateFits l ≡ true)
   unfolding advanceOn allWithin
   tests-passed =
       let e = more-accepted o acc commands same long l ts r [] refl in
@@ -194,7 +194,7 @@ module _ (o : Setup) (acc : Accepted o) (commands : List ℕ) (same : o .command
         let m = more-accepted o acc commands same long l ts r (dispatched o (steps o ts (opened o))) (p .within) in
         accepted-same _ _ (sym w ∙ ap (advanceOn l commands) schedule-reached ∙ m)
 
-    reached-finishes : Finishes o commands l ts lent
+    pub reached-finishes : Finishes o commands l ts lent
     reached-finishes =
         let p = dispatcher-finishes o acc ts (r .0) in
         let t = tests-passed in
