@@ -74,7 +74,7 @@ impl Bench {
     pub fn medians(
         &self,
         turns: usize,
-        once: impl Fn(&mut [Duration; 3]) -> Result<(), String>,
+        mut once: impl FnMut(&mut [Duration; 3]) -> Result<(), String>,
     ) -> Result<[Duration; 3], String> {
         let repeats = LEAST_TURNS.div_ceil(turns);
         let mut times = [const { Vec::new() }; 3];
