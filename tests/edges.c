@@ -12,9 +12,9 @@ struct list {
     size_t length;
 };
 
-/* A call's lists: the six that the caller keeps, and one more that is the call's own (image to open from, schedule, counts or
- * status). */
-enum { STATE, KEYS, CHUTES, ANSWERS, IMAGE, COMMANDS, OWN, LISTS };
+/* A call's lists: the six that the caller keeps, one more that is the call's own (image to open from, schedule, counts, status or
+ * steps needed), and the number of turns that a dispatch writes. */
+enum { STATE, KEYS, CHUTES, ANSWERS, IMAGE, COMMANDS, OWN, TURNS, LISTS };
 
 struct lists {
     struct list at[LISTS];
@@ -24,11 +24,14 @@ struct settings {
     uint64_t size, workers, capacity;
 };
 
-enum call { OPEN, OPEN_FROM, ADVANCE, COUNTS, STATUS, CALLS };
+enum call { OPEN, OPEN_FROM, ADVANCE, COUNTS, STATUS, NEEDED, DISPATCH, CALLS };
 
-static const char *const call_names[] = {"depot_open", "depot_open_from", "depot_advance", "depot_pending_counts",
-                                         "depot_worker_status"};
+static const char *const call_names[] = {"depot_open",          "depot_open_from",    "depot_advance", "depot_pending_counts",
+                                         "depot_worker_status", "depot_steps_needed", "depot_dispatch"};
 static unsigned long checks, failures;
+
+/* What a new list holds: no kind, no party. */
+enum { UNTOUCHED = 0xa5 };
 
 static void check(int holds, const char *call, const char *what, unsigned long number)
 {
@@ -50,7 +53,7 @@ static struct list make(size_t length)
         exit(EXIT_FAILURE);
     }
     if (length > 0)
-        memset(l.bytes, 0xa5, length);
+        memset(l.bytes, UNTOUCHED, length);
     return l;
 }
 
@@ -85,6 +88,7 @@ static struct lists make_all(size_t count, size_t capacity)
     l.at[IMAGE] = make(depot_image_length(capacity));
     l.at[COMMANDS] = make(DEPOT_COMMAND_LENGTH * count);
     l.at[OWN] = make(0);
+    l.at[TURNS] = make(0);
     return l;
 }
 
@@ -118,9 +122,19 @@ static uint64_t pass(enum call c, struct lists *l, struct settings s)
         return depot_advance(PASS_RUN(l), PASS(l, IMAGE), PASS(l, COMMANDS), PASS(l, OWN));
     case COUNTS:
         return depot_pending_counts(PASS_RUN(l), PASS(l, COMMANDS), PASS(l, OWN));
-    default:
+    case STATUS:
         return depot_worker_status(PASS_RUN(l), PASS(l, COMMANDS), PASS(l, OWN));
+    case NEEDED:
+        return depot_steps_needed(PASS_RUN(l), PASS(l, COMMANDS), PASS(l, OWN));
+    default:
+        return depot_dispatch(PASS_RUN(l), PASS(l, IMAGE), PASS(l, COMMANDS), PASS(l, OWN), PASS(l, TURNS));
     }
+}
+
+/* Whether a call is lent all lists to be read, but for its own. */
+static int is_report(enum call c)
+{
+    return c == COUNTS || c == STATUS || c == NEEDED;
 }
 
 /* Makes a call and checks that it leaves what it may not write: everything on a refusal, else what it only reads. */
@@ -129,7 +143,7 @@ static uint64_t call(enum call c, struct lists *l, struct settings s)
     struct lists old = copy_all(l);
     uint64_t answer = pass(c, l, s);
     for (int i = 0; i < LISTS; i++) {
-        int writes = c == COUNTS || c == STATUS ? i == OWN : i < COMMANDS;
+        int writes = is_report(c) ? i == OWN : i < COMMANDS || (c == DISPATCH && i > COMMANDS);
         if (answer != 0 || !writes)
             check(same(old.at[i], l->at[i]), call_names[c], "changed a list that it may not write", (unsigned long)i);
     }
@@ -208,6 +222,75 @@ static struct lists opened(size_t count, struct settings s, int mixed)
     return l;
 }
 
+/* ---- dispatching */
+
+/* Places in the state: docs/STATE-LAYOUT.md. */
+enum { SIZE_AT = 1, LARGEST_AT = 3, COUNT_AT = 6, LOADED_AT = 8, PLACES_AT = 165, PARTIES_AT = 4393, PARTY_LENGTH = 5 };
+
+/* Document 02, A.6: (n + w) × (3 × s + 6). */
+static size_t bound_of(const struct lists *l)
+{
+    const uint8_t *state = l->at[STATE].bytes;
+    size_t left = depot_short_at(state + COUNT_AT, 0) - depot_short_at(state + LOADED_AT, 0);
+    for (size_t record = 0; record <= state[SIZE_AT]; record++)
+        left += depot_short_at(state + PLACES_AT, record) != 0;
+    return (left + state[LARGEST_AT]) * (3 * (size_t)state[SIZE_AT] + 6);
+}
+
+/* Lends new lists for a dispatch. */
+static void lend(struct lists *l, size_t schedule, size_t turns)
+{
+    free(l->at[OWN].bytes);
+    free(l->at[TURNS].bytes);
+    l->at[OWN] = make(schedule);
+    l->at[TURNS] = make(turns);
+}
+
+/* Checks that the turns in the list of a dispatch, dealt by hand from the lists before it, leave the same lists. */
+static void check_by_hand(struct lists *before, const struct lists *after, size_t turns, const char *what)
+{
+    advance(before, after->at[OWN].bytes, turns, 0, what);
+    for (int i = 0; i < OWN; i++)
+        check(same(before->at[i], after->at[i]), what, "by hand another list", (unsigned long)i);
+}
+
+/* Dispatches into a list that is so much longer than it must be. The number of turns. */
+static size_t dispatch(struct lists *l, size_t longer, const char *what)
+{
+    struct lists before = copy_all(l);
+    size_t bound = bound_of(l), turns;
+    report(l, NEEDED, DEPOT_COUNT_LENGTH, 0, what);
+    check(depot_key_at(l->at[OWN].bytes, 0) == bound, what, "steps needed, and not", (unsigned long)bound);
+    lend(l, bound + longer, DEPOT_COUNT_LENGTH);
+    expect(DISPATCH, l, none, 0, what);
+    turns = (size_t)depot_key_at(l->at[TURNS].bytes, 0);
+    check(turns <= bound, what, "more turns than the bound", (unsigned long)turns);
+    if (turns <= bound) {
+        for (size_t i = 0; i < l->at[OWN].length; i++)
+            if ((l->at[OWN].bytes[i] == UNTOUCHED) != (i >= turns)) {
+                check(0, what, "the dealing does not end where its length says", (unsigned long)i);
+                break;
+            }
+        check_by_hand(&before, l, turns, what);
+    }
+    free_all(&before);
+    return turns;
+}
+
+/* Whether every command is loaded and answered, no record has one, and every party is idle. */
+static int is_finished(const struct lists *l)
+{
+    const uint8_t *state = l->at[STATE].bytes;
+    int rest = memcmp(state + COUNT_AT, state + LOADED_AT, 2);
+    for (size_t record = 0; record <= DEPOT_MOST_NODES; record++)
+        rest |= (int)depot_short_at(state + PLACES_AT, record);
+    for (size_t i = PARTIES_AT; i < DEPOT_STATE_LENGTH; i++)
+        rest |= state[i];
+    for (size_t i = 0; i < l->at[ANSWERS].length / DEPOT_ANSWER_LENGTH; i++)
+        rest |= depot_short_at(l->at[ANSWERS].bytes, i) == DEPOT_NOT_YET;
+    return rest == 0;
+}
+
 /* ---- the tests */
 
 static void test_empty_lists(void)
@@ -215,6 +298,7 @@ static void test_empty_lists(void)
     const struct settings s = {1, 1, 1};
     const uint8_t schedule[] = {0, 1, 1, 0, 0, 1};
     struct lists l = opened(0, s, 0), nothing = {{{0, 0}}};
+    check(dispatch(&l, 0, "empty list") == 0, "empty list", "dispatch makes turns", 0);
     advance(&l, schedule, 0, 0, "empty list, empty dealing");
     advance(&l, schedule, sizeof schedule, 0, "empty list, dealing");
     report(&l, COUNTS, DEPOT_COUNTS_LENGTH, 0, "empty list");
@@ -594,29 +678,48 @@ static struct list filling_and_emptying(size_t nodes)
     return d;
 }
 
+/* Answers and table of 4,096 inserts into as large a room. */
+static void check_all_inserted(const struct lists *l, const char *what)
+{
+    for (size_t i = 0; i < DEPOT_MOST_COMMANDS; i++) {
+        check(depot_short_at(l->at[ANSWERS].bytes, i) == DEPOT_DONE, what, "answer", (unsigned long)i);
+        check(depot_key_at(l->at[KEYS].bytes, i) == i, what, "key", (unsigned long)i);
+        check(depot_short_at(l->at[CHUTES].bytes, i) == chute_of(i), what, "chute", (unsigned long)i);
+    }
+}
+
+static const struct settings largest = {DEPOT_MOST_NODES, DEPOT_MOST_WORKERS, DEPOT_MOST_CAPACITY};
+
 static void test_largest(void)
 {
-    const struct settings s = {DEPOT_MOST_NODES, DEPOT_MOST_WORKERS, DEPOT_MOST_CAPACITY};
-    struct lists l = opened(DEPOT_MOST_COMMANDS, s, 0);
+    struct lists l = opened(DEPOT_MOST_COMMANDS, largest, 0);
     struct list d = filling_and_emptying(DEPOT_MOST_NODES);
     for (size_t done = 0; done < DEPOT_MOST_COMMANDS; done += DEPOT_MOST_NODES)
         advance(&l, d.bytes, d.length, 0, "the largest settings");
-    for (size_t i = 0; i < DEPOT_MOST_COMMANDS; i++) {
-        check(depot_short_at(l.at[ANSWERS].bytes, i) == DEPOT_DONE, "largest", "answer", (unsigned long)i);
-        check(depot_key_at(l.at[KEYS].bytes, i) == i, "largest", "key", (unsigned long)i);
-        check(depot_short_at(l.at[CHUTES].bytes, i) == chute_of(i), "largest", "chute", (unsigned long)i);
-    }
+    check_all_inserted(&l, "largest");
     report(&l, COUNTS, DEPOT_COUNTS_LENGTH, 0, "the largest settings");
     report(&l, STATUS, DEPOT_STATUS_LENGTH, 0, "the largest settings");
     free(d.bytes);
     free_all(&l);
 }
 
+/* The longest list that any run asks for, and the same run when all is done. */
+static void test_dispatch_largest(void)
+{
+    struct lists l = opened(DEPOT_MOST_COMMANDS, largest, 0);
+    check(bound_of(&l) == 1896960 && DEPOT_MOST_STEPS == 1896960, "largest dispatch", "bound", (unsigned long)bound_of(&l));
+    check(dispatch(&l, 0, "largest dispatch") >= DEPOT_MOST_COMMANDS, "largest dispatch", "turns", 0);
+    check(is_finished(&l), "largest dispatch", "not finished", 0);
+    check_all_inserted(&l, "largest dispatch");
+    check(dispatch(&l, 1, "finished run") == 0, "finished run", "dispatch makes turns", 0);
+    check(bound_of(&l) == 64 * 456, "finished run", "bound", (unsigned long)bound_of(&l));
+    free_all(&l);
+}
+
 /* All 65 parties at the largest settings, in a mixed order, with reports between. */
 static void test_all_parties(void)
 {
-    const struct settings s = {DEPOT_MOST_NODES, DEPOT_MOST_WORKERS, DEPOT_MOST_CAPACITY};
-    struct lists l = opened(DEPOT_MOST_COMMANDS, s, 1);
+    struct lists l = opened(DEPOT_MOST_COMMANDS, largest, 1);
     uint32_t drawn = 1;
     for (int calls = 0; calls < 10; calls++) {
         uint8_t schedule[4000];
@@ -701,24 +804,35 @@ static void test_too_long(void)
     free_all(&l);
 }
 
-/* What a call answers to a list of a wrong length: openings test the commands' first, and the reports are not lent the image. */
-static uint64_t wrong_length(enum call c, int which, size_t by)
+/* What a call answers to a list that is longer or shorter by so much: openings test the commands' first, the reports are not lent
+ * the image, and a dispatch's list may be longer. */
+static uint64_t wrong_length(enum call c, int which, size_t by, int is_longer)
 {
     if (which == COMMANDS && by == 1 && (c == OPEN || c == OPEN_FROM))
         return DEPOT_WRONG_LIST_LENGTH;
-    return which == IMAGE && (c == COUNTS || c == STATUS) ? 0 : DEPOT_WRONG_LENGTH;
+    if ((which == IMAGE && is_report(c)) || (which == OWN && c == DISPATCH && is_longer))
+        return 0;
+    return DEPOT_WRONG_LENGTH;
+}
+
+/* The lists that have one right length, by call: an opening's own list is none, a dealing may have any length. */
+static int lists_of(enum call c)
+{
+    return c == DISPATCH ? LISTS : c == OPEN || c == ADVANCE ? OWN : TURNS;
 }
 
 /* Each list of each call one byte, and one entry, longer and shorter than it should be. */
 static void test_lengths(void)
 {
     static const size_t entry[LISTS] = {1,  DEPOT_KEY_LENGTH,     DEPOT_CHUTE_LENGTH, DEPOT_ANSWER_LENGTH, DEPOT_RECORD_LENGTH,
-                                        DEPOT_COMMAND_LENGTH, 1};
-    const size_t own[CALLS] = {0, depot_image_length(4), 3, DEPOT_COUNTS_LENGTH, DEPOT_STATUS_LENGTH};
+                                        DEPOT_COMMAND_LENGTH, 1, DEPOT_COUNT_LENGTH};
+    const size_t own[CALLS] = {0, depot_image_length(4), 3, DEPOT_COUNTS_LENGTH, DEPOT_STATUS_LENGTH, DEPOT_COUNT_LENGTH,
+                               (5 + 2) * (3 * 3 + 6)};
     const struct settings s = {3, 2, 4};
     struct lists base = opened(5, s, 1);
+    resize(&base, TURNS, DEPOT_COUNT_LENGTH);
     for (int c = 0; c < CALLS; c++)
-        for (int i = 0; i < (c == OPEN || c == ADVANCE ? OWN : LISTS); i++)
+        for (int i = 0; i < lists_of((enum call)c); i++)
             for (int way = 0; way < 4; way++) {
                 struct lists l = copy_all(&base);
                 size_t by = way < 2 ? 1 : c == OPEN_FROM && i == OWN ? DEPOT_RECORD_LENGTH : entry[i];
@@ -726,7 +840,7 @@ static void test_lengths(void)
                 if (own[c] > 0)
                     memset(l.at[OWN].bytes, c == OPEN_FROM ? 0 : 1, own[c]);
                 resize(&l, i, way % 2 ? l.at[i].length + by : l.at[i].length - by);
-                expect((enum call)c, &l, s, wrong_length((enum call)c, i, by), "a list of a wrong length");
+                expect((enum call)c, &l, s, wrong_length((enum call)c, i, by, way % 2), "a list of a wrong length");
                 free_all(&l);
             }
     free_all(&base);
@@ -864,6 +978,7 @@ int main(void)
     test_order_of_tests();
     test_largest_image();
     test_largest();
+    test_dispatch_largest();
     test_all_parties();
     test_settings();
     test_places();
