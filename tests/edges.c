@@ -246,6 +246,15 @@ static void lend(struct lists *l, size_t schedule, size_t turns)
     l->at[TURNS] = make(turns);
 }
 
+/* Whether a lent list is written up to a length and untouched behind it. */
+static int ends_at(struct list l, size_t length)
+{
+    for (size_t i = 0; i < l.length; i++)
+        if ((l.bytes[i] == UNTOUCHED) != (i >= length))
+            return 0;
+    return 1;
+}
+
 /* Checks that the turns in the list of a dispatch, dealt by hand from the lists before it, leave the same lists. */
 static void check_by_hand(struct lists *before, const struct lists *after, size_t turns, const char *what)
 {
@@ -266,11 +275,7 @@ static size_t dispatch(struct lists *l, size_t longer, const char *what)
     turns = (size_t)depot_key_at(l->at[TURNS].bytes, 0);
     check(turns <= bound, what, "more turns than the bound", (unsigned long)turns);
     if (turns <= bound) {
-        for (size_t i = 0; i < l->at[OWN].length; i++)
-            if ((l->at[OWN].bytes[i] == UNTOUCHED) != (i >= turns)) {
-                check(0, what, "the dealing does not end where its length says", (unsigned long)i);
-                break;
-            }
+        check(ends_at(l->at[OWN], turns), what, "the dealing does not end at its length", (unsigned long)turns);
         check_by_hand(&before, l, turns, what);
     }
     free_all(&before);
@@ -716,6 +721,126 @@ static void test_dispatch_largest(void)
     free_all(&l);
 }
 
+/* 6 for another list, then 12, then 6 for a dealing's list that is too short; longer ones are accepted. */
+static void test_dispatch_tests(void)
+{
+    const struct settings s = {3, 2, 4};
+    const size_t bound = (5 + 2) * (3 * 3 + 6);
+    struct lists l = opened(5, s, 1);
+    for (size_t length = 0; length < bound; length++) {
+        lend(&l, length, DEPOT_COUNT_LENGTH);
+        expect(DISPATCH, &l, none, DEPOT_WRONG_LENGTH, "a list shorter than the bound");
+    }
+    l.at[STATE].bytes[12] = 4; /* first free record above the graph size */
+    for (size_t length = 0; length <= bound; length += bound) {
+        lend(&l, length, DEPOT_COUNT_LENGTH);
+        expect(DISPATCH, &l, none, DEPOT_WRONG_STATE, "12 is tested before the length of the dealing's list");
+        lend(&l, length, DEPOT_COUNT_LENGTH - 1);
+        expect(DISPATCH, &l, none, DEPOT_WRONG_LENGTH, "the length of the count is tested before 12");
+    }
+    report(&l, NEEDED, DEPOT_COUNT_LENGTH, DEPOT_WRONG_STATE, "first free record");
+    report(&l, NEEDED, DEPOT_COUNT_LENGTH + 1, DEPOT_WRONG_LENGTH, "the length of the count is tested before 12");
+    l.at[STATE].bytes[12] = 1;
+    for (size_t longer = 0; longer <= 1000; longer += longer == 0 ? 1 : 999) {
+        struct lists again = copy_all(&l);
+        check(dispatch(&again, longer, "a longer list") > 0 && is_finished(&again), "a longer list", "not finished", 0);
+        free_all(&again);
+    }
+    free_all(&l);
+}
+
+/* The states in which parties are at once, as bits. */
+static unsigned states_of(const struct lists *l)
+{
+    unsigned states = 0;
+    for (size_t party = 0; party <= l->at[STATE].bytes[LARGEST_AT]; party++)
+        states |= 1u << l->at[STATE].bytes[PARTIES_AT + PARTY_LENGTH * party];
+    return states;
+}
+
+/* Dispatches from a moment, and checks that it leaves the answers, table and image that a dispatch from the opening left. */
+static void check_moment(const struct lists *l, const struct lists *wanted)
+{
+    struct lists ended = copy_all(l);
+    dispatch(&ended, 0, "dispatch from a moment");
+    check(is_finished(&ended), "dispatch from a moment", "not finished", states_of(l));
+    for (int i = KEYS; i < COMMANDS; i++)
+        check(same(ended.at[i], wanted->at[i]), "dispatch from a moment", "another list", (unsigned long)i);
+    free_all(&ended);
+}
+
+/* Turns one by one in a mixed order, and a dispatch wherever parties are in states in which they have not been at once. */
+static void dispatch_moments(const struct lists *opening)
+{
+    struct lists l = copy_all(opening), wanted = copy_all(opening);
+    uint8_t met[256] = {0};
+    uint32_t drawn = 1;
+    unsigned states = 0;
+    dispatch(&wanted, 0, "dispatch from the opening");
+    for (int turns = 0; turns < 5000; turns++) {
+        uint8_t party;
+        drawn = drawn * 1664525u + 1013904223u;
+        party = (uint8_t)((drawn >> 16) % (l.at[STATE].bytes[LARGEST_AT] + 1u));
+        advance(&l, &party, 1, 0, "one turn");
+        if (met[states_of(&l)]++ == 0)
+            check_moment(&l, &wanted);
+        states |= states_of(&l);
+    }
+    check(states == 255, "dispatch from a moment", "no party is in some state", states);
+    free_all(&wanted);
+    free_all(&l);
+}
+
+/* Without and with worker changes and checkpoints: the count goes from 8 to 12 and down to 1, and the image is the second one. */
+static void test_dispatch_kinds(void)
+{
+    const struct settings s = {10, 8, 3};
+    struct lists l = opened(40, s, 1);
+    dispatch_moments(&l);
+    put_workers(&l, 10, 12);
+    put_checkpoint(&l, 20, 0);
+    put_workers(&l, 30, 1);
+    put_checkpoint(&l, 35, 0);
+    expect(OPEN, &l, s, 0, "refused every kind");
+    dispatch_moments(&l);
+    dispatch(&l, 0, "every kind");
+    check(l.at[STATE].bytes[13] == 1, "every kind", "count in force", l.at[STATE].bytes[13]);
+    check(depot_image_place(l.at[IMAGE].bytes) == 36, "every kind", "place of the image", 0);
+    free_all(&l);
+}
+
+/* Opened from an image, with a party in every state at once: worker 1 clears, 2 has looked up, 3 has written, 4 holds, 5 walks,
+ * 6 searches, 7 is idle, and the loader is loading. The updates are of different items, so that none waits. */
+static void test_dispatch_every_state(void)
+{
+    enum { ITEMS = 12 };
+    static const uint8_t turns[][2] = {{0, 44}, {1, 2}, {2, 3}, {3, 4}, {4, 5}, {5, 6}, {2, 1},
+                                       {3, 2},  {1, 10}, {5, 6}, {0, 3}, {6, 2}}; /* party, and how many */
+    const struct settings s = {10, 7, ITEMS};
+    struct lists l = make_all(ITEMS, ITEMS);
+    uint8_t schedule[44];
+    resize(&l, OWN, depot_image_length(ITEMS));
+    put_record(l.at[OWN], 0, 1, 0, 1);
+    for (unsigned i = 0; i < ITEMS; i++) {
+        put_command(&l, i, DEPOT_UPDATE, i, chute_of(i));
+        put_record(l.at[OWN], i + 1, (i + 2) % (ITEMS + 1), 512, i);
+    }
+    expect(OPEN_FROM, &l, s, 0, "refused an image of twelve items");
+    for (size_t i = 0; i < sizeof turns / sizeof *turns; i++) {
+        memset(schedule, turns[i][0], sizeof schedule);
+        advance(&l, schedule, turns[i][1], 0, "the way to every state");
+    }
+    check(states_of(&l) == 255, "every state", "at once only", states_of(&l));
+    dispatch(&l, 0, "every state");
+    check(is_finished(&l), "every state", "not finished", 0);
+    for (unsigned i = 0; i < ITEMS; i++) {
+        check(depot_short_at(l.at[ANSWERS].bytes, i) == DEPOT_DONE, "every state", "answer", i);
+        check(depot_key_at(l.at[KEYS].bytes, i) == i, "every state", "key", i);
+        check(depot_short_at(l.at[CHUTES].bytes, i) == chute_of(i), "every state", "chute", i);
+    }
+    free_all(&l);
+}
+
 /* All 65 parties at the largest settings, in a mixed order, with reports between. */
 static void test_all_parties(void)
 {
@@ -979,6 +1104,9 @@ int main(void)
     test_largest_image();
     test_largest();
     test_dispatch_largest();
+    test_dispatch_tests();
+    test_dispatch_kinds();
+    test_dispatch_every_state();
     test_all_parties();
     test_settings();
     test_places();
