@@ -989,7 +989,21 @@ static void test_parties(void)
 /* How often a changed byte got each number. */
 static unsigned long got[13];
 
-/* Lists with one byte changed, handed to every call: the answers agree, and an accepted state is stepped on. */
+/* How many accepted runs with a changed byte a dispatch finished, and how many it left. */
+static unsigned long finished, left;
+
+/* Dispatches from a run that no dealing need reach: within the bound, and by hand the same. */
+static void dispatch_changed(const struct lists *changed)
+{
+    struct lists l = copy_all(changed);
+    dispatch(&l, 0, "a changed byte");
+    finished += is_finished(&l) != 0;
+    left += is_finished(&l) == 0;
+    free_all(&l);
+}
+
+/* Lists with one byte changed, handed to every call: the answers agree, and an accepted state is stepped on. In a small graph it
+ * is dispatched too. */
 static void try_changed(const struct lists *base, int which, size_t offset, uint8_t value)
 {
     static const uint8_t schedule[] = {0, 1, 2, 1, 2, 0, 2, 1};
@@ -1001,8 +1015,11 @@ static void try_changed(const struct lists *base, int which, size_t offset, uint
     check(answer == 0 || answer == 6 || answer == 12, "a changed byte", "answer, at offset", (unsigned long)offset);
     got[depot_number(answer) % 13]++;
     report(&l, STATUS, DEPOT_STATUS_LENGTH, answer, "a changed byte");
-    if (answer == 0 && l.at[STATE].bytes[3] == 1)
-        answer = DEPOT_UNKNOWN_THREAD; /* the largest count is 1, and there is a turn of party 2 */
+    report(&l, NEEDED, DEPOT_COUNT_LENGTH, answer, "a changed byte");
+    if (answer == 0 && l.at[STATE].bytes[SIZE_AT] < 10)
+        dispatch_changed(&l);
+    if (answer == 0 && l.at[STATE].bytes[LARGEST_AT] == 1)
+        answer = DEPOT_UNKNOWN_THREAD; /* there is a turn of party 2 */
     advance(&l, schedule, sizeof schedule, answer, "a changed byte");
     free_all(&l);
 }
@@ -1114,6 +1131,7 @@ int main(void)
     test_lengths();
     test_parties();
     test_changed_bytes(small, 9, 60);
+    check(finished > 0 && left > 0, "changed bytes", "no dispatch finished, or all did", finished);
     test_changed_bytes(large, 40, 1200);
     test_identifiers();
     printf("edges: %lu checks, %lu failed\n", checks, failures);
