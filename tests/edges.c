@@ -718,6 +718,8 @@ static void test_dispatch_largest(void)
     check_all_inserted(&l, "largest dispatch");
     check(dispatch(&l, 1, "finished run") == 0, "finished run", "dispatch makes turns", 0);
     check(bound_of(&l) == 64 * 456, "finished run", "bound", (unsigned long)bound_of(&l));
+    lend(&l, 64 * 456 - 1, DEPOT_COUNT_LENGTH);
+    expect(DISPATCH, &l, none, DEPOT_WRONG_LENGTH, "finished run, a list shorter than the bound");
     free_all(&l);
 }
 
