@@ -301,10 +301,12 @@ uint64_t depot_steps_needed(const uint8_t *state, size_t state_length, const uin
  * a list whose turns were dealt in part is finished from where it stands.
  *
  * Proved, for every list of calls of depot_advance and depot_dispatch from an accepted depot_open or depot_open_from, in which
- * each accepted call was handed the lists as those before it left them (crates/dispatcher/specs/OverCalls.antt): what is proved of
- * depot_advance on answers, table and image holds; and depot_dispatch, lent a list that is long enough, removes every command and
- * leaves every party idle, in at most (n + w) × (3 × s + 6) turns. Proved of every call that is accepted: the same bytes, dealt by
- * depot_advance on the same lists, leave the same lists. A call that dispatches is thus one of depot_advance with its bytes.
+ * each accepted call was handed the lists as those before it left them: what is proved of depot_advance on answers, table and
+ * image holds; and depot_dispatch, lent a list that is long enough, removes every command and leaves every party idle, in at most
+ * (n + w) × (3 × s + 6) turns. Proved of every call that is accepted: the same bytes, dealt by depot_advance on the same lists,
+ * leave the same lists. A call that dispatches is thus one of depot_advance with its bytes. The theorems are of lists of numbers
+ * (crates/dispatcher/specs/OverCalls.antt); that the calls here do the same on bytes is their contract
+ * (crates/depot_c/specs/Boundary.antt).
  *
  * Which turns: first whoever stands in the chain goes on until it stands there no more, the one furthest along before the others;
  * then each worker with a record finishes it, one after the other; then, while there are records in the chain, worker 1 serves the
