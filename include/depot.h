@@ -1,5 +1,5 @@
-/* The depot controller for C: opening a list of commands, from an image of a store too, dealing turns, the panel's two reports,
- * and identifiers.
+/* The depot controller for C: opening a list of commands, from an image of a store too, dealing turns, having them dealt to the
+ * end, the panel's two reports, and identifiers.
  * Every call is proved to answer and to leave what is said here, whatever the lists hold, to end, and to stay inside its lists. */
 #ifndef DEPOT_H
 #define DEPOT_H
@@ -67,8 +67,9 @@ extern "C" {
 
 enum {
     DEPOT_STATE_LENGTH = 4718,
-    DEPOT_COUNTS_LENGTH = 150,
+    DEPOT_COUNTS_LENGTH = 150, /* pending counts */
     DEPOT_STATUS_LENGTH = 128,
+    DEPOT_COUNT_LENGTH = 8, /* a number of turns */
     DEPOT_KEY_LENGTH = 8,
     DEPOT_CHUTE_LENGTH = 2,
     DEPOT_ANSWER_LENGTH = 2,
@@ -80,6 +81,8 @@ enum {
     DEPOT_MOST_CAPACITY = 4096, /* room: 1 to 4,096 */
     DEPOT_MOST_COMMANDS = 4096, /* commands: 0 to 4,096 */
     DEPOT_MOST_CHUTE = 512,     /* chute of an insert or update: 1 to 512 */
+    /* the longest list that depot_dispatch asks for, of a run that dealings reach: 1,896,960 bytes */
+    DEPOT_MOST_STEPS = (DEPOT_MOST_COMMANDS + DEPOT_MOST_WORKERS) * (3 * DEPOT_MOST_NODES + 6),
     DEPOT_STACK_USE = 131072
 };
 
@@ -93,7 +96,7 @@ enum depot_refusal {
     DEPOT_WRONG_CAPACITY = 3,    /* room not 1 to 4,096 */
     DEPOT_WRONG_LIST_LENGTH = 4, /* length of the commands no multiple of 16 */
     DEPOT_TOO_MANY_COMMANDS = 5, /* over 4,096 */
-    DEPOT_WRONG_LENGTH = 6,      /* another list of a wrong length */
+    DEPOT_WRONG_LENGTH = 6,      /* another list of a wrong length; of depot_dispatch, last: the dealing's list is too short */
     DEPOT_UNKNOWN_KIND = 7,      /* kind not 1 to 6 */
     DEPOT_MALFORMED = 8,         /* identifier: length wrong, or the first faulty character is at 1, 2, 12 or 13: no letter;
                                     of a worker change or checkpoint: a character, 1 to 13, that is not '0' */
@@ -165,7 +168,7 @@ static inline unsigned depot_short_at(const uint8_t *list, size_t entry)
     return (unsigned)list[2 * entry] << 8 | list[2 * entry + 1];
 }
 
-/* The key of an entry, from 0, of a list of keys. */
+/* The key of an entry, from 0, of a list of keys; depot_key_at(count, 0) is the number of a count of turns. */
 static inline uint64_t depot_key_at(const uint8_t *keys, size_t entry)
 {
     uint64_t key = 0;
@@ -260,7 +263,7 @@ uint64_t depot_open_from(uint8_t *state, size_t state_length, uint8_t *keys, siz
  * deletes still waited for every command and there were no worker changes, it finished from every run reached (up to 4 records, 4
  * workers and 6 commands) and in millions of random runs (up to 20 records, 8 workers, 40 commands), never in more than
  * n (2 w + s + 6) + 2 rounds, with n commands, w workers and graph size s. tests/second/tests/patterns.rs runs 2,000 such runs as
- * things are now, and 2,000 with worker changes, w being the largest count. It is not proved.
+ * things are now, and 2,000 with worker changes, w being the largest count. It is not proved; that depot_dispatch finishes is.
  *
  * Writes state, keys, chutes, answers, image; reads commands (those of the opening) and schedule.
  * Refuses 6 (a length that is not the opening's, by the state's own settings), then 12 (the state breaks its layout), then 11
@@ -275,6 +278,55 @@ uint64_t depot_open_from(uint8_t *state, size_t state_length, uint8_t *keys, siz
 uint64_t depot_advance(uint8_t *state, size_t state_length, uint8_t *keys, size_t keys_length, uint8_t *chutes,
                        size_t chutes_length, uint8_t *answers, size_t answers_length, uint8_t *image, size_t image_length,
                        const uint8_t *commands, size_t commands_length, const uint8_t *schedule, size_t schedule_length);
+
+/* How long the list must be that depot_dispatch is lent for its dealing, as the lists are now: (n + w) × (3 × s + 6), with n the
+ * commands that are not yet loaded or whose records are not yet returned, w the largest worker count of the opening and of all
+ * worker changes, and s the graph size. When all is done it is w × (3 × s + 6), not 0. DEPOT_MOST_STEPS is enough for every run
+ * that dealings reach, as n is at most 4,096 there.
+ *
+ * Writes count, DEPOT_COUNT_LENGTH bytes, high byte first: depot_key_at(count, 0) is its number. Reads the rest.
+ * Refuses 6 (as depot_advance, without the image, and for the length of count), then 12.
+ *
+ *     uint8_t count[DEPOT_COUNT_LENGTH], *schedule = NULL;
+ *     uint64_t answer = depot_steps_needed(state, sizeof state, keys, sizeof keys, chutes, sizeof chutes,
+ *                                          answers, sizeof answers, commands, sizeof commands, count, sizeof count);
+ *     if (answer == 0)
+ *         schedule = malloc((size_t)depot_key_at(count, 0)); */
+uint64_t depot_steps_needed(const uint8_t *state, size_t state_length, const uint8_t *keys, size_t keys_length,
+                            const uint8_t *chutes, size_t chutes_length, const uint8_t *answers, size_t answers_length,
+                            const uint8_t *commands, size_t commands_length, uint8_t *count, size_t count_length);
+
+/* Dispatches: writes a dealing of its own choice into schedule, performs it, and writes its length, the number of turns, into
+ * count (as depot_steps_needed does). The bytes of schedule behind the dealing stay as they are. Nothing needs to be dealt before;
+ * a list whose turns were dealt in part is finished from where it stands.
+ *
+ * Proved, for every list of calls of depot_advance and depot_dispatch from an accepted depot_open or depot_open_from, in which
+ * each accepted call was handed the lists as those before it left them: what is proved of depot_advance on answers, table and
+ * image holds; and depot_dispatch, lent a list that is long enough, removes every command and leaves every party idle, in at most
+ * (n + w) × (3 × s + 6) turns. Proved of every call that is accepted: the same bytes, dealt by depot_advance on the same lists,
+ * leave the same lists. A call that dispatches is thus one of depot_advance with its bytes. The theorems are of lists of numbers
+ * (crates/dispatcher/specs/OverCalls.antt); that the calls here do the same on bytes is their contract
+ * (crates/depot_c/specs/Boundary.antt).
+ *
+ * Which turns: first whoever stands in the chain goes on until it stands there no more, the one furthest along before the others;
+ * then each worker with a record finishes it, one after the other; then, while there are records in the chain, worker 1 serves the
+ * first, and where there is none the loader loads the next command. So from an opening each command is loaded and served alone.
+ * The choice may change with a version; what is proved above is promised, and no more.
+ *
+ * Writes state, keys, chutes, answers, image, schedule, count; reads commands (those of the opening).
+ * Refuses 6 (as depot_advance, and for the length of count), then 12, then 6 if schedule is shorter than depot_steps_needed tells;
+ * a longer one is accepted. A state that passes these tests, though no dealing leads to it, gets a call that ends within as many
+ * turns; whether anything is finished is open.
+ *
+ *     uint64_t answer = depot_dispatch(state, sizeof state, keys, sizeof keys, chutes, sizeof chutes, answers, sizeof answers,
+ *                                      image, sizeof image, commands, sizeof commands, schedule, schedule_length,
+ *                                      count, sizeof count);
+ *     if (answer == 0)
+ *         printf("done in %llu turns\n", (unsigned long long)depot_key_at(count, 0)); */
+uint64_t depot_dispatch(uint8_t *state, size_t state_length, uint8_t *keys, size_t keys_length, uint8_t *chutes,
+                        size_t chutes_length, uint8_t *answers, size_t answers_length, uint8_t *image, size_t image_length,
+                        const uint8_t *commands, size_t commands_length, uint8_t *schedule, size_t schedule_length,
+                        uint8_t *count, size_t count_length);
 
 /* The panel report (pending counts): for each record in the chain, in chain order, how many records it waits for, one byte each;
  * 0 after the last. A record that waits for none is 0 too, so the counts do not say how long the chain is.

@@ -12,9 +12,9 @@ struct list {
     size_t length;
 };
 
-/* A call's lists: the six that the caller keeps, and one more that is the call's own (image to open from, schedule, counts or
- * status). */
-enum { STATE, KEYS, CHUTES, ANSWERS, IMAGE, COMMANDS, OWN, LISTS };
+/* A call's lists: the six that the caller keeps, one more that is the call's own (image to open from, schedule, counts, status or
+ * steps needed), and the number of turns that a dispatch writes. */
+enum { STATE, KEYS, CHUTES, ANSWERS, IMAGE, COMMANDS, OWN, TURNS, LISTS };
 
 struct lists {
     struct list at[LISTS];
@@ -24,11 +24,14 @@ struct settings {
     uint64_t size, workers, capacity;
 };
 
-enum call { OPEN, OPEN_FROM, ADVANCE, COUNTS, STATUS, CALLS };
+enum call { OPEN, OPEN_FROM, ADVANCE, COUNTS, STATUS, NEEDED, DISPATCH, CALLS };
 
-static const char *const call_names[] = {"depot_open", "depot_open_from", "depot_advance", "depot_pending_counts",
-                                         "depot_worker_status"};
+static const char *const call_names[] = {"depot_open",          "depot_open_from",    "depot_advance", "depot_pending_counts",
+                                         "depot_worker_status", "depot_steps_needed", "depot_dispatch"};
 static unsigned long checks, failures;
+
+/* What a new list holds: no kind, no party. */
+enum { UNTOUCHED = 0xa5 };
 
 static void check(int holds, const char *call, const char *what, unsigned long number)
 {
@@ -50,7 +53,7 @@ static struct list make(size_t length)
         exit(EXIT_FAILURE);
     }
     if (length > 0)
-        memset(l.bytes, 0xa5, length);
+        memset(l.bytes, UNTOUCHED, length);
     return l;
 }
 
@@ -85,6 +88,7 @@ static struct lists make_all(size_t count, size_t capacity)
     l.at[IMAGE] = make(depot_image_length(capacity));
     l.at[COMMANDS] = make(DEPOT_COMMAND_LENGTH * count);
     l.at[OWN] = make(0);
+    l.at[TURNS] = make(0);
     return l;
 }
 
@@ -118,9 +122,19 @@ static uint64_t pass(enum call c, struct lists *l, struct settings s)
         return depot_advance(PASS_RUN(l), PASS(l, IMAGE), PASS(l, COMMANDS), PASS(l, OWN));
     case COUNTS:
         return depot_pending_counts(PASS_RUN(l), PASS(l, COMMANDS), PASS(l, OWN));
-    default:
+    case STATUS:
         return depot_worker_status(PASS_RUN(l), PASS(l, COMMANDS), PASS(l, OWN));
+    case NEEDED:
+        return depot_steps_needed(PASS_RUN(l), PASS(l, COMMANDS), PASS(l, OWN));
+    default:
+        return depot_dispatch(PASS_RUN(l), PASS(l, IMAGE), PASS(l, COMMANDS), PASS(l, OWN), PASS(l, TURNS));
     }
+}
+
+/* Whether a call is lent all lists to be read, but for its own. */
+static int is_report(enum call c)
+{
+    return c == COUNTS || c == STATUS || c == NEEDED;
 }
 
 /* Makes a call and checks that it leaves what it may not write: everything on a refusal, else what it only reads. */
@@ -129,7 +143,7 @@ static uint64_t call(enum call c, struct lists *l, struct settings s)
     struct lists old = copy_all(l);
     uint64_t answer = pass(c, l, s);
     for (int i = 0; i < LISTS; i++) {
-        int writes = c == COUNTS || c == STATUS ? i == OWN : i < COMMANDS;
+        int writes = is_report(c) ? i == OWN : i < COMMANDS || (c == DISPATCH && i > COMMANDS);
         if (answer != 0 || !writes)
             check(same(old.at[i], l->at[i]), call_names[c], "changed a list that it may not write", (unsigned long)i);
     }
@@ -208,6 +222,80 @@ static struct lists opened(size_t count, struct settings s, int mixed)
     return l;
 }
 
+/* ---- dispatching */
+
+/* Places in the state: docs/STATE-LAYOUT.md. */
+enum { SIZE_AT = 1, LARGEST_AT = 3, COUNT_AT = 6, LOADED_AT = 8, PLACES_AT = 165, PARTIES_AT = 4393, PARTY_LENGTH = 5 };
+
+/* Document 02, A.6: (n + w) × (3 × s + 6). */
+static size_t bound_of(const struct lists *l)
+{
+    const uint8_t *state = l->at[STATE].bytes;
+    size_t left = depot_short_at(state + COUNT_AT, 0) - depot_short_at(state + LOADED_AT, 0);
+    for (size_t record = 0; record <= state[SIZE_AT]; record++)
+        left += depot_short_at(state + PLACES_AT, record) != 0;
+    return (left + state[LARGEST_AT]) * (3 * (size_t)state[SIZE_AT] + 6);
+}
+
+/* Lends new lists for a dispatch. */
+static void lend(struct lists *l, size_t schedule, size_t turns)
+{
+    free(l->at[OWN].bytes);
+    free(l->at[TURNS].bytes);
+    l->at[OWN] = make(schedule);
+    l->at[TURNS] = make(turns);
+}
+
+/* Whether a lent list is written up to a length and untouched behind it. */
+static int ends_at(struct list l, size_t length)
+{
+    for (size_t i = 0; i < l.length; i++)
+        if ((l.bytes[i] == UNTOUCHED) != (i >= length))
+            return 0;
+    return 1;
+}
+
+/* Checks that the turns in the list of a dispatch, dealt by hand from the lists before it, leave the same lists. */
+static void check_by_hand(struct lists *before, const struct lists *after, size_t turns, const char *what)
+{
+    advance(before, after->at[OWN].bytes, turns, 0, what);
+    for (int i = 0; i < OWN; i++)
+        check(same(before->at[i], after->at[i]), what, "by hand another list", (unsigned long)i);
+}
+
+/* Dispatches into a list that is so much longer than it must be. The number of turns. */
+static size_t dispatch(struct lists *l, size_t longer, const char *what)
+{
+    struct lists before = copy_all(l);
+    size_t bound = bound_of(l), turns;
+    report(l, NEEDED, DEPOT_COUNT_LENGTH, 0, what);
+    check(depot_key_at(l->at[OWN].bytes, 0) == bound, what, "steps needed, and not", (unsigned long)bound);
+    lend(l, bound + longer, DEPOT_COUNT_LENGTH);
+    expect(DISPATCH, l, none, 0, what);
+    turns = (size_t)depot_key_at(l->at[TURNS].bytes, 0);
+    check(turns <= bound, what, "more turns than the bound", (unsigned long)turns);
+    if (turns <= bound) {
+        check(ends_at(l->at[OWN], turns), what, "the dealing does not end at its length", (unsigned long)turns);
+        check_by_hand(&before, l, turns, what);
+    }
+    free_all(&before);
+    return turns;
+}
+
+/* Whether every command is loaded and answered, no record has one, and every party is idle. */
+static int is_finished(const struct lists *l)
+{
+    const uint8_t *state = l->at[STATE].bytes;
+    int rest = memcmp(state + COUNT_AT, state + LOADED_AT, 2);
+    for (size_t record = 0; record <= DEPOT_MOST_NODES; record++)
+        rest |= (int)depot_short_at(state + PLACES_AT, record);
+    for (size_t i = PARTIES_AT; i < DEPOT_STATE_LENGTH; i++)
+        rest |= state[i];
+    for (size_t i = 0; i < l->at[ANSWERS].length / DEPOT_ANSWER_LENGTH; i++)
+        rest |= depot_short_at(l->at[ANSWERS].bytes, i) == DEPOT_NOT_YET;
+    return rest == 0;
+}
+
 /* ---- the tests */
 
 static void test_empty_lists(void)
@@ -215,6 +303,7 @@ static void test_empty_lists(void)
     const struct settings s = {1, 1, 1};
     const uint8_t schedule[] = {0, 1, 1, 0, 0, 1};
     struct lists l = opened(0, s, 0), nothing = {{{0, 0}}};
+    check(dispatch(&l, 0, "empty list") == 0, "empty list", "dispatch makes turns", 0);
     advance(&l, schedule, 0, 0, "empty list, empty dealing");
     advance(&l, schedule, sizeof schedule, 0, "empty list, dealing");
     report(&l, COUNTS, DEPOT_COUNTS_LENGTH, 0, "empty list");
@@ -594,29 +683,170 @@ static struct list filling_and_emptying(size_t nodes)
     return d;
 }
 
+/* Answers and table of 4,096 inserts into as large a room. */
+static void check_all_inserted(const struct lists *l, const char *what)
+{
+    for (size_t i = 0; i < DEPOT_MOST_COMMANDS; i++) {
+        check(depot_short_at(l->at[ANSWERS].bytes, i) == DEPOT_DONE, what, "answer", (unsigned long)i);
+        check(depot_key_at(l->at[KEYS].bytes, i) == i, what, "key", (unsigned long)i);
+        check(depot_short_at(l->at[CHUTES].bytes, i) == chute_of(i), what, "chute", (unsigned long)i);
+    }
+}
+
+static const struct settings largest = {DEPOT_MOST_NODES, DEPOT_MOST_WORKERS, DEPOT_MOST_CAPACITY};
+
 static void test_largest(void)
 {
-    const struct settings s = {DEPOT_MOST_NODES, DEPOT_MOST_WORKERS, DEPOT_MOST_CAPACITY};
-    struct lists l = opened(DEPOT_MOST_COMMANDS, s, 0);
+    struct lists l = opened(DEPOT_MOST_COMMANDS, largest, 0);
     struct list d = filling_and_emptying(DEPOT_MOST_NODES);
     for (size_t done = 0; done < DEPOT_MOST_COMMANDS; done += DEPOT_MOST_NODES)
         advance(&l, d.bytes, d.length, 0, "the largest settings");
-    for (size_t i = 0; i < DEPOT_MOST_COMMANDS; i++) {
-        check(depot_short_at(l.at[ANSWERS].bytes, i) == DEPOT_DONE, "largest", "answer", (unsigned long)i);
-        check(depot_key_at(l.at[KEYS].bytes, i) == i, "largest", "key", (unsigned long)i);
-        check(depot_short_at(l.at[CHUTES].bytes, i) == chute_of(i), "largest", "chute", (unsigned long)i);
-    }
+    check_all_inserted(&l, "largest");
     report(&l, COUNTS, DEPOT_COUNTS_LENGTH, 0, "the largest settings");
     report(&l, STATUS, DEPOT_STATUS_LENGTH, 0, "the largest settings");
     free(d.bytes);
     free_all(&l);
 }
 
+/* The longest list that any run asks for, and the same run when all is done. */
+static void test_dispatch_largest(void)
+{
+    struct lists l = opened(DEPOT_MOST_COMMANDS, largest, 0);
+    check(bound_of(&l) == 1896960 && DEPOT_MOST_STEPS == 1896960, "largest dispatch", "bound", (unsigned long)bound_of(&l));
+    check(dispatch(&l, 0, "largest dispatch") >= DEPOT_MOST_COMMANDS, "largest dispatch", "turns", 0);
+    check(is_finished(&l), "largest dispatch", "not finished", 0);
+    check_all_inserted(&l, "largest dispatch");
+    check(dispatch(&l, 1, "finished run") == 0, "finished run", "dispatch makes turns", 0);
+    check(bound_of(&l) == 64 * 456, "finished run", "bound", (unsigned long)bound_of(&l));
+    lend(&l, 64 * 456 - 1, DEPOT_COUNT_LENGTH);
+    expect(DISPATCH, &l, none, DEPOT_WRONG_LENGTH, "finished run, a list shorter than the bound");
+    free_all(&l);
+}
+
+/* 6 for another list, then 12, then 6 for a dealing's list that is too short; longer ones are accepted. */
+static void test_dispatch_tests(void)
+{
+    const struct settings s = {3, 2, 4};
+    const size_t bound = (5 + 2) * (3 * 3 + 6);
+    struct lists l = opened(5, s, 1);
+    for (size_t length = 0; length < bound; length++) {
+        lend(&l, length, DEPOT_COUNT_LENGTH);
+        expect(DISPATCH, &l, none, DEPOT_WRONG_LENGTH, "a list shorter than the bound");
+    }
+    l.at[STATE].bytes[12] = 4; /* first free record above the graph size */
+    for (size_t length = 0; length <= bound; length += bound) {
+        lend(&l, length, DEPOT_COUNT_LENGTH);
+        expect(DISPATCH, &l, none, DEPOT_WRONG_STATE, "12 is tested before the length of the dealing's list");
+        lend(&l, length, DEPOT_COUNT_LENGTH - 1);
+        expect(DISPATCH, &l, none, DEPOT_WRONG_LENGTH, "the length of the count is tested before 12");
+    }
+    report(&l, NEEDED, DEPOT_COUNT_LENGTH, DEPOT_WRONG_STATE, "first free record");
+    report(&l, NEEDED, DEPOT_COUNT_LENGTH + 1, DEPOT_WRONG_LENGTH, "the length of the count is tested before 12");
+    l.at[STATE].bytes[12] = 1;
+    for (size_t longer = 0; longer <= 1000; longer += longer == 0 ? 1 : 999) {
+        struct lists again = copy_all(&l);
+        check(dispatch(&again, longer, "a longer list") > 0 && is_finished(&again), "a longer list", "not finished", 0);
+        free_all(&again);
+    }
+    free_all(&l);
+}
+
+/* The states in which parties are at once, as bits. */
+static unsigned states_of(const struct lists *l)
+{
+    unsigned states = 0;
+    for (size_t party = 0; party <= l->at[STATE].bytes[LARGEST_AT]; party++)
+        states |= 1u << l->at[STATE].bytes[PARTIES_AT + PARTY_LENGTH * party];
+    return states;
+}
+
+/* Dispatches from a moment, and checks that it leaves the answers, table and image that a dispatch from the opening left. */
+static void check_moment(const struct lists *l, const struct lists *wanted)
+{
+    struct lists ended = copy_all(l);
+    dispatch(&ended, 0, "dispatch from a moment");
+    check(is_finished(&ended), "dispatch from a moment", "not finished", states_of(l));
+    for (int i = KEYS; i < COMMANDS; i++)
+        check(same(ended.at[i], wanted->at[i]), "dispatch from a moment", "another list", (unsigned long)i);
+    free_all(&ended);
+}
+
+/* Turns one by one in a mixed order, and a dispatch wherever parties are in states in which they have not been at once. */
+static void dispatch_moments(const struct lists *opening)
+{
+    struct lists l = copy_all(opening), wanted = copy_all(opening);
+    uint8_t met[256] = {0};
+    uint32_t drawn = 1;
+    unsigned states = 0;
+    dispatch(&wanted, 0, "dispatch from the opening");
+    for (int turns = 0; turns < 5000; turns++) {
+        uint8_t party;
+        drawn = drawn * 1664525u + 1013904223u;
+        party = (uint8_t)((drawn >> 16) % (l.at[STATE].bytes[LARGEST_AT] + 1u));
+        advance(&l, &party, 1, 0, "one turn");
+        if (met[states_of(&l)]++ == 0)
+            check_moment(&l, &wanted);
+        states |= states_of(&l);
+    }
+    check(states == 255, "dispatch from a moment", "no party is in some state", states);
+    free_all(&wanted);
+    free_all(&l);
+}
+
+/* Without and with worker changes and checkpoints: the count goes from 8 to 12 and down to 1, and the image is the second one. */
+static void test_dispatch_kinds(void)
+{
+    const struct settings s = {10, 8, 3};
+    struct lists l = opened(40, s, 1);
+    dispatch_moments(&l);
+    put_workers(&l, 10, 12);
+    put_checkpoint(&l, 20, 0);
+    put_workers(&l, 30, 1);
+    put_checkpoint(&l, 35, 0);
+    expect(OPEN, &l, s, 0, "refused every kind");
+    dispatch_moments(&l);
+    dispatch(&l, 0, "every kind");
+    check(l.at[STATE].bytes[13] == 1, "every kind", "count in force", l.at[STATE].bytes[13]);
+    check(depot_image_place(l.at[IMAGE].bytes) == 36, "every kind", "place of the image", 0);
+    free_all(&l);
+}
+
+/* Opened from an image, with a party in every state at once: worker 1 clears, 2 has looked up, 3 has written, 4 holds, 5 walks,
+ * 6 searches, 7 is idle, and the loader is loading. The updates are of different items, so that none waits. */
+static void test_dispatch_every_state(void)
+{
+    enum { ITEMS = 12 };
+    static const uint8_t turns[][2] = {{0, 44}, {1, 2}, {2, 3}, {3, 4}, {4, 5}, {5, 6}, {2, 1},
+                                       {3, 2},  {1, 10}, {5, 6}, {0, 3}, {6, 2}}; /* party, and how many */
+    const struct settings s = {10, 7, ITEMS};
+    struct lists l = make_all(ITEMS, ITEMS);
+    uint8_t schedule[44];
+    resize(&l, OWN, depot_image_length(ITEMS));
+    put_record(l.at[OWN], 0, 1, 0, 1);
+    for (unsigned i = 0; i < ITEMS; i++) {
+        put_command(&l, i, DEPOT_UPDATE, i, chute_of(i));
+        put_record(l.at[OWN], i + 1, (i + 2) % (ITEMS + 1), 512, i);
+    }
+    expect(OPEN_FROM, &l, s, 0, "refused an image of twelve items");
+    for (size_t i = 0; i < sizeof turns / sizeof *turns; i++) {
+        memset(schedule, turns[i][0], sizeof schedule);
+        advance(&l, schedule, turns[i][1], 0, "the way to every state");
+    }
+    check(states_of(&l) == 255, "every state", "at once only", states_of(&l));
+    dispatch(&l, 0, "every state");
+    check(is_finished(&l), "every state", "not finished", 0);
+    for (unsigned i = 0; i < ITEMS; i++) {
+        check(depot_short_at(l.at[ANSWERS].bytes, i) == DEPOT_DONE, "every state", "answer", i);
+        check(depot_key_at(l.at[KEYS].bytes, i) == i, "every state", "key", i);
+        check(depot_short_at(l.at[CHUTES].bytes, i) == chute_of(i), "every state", "chute", i);
+    }
+    free_all(&l);
+}
+
 /* All 65 parties at the largest settings, in a mixed order, with reports between. */
 static void test_all_parties(void)
 {
-    const struct settings s = {DEPOT_MOST_NODES, DEPOT_MOST_WORKERS, DEPOT_MOST_CAPACITY};
-    struct lists l = opened(DEPOT_MOST_COMMANDS, s, 1);
+    struct lists l = opened(DEPOT_MOST_COMMANDS, largest, 1);
     uint32_t drawn = 1;
     for (int calls = 0; calls < 10; calls++) {
         uint8_t schedule[4000];
@@ -701,24 +931,35 @@ static void test_too_long(void)
     free_all(&l);
 }
 
-/* What a call answers to a list of a wrong length: openings test the commands' first, and the reports are not lent the image. */
-static uint64_t wrong_length(enum call c, int which, size_t by)
+/* What a call answers to a list that is longer or shorter by so much: openings test the commands' first, the reports are not lent
+ * the image, and a dispatch's list may be longer. */
+static uint64_t wrong_length(enum call c, int which, size_t by, int is_longer)
 {
     if (which == COMMANDS && by == 1 && (c == OPEN || c == OPEN_FROM))
         return DEPOT_WRONG_LIST_LENGTH;
-    return which == IMAGE && (c == COUNTS || c == STATUS) ? 0 : DEPOT_WRONG_LENGTH;
+    if ((which == IMAGE && is_report(c)) || (which == OWN && c == DISPATCH && is_longer))
+        return 0;
+    return DEPOT_WRONG_LENGTH;
+}
+
+/* The lists that have one right length, by call: an opening's own list is none, a dealing may have any length. */
+static int lists_of(enum call c)
+{
+    return c == DISPATCH ? LISTS : c == OPEN || c == ADVANCE ? OWN : TURNS;
 }
 
 /* Each list of each call one byte, and one entry, longer and shorter than it should be. */
 static void test_lengths(void)
 {
     static const size_t entry[LISTS] = {1,  DEPOT_KEY_LENGTH,     DEPOT_CHUTE_LENGTH, DEPOT_ANSWER_LENGTH, DEPOT_RECORD_LENGTH,
-                                        DEPOT_COMMAND_LENGTH, 1};
-    const size_t own[CALLS] = {0, depot_image_length(4), 3, DEPOT_COUNTS_LENGTH, DEPOT_STATUS_LENGTH};
+                                        DEPOT_COMMAND_LENGTH, 1, DEPOT_COUNT_LENGTH};
+    const size_t own[CALLS] = {0, depot_image_length(4), 3, DEPOT_COUNTS_LENGTH, DEPOT_STATUS_LENGTH, DEPOT_COUNT_LENGTH,
+                               (5 + 2) * (3 * 3 + 6)};
     const struct settings s = {3, 2, 4};
     struct lists base = opened(5, s, 1);
+    resize(&base, TURNS, DEPOT_COUNT_LENGTH);
     for (int c = 0; c < CALLS; c++)
-        for (int i = 0; i < (c == OPEN || c == ADVANCE ? OWN : LISTS); i++)
+        for (int i = 0; i < lists_of((enum call)c); i++)
             for (int way = 0; way < 4; way++) {
                 struct lists l = copy_all(&base);
                 size_t by = way < 2 ? 1 : c == OPEN_FROM && i == OWN ? DEPOT_RECORD_LENGTH : entry[i];
@@ -726,7 +967,7 @@ static void test_lengths(void)
                 if (own[c] > 0)
                     memset(l.at[OWN].bytes, c == OPEN_FROM ? 0 : 1, own[c]);
                 resize(&l, i, way % 2 ? l.at[i].length + by : l.at[i].length - by);
-                expect((enum call)c, &l, s, wrong_length((enum call)c, i, by), "a list of a wrong length");
+                expect((enum call)c, &l, s, wrong_length((enum call)c, i, by, way % 2), "a list of a wrong length");
                 free_all(&l);
             }
     free_all(&base);
@@ -750,7 +991,21 @@ static void test_parties(void)
 /* How often a changed byte got each number. */
 static unsigned long got[13];
 
-/* Lists with one byte changed, handed to every call: the answers agree, and an accepted state is stepped on. */
+/* How many accepted runs with a changed byte a dispatch finished, and how many it left. */
+static unsigned long finished, left;
+
+/* Dispatches from a run that no dealing need reach: within the bound, and by hand the same. */
+static void dispatch_changed(const struct lists *changed)
+{
+    struct lists l = copy_all(changed);
+    dispatch(&l, 0, "a changed byte");
+    finished += is_finished(&l) != 0;
+    left += is_finished(&l) == 0;
+    free_all(&l);
+}
+
+/* Lists with one byte changed, handed to every call: the answers agree, and an accepted state is stepped on. In a small graph it
+ * is dispatched too. */
 static void try_changed(const struct lists *base, int which, size_t offset, uint8_t value)
 {
     static const uint8_t schedule[] = {0, 1, 2, 1, 2, 0, 2, 1};
@@ -762,8 +1017,11 @@ static void try_changed(const struct lists *base, int which, size_t offset, uint
     check(answer == 0 || answer == 6 || answer == 12, "a changed byte", "answer, at offset", (unsigned long)offset);
     got[depot_number(answer) % 13]++;
     report(&l, STATUS, DEPOT_STATUS_LENGTH, answer, "a changed byte");
-    if (answer == 0 && l.at[STATE].bytes[3] == 1)
-        answer = DEPOT_UNKNOWN_THREAD; /* the largest count is 1, and there is a turn of party 2 */
+    report(&l, NEEDED, DEPOT_COUNT_LENGTH, answer, "a changed byte");
+    if (answer == 0 && l.at[STATE].bytes[SIZE_AT] < 10)
+        dispatch_changed(&l);
+    if (answer == 0 && l.at[STATE].bytes[LARGEST_AT] == 1)
+        answer = DEPOT_UNKNOWN_THREAD; /* there is a turn of party 2 */
     advance(&l, schedule, sizeof schedule, answer, "a changed byte");
     free_all(&l);
 }
@@ -864,6 +1122,10 @@ int main(void)
     test_order_of_tests();
     test_largest_image();
     test_largest();
+    test_dispatch_largest();
+    test_dispatch_tests();
+    test_dispatch_kinds();
+    test_dispatch_every_state();
     test_all_parties();
     test_settings();
     test_places();
@@ -871,6 +1133,7 @@ int main(void)
     test_lengths();
     test_parties();
     test_changed_bytes(small, 9, 60);
+    check(finished > 0 && left > 0, "changed bytes", "no dispatch finished, or all did", finished);
     test_changed_bytes(large, 40, 1200);
     test_identifiers();
     printf("edges: %lu checks, %lu failed\n", checks, failures);

@@ -8,7 +8,7 @@
 #include <stdlib.h>
 #include <string.h>
 
-enum { STACK = 1 << 20, PAINT = 0x5a, CALLS = 8, IMAGE_LENGTH = DEPOT_RECORD_LENGTH * (DEPOT_MOST_CAPACITY + 1) };
+enum { STACK = 1 << 20, PAINT = 0x5a, CALLS = 10, IMAGE_LENGTH = DEPOT_RECORD_LENGTH * (DEPOT_MOST_CAPACITY + 1) };
 
 static uint8_t state[DEPOT_STATE_LENGTH], keys[DEPOT_KEY_LENGTH * DEPOT_MOST_CAPACITY];
 static uint8_t chutes[DEPOT_CHUTE_LENGTH * DEPOT_MOST_CAPACITY], answers[DEPOT_ANSWER_LENGTH * DEPOT_MOST_COMMANDS];
@@ -16,10 +16,12 @@ static uint8_t commands[DEPOT_COMMAND_LENGTH * DEPOT_MOST_COMMANDS];
 static uint8_t image[IMAGE_LENGTH], source[IMAGE_LENGTH];
 static uint8_t schedule[100000], counts[DEPOT_COUNTS_LENGTH], status[DEPOT_STATUS_LENGTH];
 static uint8_t text[DEPOT_IDENTIFIER_LENGTH], key[DEPOT_KEY_LENGTH];
+static uint8_t lent[DEPOT_MOST_STEPS], count[DEPOT_COUNT_LENGTH];
 
 static const char *const names[CALLS] = {
     "depot_write_identifier", "depot_read_identifier", "depot_open",      "depot_advance",
-    "depot_pending_counts",   "depot_worker_status",   "depot_open_from", "depot_advance, with a checkpoint"};
+    "depot_pending_counts",   "depot_worker_status",   "depot_open_from", "depot_advance, with a checkpoint",
+    "depot_steps_needed",     "depot_dispatch"};
 
 #define RUN state, sizeof state, keys, sizeof keys, chutes, sizeof chutes, answers, sizeof answers
 #define IMAGE image, sizeof image
@@ -41,6 +43,10 @@ static uint64_t call(int which)
         return depot_worker_status(RUN, COMMANDS, status, sizeof status);
     case 6:
         return depot_open_from(RUN, IMAGE, COMMANDS, source, sizeof source, SETTINGS);
+    case 8:
+        return depot_steps_needed(RUN, COMMANDS, count, sizeof count);
+    case 9:
+        return depot_dispatch(RUN, IMAGE, COMMANDS, lent, sizeof lent, count, sizeof count);
     default:
         return depot_advance(RUN, IMAGE, COMMANDS, schedule, sizeof schedule);
     }
@@ -109,5 +115,6 @@ int main(void)
         bad |= used > DEPOT_STACK_USE;
     }
     bad |= depot_image_place(image) != 1;
+    bad |= depot_short_at(answers, DEPOT_MOST_COMMANDS - 1) == DEPOT_NOT_YET; /* the dispatch went to the end */
     return bad ? EXIT_FAILURE : EXIT_SUCCESS;
 }

@@ -2,7 +2,8 @@
 //! one process, and their lists are compared at the end; a difference ends with status 1.
 //!
 //! `bench [runs [part [turns]]]`: 11 runs, all parts and whole lists unless said. The parts are
-//! `steps`, `calls`, `growth`, `reads`, `mailing` and `checkpoint`; `turns` is the most that is dealt of a list.
+//! `steps`, `calls`, `growth`, `reads`, `mailing`, `checkpoint` and `dispatch`; `turns` is the most that is dealt
+//! of a list, but for `dispatch`, which makes its own.
 
 use std::env;
 use std::path::PathBuf;
@@ -16,6 +17,7 @@ use measure::Bench;
 mod archive;
 mod checkpoint;
 mod clock;
+mod dispatch;
 mod input;
 mod lists;
 mod measure;

@@ -28,7 +28,7 @@ pub struct Times {
 
 impl Times {
     pub fn ratio(self) -> f64 {
-        self.proved.as_secs_f64() / self.plain.as_secs_f64()
+        ratio(self.proved, self.plain)
     }
 
     /// By how much each side takes longer than in others, for each of so many.
@@ -59,18 +59,8 @@ pub struct Bench {
 impl Bench {
     /// The whole schedule in parts, each given to one side after the other.
     pub fn steps(&self, input: &Input) -> Result<StepTimes, String> {
-        let repeats = LEAST_TURNS.div_ceil(input.schedule.len());
-        let mut times = [const { Vec::new() }; 3];
-        for _ in 0..self.runs {
-            let mut sums = [Duration::ZERO; 3];
-            for _ in 0..repeats {
-                self.steps_once(input, &mut sums)?;
-            }
-            for (times, sum) in times.iter_mut().zip(sums) {
-                times.push(sum / repeats as u32);
-            }
-        }
-        let [proved, plain, turns] = times.map(median);
+        let once = |times: &mut _| self.steps_once(input, times);
+        let [proved, plain, turns] = self.medians(input.schedule.len(), once)?;
         Ok(StepTimes {
             calls: Times { proved, plain },
             turns: Times {
@@ -78,6 +68,26 @@ impl Bench {
                 plain: turns,
             },
         })
+    }
+
+    /// Medians of three times that are taken by turns, of work that adds them and makes so many turns.
+    pub fn medians(
+        &self,
+        turns: usize,
+        mut once: impl FnMut(&mut [Duration; 3]) -> Result<(), String>,
+    ) -> Result<[Duration; 3], String> {
+        let repeats = LEAST_TURNS.div_ceil(turns);
+        let mut times = [const { Vec::new() }; 3];
+        for _ in 0..self.runs {
+            let mut sums = [Duration::ZERO; 3];
+            for _ in 0..repeats {
+                once(&mut sums)?;
+            }
+            for (times, sum) in times.iter_mut().zip(sums) {
+                times.push(sum / repeats as u32);
+            }
+        }
+        Ok(times.map(median))
     }
 
     /// Adds the times of the proved calls, the plain calls and the plain turns.
@@ -157,6 +167,11 @@ fn batch(mut call: impl FnMut() -> u64) -> Result<Duration, String> {
     let (time, answers) = timed(|| (0..BATCH).map(|_| black_box(call())).max());
     accepted("call", answers.unwrap_or(0))?;
     Ok(time / BATCH)
+}
+
+/// How many times as long one takes as another.
+pub fn ratio(one: Duration, other: Duration) -> f64 {
+    one.as_secs_f64() / other.as_secs_f64()
 }
 
 pub fn median(mut times: Vec<Duration>) -> Duration {

@@ -7,12 +7,14 @@ use second::run::Settings;
 
 use crate::checkpoint::{MANY, list, source};
 use crate::input::{Input, Kinds, Order};
-use crate::measure::{Bench, CALL_STEPS, StepTimes, Times};
+use crate::measure::{Bench, CALL_STEPS, StepTimes, Times, ratio};
 
 const MOST_COMMANDS: usize = 4096;
 /// The most turns dealt of a list where many settings are measured.
 const FEWER_TURNS: usize = 2_000_000;
 const LARGEST: Settings = settings(150, 64, 4096);
+/// Settings of which whole lists are measured.
+const WHOLE: [Settings; 3] = [LARGEST, settings(8, 4, 4096), settings(2, 1, 4096)];
 
 const fn settings(size: u8, workers: u8, room: u16) -> Settings {
     Settings {
@@ -25,19 +27,21 @@ const fn settings(size: u8, workers: u8, room: u16) -> Settings {
 /// Measures and prints one part, or all.
 pub fn print(bench: &Bench, part: Option<&str>) -> Result<(), String> {
     type Part = fn(&Bench) -> Result<(), String>;
-    let parts: [(&str, Part); 6] = [
+    let parts: [(&str, Part); 7] = [
         ("steps", steps),
         ("calls", calls),
         ("growth", growth),
         ("reads", reads),
         ("mailing", mailing),
         ("checkpoint", checkpoint),
+        ("dispatch", dispatch),
     ];
     if let Some(part) = part
         && parts.iter().all(|(name, _)| *name != part)
     {
         return Err(format!(
-            "no part `{part}`; the parts are steps, calls, growth, reads, mailing and checkpoint"
+            "no part `{part}`; the parts are steps, calls, growth, reads, mailing, checkpoint and \
+             dispatch"
         ));
     }
     println!("Medians of {} runs, processor time.", bench.runs);
@@ -97,7 +101,7 @@ fn table_of_steps(bench: &Bench, kinds: Kinds) -> Result<(), String> {
         ("long chain", Order::LongChain),
         ("random, no waits", Order::Moving),
     ];
-    for settings in [LARGEST, settings(8, 4, 4096), settings(2, 1, 4096)] {
+    for settings in WHOLE {
         for (name, order) in orders {
             let input = Input::new(settings, kinds, MOST_COMMANDS, order, bench.most_turns);
             let mut row = row_of_steps(name, &input, &bench.steps(&input)?);
@@ -112,15 +116,10 @@ fn table_of_steps(bench: &Bench, kinds: Kinds) -> Result<(), String> {
 }
 
 fn row_of_steps(name: &str, input: &Input, times: &StepTimes) -> Vec<String> {
-    let Settings {
-        size,
-        workers,
-        room,
-    } = input.settings;
     let steps = input.schedule.len();
     let done = if input.done { "" } else { " (not done)" };
     vec![
-        format!("{size}, {workers}, {room}"),
+        shown(input.settings),
         name.to_string(),
         format!("{steps}{done}"),
         percent(input.waits, steps),
@@ -130,6 +129,16 @@ fn row_of_steps(name: &str, input: &Input, times: &StepTimes) -> Vec<String> {
         rate(steps, times.turns.plain),
         format!("{:.2}", times.turns.ratio()),
     ]
+}
+
+/// Size, workers and room.
+fn shown(settings: Settings) -> String {
+    let Settings {
+        size,
+        workers,
+        room,
+    } = settings;
+    format!("{size}, {workers}, {room}")
 }
 
 fn print_row(cells: &[String]) {
@@ -186,6 +195,38 @@ fn checkpoint(bench: &Bench) -> Result<(), String> {
     Ok(())
 }
 
+/// A list dispatched from its opening to its end, and the same turns given to both sides.
+fn dispatch(bench: &Bench) -> Result<(), String> {
+    println!(
+        "Dispatch: the list of the steps, from its opening to its end in one call; and the steps \
+         that were written, advanced from the same opening in one call.\n"
+    );
+    println!(
+        "| Size, workers, room | Steps | Bound | Used | Dispatch, proved | Advance, proved | Ratio \
+         | Advance, plain | Dispatch, ratio to plain | Advance, ratio to plain |"
+    );
+    println!("|---|---|---|---|---|---|---|---|---|---|");
+    for settings in WHOLE {
+        let kinds = Kinds::InsertsAndReads;
+        let input = Input::new(settings, kinds, MOST_COMMANDS, Order::Random, 0);
+        let it = bench.dispatch(&input)?;
+        println!(
+            "| {} | {} | {} | {} | {} | {} | {:.2} | {} | {:.2} | {:.2} |",
+            shown(settings),
+            it.steps,
+            it.bound,
+            percent(it.steps, it.bound),
+            micros(it.dispatch),
+            micros(it.advance),
+            ratio(it.dispatch, it.advance),
+            micros(it.plain),
+            ratio(it.dispatch, it.plain),
+            ratio(it.advance, it.plain),
+        );
+    }
+    Ok(())
+}
+
 /// How opening, an empty call and a step grow with list, size and room.
 fn growth(bench: &Bench) -> Result<(), String> {
     println!(
@@ -235,13 +276,16 @@ fn long_chain(settings: Settings, count: usize) -> Input {
 
 /// Both times and their ratio.
 fn cells(times: Times) -> String {
-    let micros = |time: Duration| format!("{:.1} µs", time.as_secs_f64() * 1e6);
     let ratio = times.ratio();
     format!(
         "{} | {} | {ratio:.2}",
         micros(times.proved),
         micros(times.plain)
     )
+}
+
+fn micros(time: Duration) -> String {
+    format!("{:.1} µs", time.as_secs_f64() * 1e6)
 }
 
 fn rate(steps: usize, time: Duration) -> String {
