@@ -1,7 +1,6 @@
 //! The dispatcher on a list from its opening, and the turns that it wrote, performed from the same
 //! opening by both sides.
 
-use std::hint::black_box;
 use std::time::Duration;
 
 use second::depot::Second;
@@ -10,41 +9,6 @@ use crate::clock::timed;
 use crate::input::Input;
 use crate::lists::{Lists, accepted, same};
 use crate::measure::Bench;
-
-unsafe extern "C" {
-    fn depot_steps_needed(
-        state: *const u8,
-        state_length: usize,
-        keys: *const u8,
-        keys_length: usize,
-        chutes: *const u8,
-        chutes_length: usize,
-        answers: *const u8,
-        answers_length: usize,
-        commands: *const u8,
-        commands_length: usize,
-        count: *mut u8,
-        count_length: usize,
-    ) -> u64;
-    fn depot_dispatch(
-        state: *mut u8,
-        state_length: usize,
-        keys: *mut u8,
-        keys_length: usize,
-        chutes: *mut u8,
-        chutes_length: usize,
-        answers: *mut u8,
-        answers_length: usize,
-        image: *mut u8,
-        image_length: usize,
-        commands: *const u8,
-        commands_length: usize,
-        schedule: *mut u8,
-        schedule_length: usize,
-        count: *mut u8,
-        count_length: usize,
-    ) -> u64;
-}
 
 /// What a lent list holds where nothing is written: no party's number.
 const UNWRITTEN: u8 = 255;
@@ -63,9 +27,9 @@ impl Bench {
     /// The three by turns, each in one call from the same opening.
     pub fn dispatch(&self, input: &Input) -> Result<Dispatched, String> {
         let opened = Lists::opened(&self.proved, input)?;
-        let bound = steps_needed(&opened, input)?;
+        let bound = opened.steps_needed(&self.proved, input)?;
         let mut lent = vec![UNWRITTEN; bound];
-        let steps = dispatch(&mut opened.clone(), input, &mut lent)?;
+        let steps = opened.clone().dispatch(&self.proved, input, &mut lent)?;
         let schedule = lent[..steps].to_vec();
         let [dispatch, advance, plain] = self.medians(steps, |times| {
             lent[..steps].fill(UNWRITTEN);
@@ -91,7 +55,7 @@ impl Bench {
         times: &mut [Duration; 3],
     ) -> Result<(), String> {
         let [mut dispatched, mut advanced, mut plain] = [opened; 3].map(Lists::clone);
-        let (time, steps) = timed(|| dispatch(&mut dispatched, input, lent));
+        let (time, steps) = timed(|| dispatched.dispatch(&self.proved, input, lent));
         times[0] += time;
         let schedule = &lent[..steps?];
         let (time, answer) = timed(|| advanced.advance(&self.proved, input, schedule));
@@ -114,64 +78,12 @@ fn written(lent: &[u8], schedule: &[u8]) -> Result<(), String> {
     Ok(())
 }
 
-/// How long a list must be lent to the dispatcher.
-fn steps_needed(lists: &Lists, input: &Input) -> Result<usize, String> {
-    let mut count = [0; 8];
-    // SAFETY: each pointer and length are those of one live list, of which the call writes the last
-    // alone and keeps none.
-    let answer = unsafe {
-        depot_steps_needed(
-            lists.state.as_ptr(),
-            lists.state.len(),
-            lists.keys.as_ptr(),
-            lists.keys.len(),
-            lists.chutes.as_ptr(),
-            lists.chutes.len(),
-            lists.answers.as_ptr(),
-            lists.answers.len(),
-            input.commands.as_ptr(),
-            input.commands.len(),
-            count.as_mut_ptr(),
-            count.len(),
-        )
-    };
-    accepted("steps_needed", answer)?;
-    Ok(u64::from_be_bytes(count) as usize)
-}
-
-/// Dispatches, and gives the number of steps.
-fn dispatch(lists: &mut Lists, input: &Input, lent: &mut [u8]) -> Result<usize, String> {
-    let mut count = [0; 8];
-    let commands = black_box(&input.commands);
-    // SAFETY: each pointer and length are those of one live list, no two of which overlap; the call
-    // writes none outside and keeps none.
-    let answer = unsafe {
-        depot_dispatch(
-            lists.state.as_mut_ptr(),
-            lists.state.len(),
-            lists.keys.as_mut_ptr(),
-            lists.keys.len(),
-            lists.chutes.as_mut_ptr(),
-            lists.chutes.len(),
-            lists.answers.as_mut_ptr(),
-            lists.answers.len(),
-            lists.image.as_mut_ptr(),
-            lists.image.len(),
-            commands.as_ptr(),
-            commands.len(),
-            lent.as_mut_ptr(),
-            lent.len(),
-            count.as_mut_ptr(),
-            count.len(),
-        )
-    };
-    accepted("dispatch", answer)?;
-    Ok(u64::from_be_bytes(count) as usize)
-}
-
 #[cfg(test)]
 mod tests {
+    use std::path::PathBuf;
+
     use super::*;
+    use crate::archive::Archive;
     use crate::input::{Kinds, Order};
     use second::run::Settings;
 
@@ -194,24 +106,27 @@ mod tests {
     /// the same store. An insert takes nine turns, a read eight.
     #[test]
     fn a_list_is_dispatched_to_its_end() {
+        let proved = &Archive {
+            program: PathBuf::new(), // the program is not run here
+        };
         let input = list(20);
         let mut dispatched = Lists::opened(&Second, &input).expect("it is opened");
         let mut advanced = dispatched.clone();
         assert!(input.done);
         assert_eq!(advanced.advance(&Second, &input, &input.schedule), 0);
         assert_eq!(
-            steps_needed(&dispatched, &input),
+            dispatched.steps_needed(proved, &input),
             Ok((20 + 4) * (3 * 8 + 6))
         );
         let mut lent = vec![UNWRITTEN; 720];
         assert_eq!(
-            dispatch(&mut dispatched, &input, &mut lent),
+            dispatched.dispatch(proved, &input, &mut lent),
             Ok(2 * 9 + 18 * 8)
         );
         assert_eq!(dispatched.answers, advanced.answers);
         assert_eq!(dispatched.keys, advanced.keys);
         assert_eq!(dispatched.chutes, advanced.chutes);
-        assert_eq!(steps_needed(&dispatched, &input), Ok(4 * (3 * 8 + 6)));
+        assert_eq!(dispatched.steps_needed(proved, &input), Ok(4 * (3 * 8 + 6)));
     }
 
     #[test]

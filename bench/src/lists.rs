@@ -64,6 +64,34 @@ impl Lists {
         )
     }
 
+    /// How long a list must be lent to a dispatch.
+    pub fn steps_needed(&self, depot: &impl Depot, input: &Input) -> Result<usize, String> {
+        let lists = bytes::Lists {
+            state: &self.state,
+            keys: &self.keys,
+            chutes: &self.chutes,
+            answers: &self.answers,
+            commands: &input.commands,
+        };
+        let mut count = [0; 8];
+        accepted("steps_needed", depot.steps_needed(lists, &mut count))?;
+        Ok(u64::from_be_bytes(count) as usize)
+    }
+
+    /// Dispatches, and gives the number of turns.
+    pub fn dispatch(
+        &mut self,
+        depot: &impl Depot,
+        input: &Input,
+        lent: &mut [u8],
+    ) -> Result<usize, String> {
+        let mut count = [0; 8];
+        let commands = black_box(&input.commands);
+        let answer = depot.dispatch(&mut self.lend(), commands, lent, &mut count);
+        accepted("dispatch", answer)?;
+        Ok(u64::from_be_bytes(count) as usize)
+    }
+
     /// Sets every byte.
     pub fn fill(&mut self, byte: u8) {
         let lent = self.lend();
