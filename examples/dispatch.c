@@ -57,7 +57,7 @@ static void open_list(void)
 /* How many turns dispatching may take now. */
 static size_t steps_needed(void)
 {
-    uint8_t count[DEPOT_COUNT_LENGTH];
+    uint8_t count[DEPOT_STEP_COUNT_LENGTH];
     must_accept("depot_steps_needed", depot_steps_needed(RUN, commands, sizeof commands, count, sizeof count));
     return (size_t)depot_key_at(count, 0);
 }
@@ -65,7 +65,7 @@ static size_t steps_needed(void)
 /* Dispatches, and gives the number of turns. The dealing itself is not needed any more. */
 static size_t dispatch(size_t allowed)
 {
-    uint8_t count[DEPOT_COUNT_LENGTH], *schedule = malloc(allowed);
+    uint8_t count[DEPOT_STEP_COUNT_LENGTH], *schedule = malloc(allowed);
     if (schedule == NULL) {
         printf("no memory\n");
         exit(EXIT_FAILURE);

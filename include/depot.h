@@ -69,7 +69,7 @@ enum {
     DEPOT_STATE_LENGTH = 4718,
     DEPOT_COUNTS_LENGTH = 150, /* pending counts */
     DEPOT_STATUS_LENGTH = 128,
-    DEPOT_COUNT_LENGTH = 8, /* a number of turns */
+    DEPOT_STEP_COUNT_LENGTH = 8, /* a number of turns */
     DEPOT_KEY_LENGTH = 8,
     DEPOT_CHUTE_LENGTH = 2,
     DEPOT_ANSWER_LENGTH = 2,
@@ -284,10 +284,10 @@ uint64_t depot_advance(uint8_t *state, size_t state_length, uint8_t *keys, size_
  * worker changes, and s the graph size. When all is done it is w × (3 × s + 6), not 0. DEPOT_MOST_STEPS is enough for every run
  * that dealings reach, as n is at most 4,096 there.
  *
- * Writes count, DEPOT_COUNT_LENGTH bytes, high byte first: depot_key_at(count, 0) is its number. Reads the rest.
+ * Writes count, DEPOT_STEP_COUNT_LENGTH bytes, high byte first: depot_key_at(count, 0) is its number. Reads the rest.
  * Refuses 6 (as depot_advance, without the image, and for the length of count), then 12.
  *
- *     uint8_t count[DEPOT_COUNT_LENGTH], *schedule = NULL;
+ *     uint8_t count[DEPOT_STEP_COUNT_LENGTH], *schedule = NULL;
  *     uint64_t answer = depot_steps_needed(state, sizeof state, keys, sizeof keys, chutes, sizeof chutes,
  *                                          answers, sizeof answers, commands, sizeof commands, count, sizeof count);
  *     if (answer == 0)
@@ -301,12 +301,11 @@ uint64_t depot_steps_needed(const uint8_t *state, size_t state_length, const uin
  * a list whose turns were dealt in part is finished from where it stands.
  *
  * Proved, for every list of calls of depot_advance and depot_dispatch from an accepted depot_open or depot_open_from, in which
- * each accepted call was handed the lists as those before it left them: what is proved of depot_advance on answers, table and
- * image holds; and depot_dispatch, lent a list that is long enough, removes every command and leaves every party idle, in at most
- * (n + w) × (3 × s + 6) turns. Proved of every call that is accepted: the same bytes, dealt by depot_advance on the same lists,
- * leave the same lists. A call that dispatches is thus one of depot_advance with its bytes. The theorems are of lists of numbers
- * (crates/dispatcher/specs/OverCalls.antt); that the calls here do the same on bytes is their contract
- * (crates/depot_c/specs/Boundary.antt).
+ * each accepted call was handed the lists as those before it left them (crates/depot_c/specs/Dispatching.antt): what is proved of
+ * depot_advance on answers, table, image and finish holds; and depot_dispatch, lent a list that is long enough, removes every
+ * command and leaves every party idle, in at most (n + w) × (3 × s + 6) turns. The bytes that it wrote, dealt by depot_advance on
+ * the same lists, leave the same lists, so that a call that dispatches is one of depot_advance with its bytes; this holds of every
+ * call that is accepted, also on a state that no dealing leads to (crates/dispatcher/specs/OverCalls.antt).
  *
  * Which turns: first whoever stands in the chain goes on until it stands there no more, the one furthest along before the others;
  * then each worker with a record finishes it, one after the other; then, while there are records in the chain, worker 1 serves the

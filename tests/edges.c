@@ -268,9 +268,9 @@ static size_t dispatch(struct lists *l, size_t longer, const char *what)
 {
     struct lists before = copy_all(l);
     size_t bound = bound_of(l), turns;
-    report(l, NEEDED, DEPOT_COUNT_LENGTH, 0, what);
+    report(l, NEEDED, DEPOT_STEP_COUNT_LENGTH, 0, what);
     check(depot_key_at(l->at[OWN].bytes, 0) == bound, what, "steps needed, and not", (unsigned long)bound);
-    lend(l, bound + longer, DEPOT_COUNT_LENGTH);
+    lend(l, bound + longer, DEPOT_STEP_COUNT_LENGTH);
     expect(DISPATCH, l, none, 0, what);
     turns = (size_t)depot_key_at(l->at[TURNS].bytes, 0);
     check(turns <= bound, what, "more turns than the bound", (unsigned long)turns);
@@ -718,7 +718,7 @@ static void test_dispatch_largest(void)
     check_all_inserted(&l, "largest dispatch");
     check(dispatch(&l, 1, "finished run") == 0, "finished run", "dispatch makes turns", 0);
     check(bound_of(&l) == 64 * 456, "finished run", "bound", (unsigned long)bound_of(&l));
-    lend(&l, 64 * 456 - 1, DEPOT_COUNT_LENGTH);
+    lend(&l, 64 * 456 - 1, DEPOT_STEP_COUNT_LENGTH);
     expect(DISPATCH, &l, none, DEPOT_WRONG_LENGTH, "finished run, a list shorter than the bound");
     free_all(&l);
 }
@@ -730,18 +730,18 @@ static void test_dispatch_tests(void)
     const size_t bound = (5 + 2) * (3 * 3 + 6);
     struct lists l = opened(5, s, 1);
     for (size_t length = 0; length < bound; length++) {
-        lend(&l, length, DEPOT_COUNT_LENGTH);
+        lend(&l, length, DEPOT_STEP_COUNT_LENGTH);
         expect(DISPATCH, &l, none, DEPOT_WRONG_LENGTH, "a list shorter than the bound");
     }
     l.at[STATE].bytes[12] = 4; /* first free record above the graph size */
     for (size_t length = 0; length <= bound; length += bound) {
-        lend(&l, length, DEPOT_COUNT_LENGTH);
+        lend(&l, length, DEPOT_STEP_COUNT_LENGTH);
         expect(DISPATCH, &l, none, DEPOT_WRONG_STATE, "12 is tested before the length of the dealing's list");
-        lend(&l, length, DEPOT_COUNT_LENGTH - 1);
+        lend(&l, length, DEPOT_STEP_COUNT_LENGTH - 1);
         expect(DISPATCH, &l, none, DEPOT_WRONG_LENGTH, "the length of the count is tested before 12");
     }
-    report(&l, NEEDED, DEPOT_COUNT_LENGTH, DEPOT_WRONG_STATE, "first free record");
-    report(&l, NEEDED, DEPOT_COUNT_LENGTH + 1, DEPOT_WRONG_LENGTH, "the length of the count is tested before 12");
+    report(&l, NEEDED, DEPOT_STEP_COUNT_LENGTH, DEPOT_WRONG_STATE, "first free record");
+    report(&l, NEEDED, DEPOT_STEP_COUNT_LENGTH + 1, DEPOT_WRONG_LENGTH, "the length of the count is tested before 12");
     l.at[STATE].bytes[12] = 1;
     for (size_t longer = 0; longer <= 1000; longer += longer == 0 ? 1 : 999) {
         struct lists again = copy_all(&l);
@@ -952,12 +952,12 @@ static int lists_of(enum call c)
 static void test_lengths(void)
 {
     static const size_t entry[LISTS] = {1,  DEPOT_KEY_LENGTH,     DEPOT_CHUTE_LENGTH, DEPOT_ANSWER_LENGTH, DEPOT_RECORD_LENGTH,
-                                        DEPOT_COMMAND_LENGTH, 1, DEPOT_COUNT_LENGTH};
-    const size_t own[CALLS] = {0, depot_image_length(4), 3, DEPOT_COUNTS_LENGTH, DEPOT_STATUS_LENGTH, DEPOT_COUNT_LENGTH,
+                                        DEPOT_COMMAND_LENGTH, 1, DEPOT_STEP_COUNT_LENGTH};
+    const size_t own[CALLS] = {0, depot_image_length(4), 3, DEPOT_COUNTS_LENGTH, DEPOT_STATUS_LENGTH, DEPOT_STEP_COUNT_LENGTH,
                                (5 + 2) * (3 * 3 + 6)};
     const struct settings s = {3, 2, 4};
     struct lists base = opened(5, s, 1);
-    resize(&base, TURNS, DEPOT_COUNT_LENGTH);
+    resize(&base, TURNS, DEPOT_STEP_COUNT_LENGTH);
     for (int c = 0; c < CALLS; c++)
         for (int i = 0; i < lists_of((enum call)c); i++)
             for (int way = 0; way < 4; way++) {
@@ -1017,7 +1017,7 @@ static void try_changed(const struct lists *base, int which, size_t offset, uint
     check(answer == 0 || answer == 6 || answer == 12, "a changed byte", "answer, at offset", (unsigned long)offset);
     got[depot_number(answer) % 13]++;
     report(&l, STATUS, DEPOT_STATUS_LENGTH, answer, "a changed byte");
-    report(&l, NEEDED, DEPOT_COUNT_LENGTH, answer, "a changed byte");
+    report(&l, NEEDED, DEPOT_STEP_COUNT_LENGTH, answer, "a changed byte");
     if (answer == 0 && l.at[STATE].bytes[SIZE_AT] < 10)
         dispatch_changed(&l);
     if (answer == 0 && l.at[STATE].bytes[LARGEST_AT] == 1)

@@ -16,7 +16,7 @@ static uint8_t commands[DEPOT_COMMAND_LENGTH * DEPOT_MOST_COMMANDS];
 static uint8_t image[IMAGE_LENGTH], source[IMAGE_LENGTH];
 static uint8_t schedule[100000], counts[DEPOT_COUNTS_LENGTH], status[DEPOT_STATUS_LENGTH];
 static uint8_t text[DEPOT_IDENTIFIER_LENGTH], key[DEPOT_KEY_LENGTH];
-static uint8_t lent[DEPOT_MOST_STEPS], count[DEPOT_COUNT_LENGTH];
+static uint8_t lent[DEPOT_MOST_STEPS], count[DEPOT_STEP_COUNT_LENGTH];
 
 static const char *const names[CALLS] = {
     "depot_write_identifier", "depot_read_identifier", "depot_open",      "depot_advance",

@@ -1,29 +1,26 @@
 -- The dispatcher's promises over calls (specs/OverCalls), proved: what it wrote, handed to `advance`, leaves the same lists, so its calls count
 -- as calls that deal that schedule; and from a reached state its schedule finishes. Assumes nothing.
-use Prim.Native.Nat.{ℕ, zero, suc, _+_, _*_, _≤_}
+use Prim.Native.Nat.{ℕ, _+_, _*_, _≤_}
 use native.Mathlib.Omega.{arith}
 use mathlib.Core.Path.{_≡_, refl, sym, ap, _∙_}
 use mathlib.Core.Bool.{Bool, true, false, cond, _&&_, and-eq-true-iff}
 use mathlib.Core.List.{List, [], _∷_, _++_, append-assoc, append-nil}
-use lib.ListN.{length, take, drop}
+use lib.ListN.{length, drop}
 use lib.Seq.{take-append-seam, drop-append-seam}
-use lib.Dec.{eqb, leb}
 use borrow.Author.Tests.{le-leb, leb-true}
 use Rattle.s10.specs.Refusal.{plain}
 use Rattle.command.specs.Read.{commandsIn}
 use Rattle.model.specs.Setup.{Setup, withoutEntries}
-use Rattle.model.specs.Step.{State, step, opened, steps}
+use Rattle.model.specs.Step.{State, opened, steps}
 use Rattle.model.specs.Statement.{Accepted, allWithin, removed}
-use Rattle.model.specs.Dispatch.{rank, chosen, Next, stop, stepOf, served, fresh, following, goesOn, stepsFrom, commandsLeft, stepsNeeded, dispatched}
-use Rattle.model.specs.Proof.Tests.{cond-cases}
+use Rattle.model.specs.Dispatch.{commandsLeft, stepsNeeded, dispatched}
 use Rattle.model.specs.Proof.Dispatching.{dispatched-few, dispatched-within, dispatcher-finishes}
 use Rattle.model.specs.Proof.Entries.{needed-without, dispatched-without}
-use Rattle.model.specs.Proof.Finish.Foremost.{foremost-within}
 use Rattle.state_bytes.specs.Layout.{Lists, listsOf, setupIn, stateIn, stateFits, handedBackFit, imageFits}
-use Rattle.state_bytes.specs.Outcome.{accepted, kept}
+use Rattle.state_bytes.specs.Outcome.{accepted}
 use Rattle.opening.proofs.Accepted.{accepted-opening, passed as call-passed}
 use Rattle.controller.specs.Calls.{advanceOn}
-use Rattle.controller.specs.Demand3.{Call, callOn}
+use Rattle.controller.specs.Demand3.{callOn}
 use Rattle.model.specs.Proof.Formed.Opening.{accepted-formed}
 use Rattle.model.specs.Proof.Finish.Schedule.{within-append}
 use Rattle.state_bytes.proofs.Passed.{state-passed}

@@ -5,7 +5,7 @@ use native.Mathlib.Numerals.{add-one}
 use mathlib.Core.Path.{_≡_, refl, sym, ap, _∙_, fun-ext, subst}
 use mathlib.Core.Bool.{Bool, true, false, cond, not, _&&_, and-eq-true-iff}
 use mathlib.Core.List.{List, [], _∷_, _++_, append-assoc, append-nil}
-use mathlib.Core.Logic.{_⊎_, inl, inr, ⊎-elim}
+use mathlib.Core.Logic.{_⊎_, ⊎-elim}
 use lib.ListN.{length, getD, take, drop, set, length-set, length-append, length-drop, drop-of-length-le}
 use lib.Dec.{leb}
 use lib.Seq.{take-suc, length-take-le, drop-cons, set-append-seam, getD-set-same, getD-set-other}
@@ -15,7 +15,7 @@ use Rattle.model.specs.declared.Thread.the-variants.{Idle}
 use Rattle.model.specs.Upd.{upd}
 use Rattle.model.specs.Setup.{Setup}
 use Rattle.model.specs.Step.{State, step, steps}
-use Rattle.model.specs.Dispatch.{Next, stop, stepOf, fresh, following, goesOn, stepsFrom}
+use Rattle.model.specs.Dispatch.{Next, stepOf, fresh, following, goesOn, stepsFrom}
 use Rattle.model.specs.Statement.{allWithin}
 use Rattle.model.specs.Proof.Tests.{true-false, eqb-cases}
 use Rattle.model.specs.Proof.Upd.{upd-at, upd-other}
@@ -31,7 +31,7 @@ use Rattle.state_bytes.specs.Layout.{Lists, allLists, listsOf}
 use Rattle.state_bytes.specs.Written.{Sets, Shown, Lays}
 use Rattle.choice.specs.declared.Plan.{Plan}
 use Rattle.choice.specs.Chosen.{nextOf, Fresh, staysWith, looksAt, Kept as Kept′}
-use Rattle.runner.specs.Performed.{Order, given, chosen, orderFrom, scheduleOf, Named, writtenIn, most, nextThread, Over, Ahead, notedIn, Performed}
+use Rattle.runner.specs.Performed.{Order, given, chosen, orderFrom, scheduleOf, Named, writtenIn, most, Over, Ahead, notedIn, Performed}
 use Rattle.byte_fields.proofs.Bytes.{tabulate-elements}
 
 -- the threads of an array, idle past its end

@@ -1,7 +1,7 @@
 -- `runner::perform` meets its contract. The outer loop's invariant: after so many steps the arrays show the state after them, and with what is
 -- left, the rest of the schedule or what the dispatcher still chooses, they are all. The inner loop's: the steps of the first j threads kept
 -- ahead are made. Assumes nothing.
-use Prim.Native.Nat.{ℕ, _+_, _-_, _^_, _≤_, _<_}
+use Prim.Native.Nat.{_+_, _-_, _^_, _≤_, _<_}
 use native.Mathlib.Omega.{arith}
 use mathlib.Core.Path.{_≡_, refl, sym, ap, _∙_}
 use borrow.Author.Needs.{needs}
@@ -9,7 +9,7 @@ use mathlib.Core.Logic.{⊎-elim}
 use lib.ListN.{length, getD}
 use Rattle.model.specs.Image.{imageLength}
 use Rattle.graph.specs.Memory.{memory}
-use Rattle.runner.specs.Performed.{orderFrom, most, Ahead}
+use Rattle.runner.specs.Performed.{orderFrom, most}
 use Rattle.runner.proofs.Performing.{Along, Block, along-none, along-block, block-none, block-more, ahead-named, lent-long, named-still, most-fits, positive, performed, ready-for, PlannedBy, by-looking, by-keeping}
 use Rattle.runner.proofs.perform.Statement.{statement}
 use Rattle.runner.proofs.perform.Tie as tie

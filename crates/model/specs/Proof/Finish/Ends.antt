@@ -1,12 +1,12 @@
 -- From every state that meets the invariant the dispatcher's schedule finishes: it removes every command and leaves every thread idle, in at
 -- most as many steps as the measure says. Assumes nothing.
-use Prim.Native.Nat.{ℕ, zero, suc, _+_, _*_, _≤_, _<_}
+use Prim.Native.Nat.{ℕ, zero, suc, _+_, _≤_, _<_}
 use native.Mathlib.Omega.{arith}
 use mathlib.Core.Path.{_≡_, refl, sym, ap, _∙_}
-use mathlib.Core.Bool.{Bool, true, false, not, cond, or-false}
+use mathlib.Core.Bool.{Bool, true, false, not, or-false}
 use mathlib.Core.List.{List, [], _∷_, _++_}
 use mathlib.Core.Logic.{_⊎_, inl, inr, ⊎-elim}
-use lib.ListN.{length, length-append}
+use lib.ListN.{length}
 use lib.Dec.{eqb, leb}
 use borrow.Author.Tests.{le-leb, leb-true, leb-false, eqb-true, eqb-false, not-true, not-false}
 use Rattle.model.specs.declared.Thread.the-variants.{Idle}
@@ -20,10 +20,9 @@ use Rattle.model.specs.Proof.Chain.Ghost.{ghostStep, ghostSteps}
 use Rattle.model.specs.Proof.Chain.Keep.{keeps, steps-keep}
 use Rattle.model.specs.Proof.Finish.Foremost.{rank-idle, idle-is, busy-rank, standing-rank, Foremost, foremost-within, foremost-largest}
 use Rattle.model.specs.Proof.Finish.Measure.{Φ}
-use Rattle.model.specs.Proof.Finish.Onward.{Others, step-others, foremost-kept}
+use Rattle.model.specs.Proof.Finish.Onward.{step-others, foremost-kept}
 use Rattle.model.specs.Proof.Finish.Chosen.{foremost-lowered}
 use Rattle.model.specs.Proof.Finish.Idle.{first-lowered, next-lowered, first-busy, next-busy, all-removed}
-use Rattle.model.specs.Proof.Finish.Bound.{unremoved, bound}
 use Rattle.model.specs.Proof.Finish.Left.{measure-needed}
 use Rattle.model.specs.Proof.Finish.Schedule.{steps-tell, steps-append, ghostSteps-append, within-append}
 use Rattle.model.specs.Proof.Service.{largest-fits, count-within}

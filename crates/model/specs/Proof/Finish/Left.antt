@@ -1,16 +1,15 @@
 -- The commands that are not loaded or whose nodes are not returned are those that are not removed. Assumes nothing.
-use Prim.Native.Nat.{ℕ, zero, suc, _+_, _-_, _*_, _≤_, _<_}
+use Prim.Native.Nat.{ℕ, zero, suc, _+_, _-_, _≤_}
 use native.Mathlib.Omega.{arith}
-use mathlib.Core.Path.{_≡_, refl, sym, ap, _∙_}
+use mathlib.Core.Path.{_≡_, refl, ap, _∙_}
 use mathlib.Core.Bool.{Bool, true, false, not, cond}
-use mathlib.Core.Logic.{_⊎_, inl, inr, ⊎-elim}
+use mathlib.Core.Logic.{_⊎_, ⊎-elim}
 use lib.ListN.{length}
 use lib.Dec.{eqb}
 use borrow.Author.Tests.{eqb-false, ne-eqb, not-true}
 use Rattle.node_set.specs.Members.{countBelow}
 use Rattle.model.specs.Setup.{Setup}
 use Rattle.model.specs.Step.{State}
-use Rattle.model.specs.Statement.{Accepted}
 use Rattle.model.specs.Dispatch.{commandsLeft, stepsNeeded}
 use Rattle.model.specs.Proof.Tests.{fails, true-false, le-cases}
 use Rattle.model.specs.Proof.Chain.Invariant.{Ghost, Inv}
