@@ -1,4 +1,4 @@
--- The measure: how many steps the strategy may still take from a state, at most. Each thread costs what its own walk may take, each node
+-- The measure: how many steps the finish may still take from a state, at most. Each thread costs what its own walk may take, each node
 -- that is not taken yet what its removal takes, each command that is not loaded yet that and its loading. Assumes nothing.
 use Prim.Native.Nat.{ℕ, suc, _+_, _-_, _*_, _≤_, _<_}
 use native.Mathlib.Omega.{arith}
