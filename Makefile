@@ -1,10 +1,9 @@
 # Thin: each target is a command of the toolchain or a script.
-.PHONY: demo test check edits bench install uninstall clean
+.PHONY: demo test check edits bench install uninstall dist clean
 
 PREFIX ?= /usr/local
 archive = target/staticlib/libdepot_c.a
 sources = crates.txt $(shell find crates -name '*.rt' -o -name '*.antt')
-prefix = $(DESTDIR)$(abspath $(PREFIX))
 
 # The program on document 01's example: two commands, five steps of the loader, fourteen of worker 1.
 demo:
@@ -34,13 +33,14 @@ $(archive): $(sources)
 
 # The C side below PREFIX: header, archive and pkg-config file. DESTDIR, if given, goes before it.
 install: $(archive)
-	install -d "$(prefix)/include" "$(prefix)/lib/pkgconfig"
-	install -m 644 include/depot.h "$(prefix)/include/depot.h"
-	install -m 644 $(archive) "$(prefix)/lib/libdepot_c.a"
-	sed 's|@PREFIX@|$(abspath $(PREFIX))|' depot.pc.in > "$(prefix)/lib/pkgconfig/depot.pc"
+	@PREFIX='$(PREFIX)' DESTDIR='$(DESTDIR)' tools/install
 
 uninstall:
-	rm -f "$(prefix)/include/depot.h" "$(prefix)/lib/libdepot_c.a" "$(prefix)/lib/pkgconfig/depot.pc"
+	@PREFIX='$(PREFIX)' DESTDIR='$(DESTDIR)' tools/install -r
+
+# The C side as one tar file, the same bytes on every build.
+dist: $(archive)
+	@tools/dist
 
 clean:
 	rm -rf target tests/second/target bench/target

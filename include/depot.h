@@ -1,6 +1,7 @@
 /* The depot controller for C: opening a list of commands, from an image of a store too, dealing turns, having them dealt to the
  * end, the panel's two reports, and identifiers.
- * Every call is proved to answer and to leave what is said here, whatever the lists hold, to end, and to stay inside its lists. */
+ * Every call is proved to answer and to leave what is said here, whatever the lists hold, to end, and to stay inside its lists.
+ * How to run a depot with them: docs/HOSTING.md; what the words mean: docs/CONCEPTS.md. */
 #ifndef DEPOT_H
 #define DEPOT_H
 
@@ -65,6 +66,9 @@ extern "C" {
  * The archive is libdepot_c.a, for x86-64 and the System V calling convention; of the C library it uses memcpy and memset.
  * `pkg-config --cflags --libs depot` gives the flags. */
 
+/* The version of this header and of the archive that it belongs to: 10000 × major + 100 × minor + patch. */
+#define DEPOT_VERSION 10000
+
 enum {
     DEPOT_STATE_LENGTH = 4718,
     DEPOT_COUNTS_LENGTH = 150, /* pending counts */
@@ -88,7 +92,7 @@ enum {
 
 #define DEPOT_LARGEST_KEY UINT64_C(45697599999999)
 
-/* Refusals by number. */
+/* Refusals by number, each with one name, so that a switch can take them all. */
 enum depot_refusal {
     DEPOT_ACCEPTED = 0,
     DEPOT_WRONG_GRAPH_SIZE = 1,  /* not 1 to 150 */
@@ -103,13 +107,17 @@ enum depot_refusal {
     DEPOT_WRONG_CHECK_DIGIT = 9, /* identifier: every letter and digit in order, check digit wrong */
     DEPOT_WRONG_CHUTE = 10,      /* insert, update: not 1 to 512; delete, read, checkpoint: not 0 */
     DEPOT_UNKNOWN_THREAD = 11,   /* party above the largest worker count of the opening and the list */
-    DEPOT_WRONG_STATE = 12,      /* a handed-back run that breaks its layout, docs/STATE-LAYOUT.md, its worker counts too */
-    DEPOT_KEY_TOO_LARGE = 12,    /* the same number, of depot_write_identifier: key above DEPOT_LARGEST_KEY */
+    DEPOT_OUT_OF_RANGE = 12,     /* a handed-back run that breaks its layout, docs/STATE-LAYOUT.md, its worker counts too; of
+                                    depot_write_identifier: key above DEPOT_LARGEST_KEY */
     DEPOT_WRONG_DIGIT = 13,      /* identifier: the first faulty character is at 3 to 11: no digit; tested in 8's place */
     DEPOT_WRONG_COUNT = 14,      /* worker change: count not 1 to 64; tested in 10's place */
     DEPOT_WRONG_CHAIN = 15,      /* image to open from: an index above the room, or keys that do not strictly ascend */
     DEPOT_WRONG_RECORD = 16      /* image to open from: record 0 or a record on the chain out of range */
 };
+
+/* Two more names of refusal 12, by the call that refuses: a run handed back, and a key to be written. */
+#define DEPOT_WRONG_STATE DEPOT_OUT_OF_RANGE
+#define DEPOT_KEY_TOO_LARGE DEPOT_OUT_OF_RANGE
 
 /* Kinds of command. DEPOT_WORKERS is a worker change: it sets the worker count. DEPOT_CHECKPOINT puts the store into the image.
  * Both name no item and are answered DEPOT_DONE. */
@@ -381,6 +389,238 @@ uint64_t depot_read_identifier(const uint8_t *text, size_t text_length, uint8_t 
  *     if (depot_write_identifier(0, text, sizeof text) == 0)
  *         printf("%.13s\n", (const char *)text);  (prints AA000000005AA) */
 uint64_t depot_write_identifier(uint64_t key, uint8_t *text, size_t text_length);
+
+/* ---- The same calls with fewer arguments, and what hosts ask besides
+ *
+ * All below is inline: it adds no symbol to the archive, and what it says of a run it reads off the layout of
+ * docs/STATE-LAYOUT.md. It is tested (tests/wrappers.c), not proved. */
+
+/* The six lists that a host keeps between calls, with the two numbers that give their lengths: a list handed over as part of this
+ * has the right length, and no list can stand in another's place. */
+struct depot_lists {
+    uint8_t *state;          /* DEPOT_STATE_LENGTH bytes */
+    uint8_t *keys;           /* DEPOT_KEY_LENGTH × capacity */
+    uint8_t *chutes;         /* DEPOT_CHUTE_LENGTH × capacity */
+    uint8_t *answers;        /* DEPOT_ANSWER_LENGTH × count; may be null if count is 0 */
+    uint8_t *image;          /* depot_image_length(capacity) */
+    const uint8_t *commands; /* DEPOT_COMMAND_LENGTH × count; may be null if count is 0 */
+    size_t capacity;         /* the room */
+    size_t count;            /* how many commands there are */
+};
+
+/* What stands for a list of no byte: a pointer is never null for the archive. */
+static inline const uint8_t *depot_some(const uint8_t *list)
+{
+    static const uint8_t none = 0;
+    return list != NULL ? list : &none;
+}
+
+/* The same for a list that a call may write; of no byte, so nothing is written. */
+static inline uint8_t *depot_some_lent(uint8_t *list, uint8_t *none)
+{
+    return list != NULL ? list : none;
+}
+
+/* As depot_open. */
+static inline uint64_t depot_lists_open(const struct depot_lists *l, uint64_t size, uint64_t workers)
+{
+    uint8_t none = 0;
+    return depot_open(l->state, DEPOT_STATE_LENGTH, l->keys, DEPOT_KEY_LENGTH * l->capacity, l->chutes,
+                      DEPOT_CHUTE_LENGTH * l->capacity, depot_some_lent(l->answers, &none), DEPOT_ANSWER_LENGTH * l->count,
+                      l->image, depot_image_length(l->capacity), depot_some(l->commands), DEPOT_COMMAND_LENGTH * l->count, size,
+                      workers, l->capacity);
+}
+
+/* As depot_open_from; source is an image of the same room. */
+static inline uint64_t depot_lists_open_from(const struct depot_lists *l, const uint8_t *source, uint64_t size, uint64_t workers)
+{
+    uint8_t none = 0;
+    return depot_open_from(l->state, DEPOT_STATE_LENGTH, l->keys, DEPOT_KEY_LENGTH * l->capacity, l->chutes,
+                           DEPOT_CHUTE_LENGTH * l->capacity, depot_some_lent(l->answers, &none), DEPOT_ANSWER_LENGTH * l->count,
+                           l->image, depot_image_length(l->capacity), depot_some(l->commands), DEPOT_COMMAND_LENGTH * l->count,
+                           source, depot_image_length(l->capacity), size, workers, l->capacity);
+}
+
+/* As depot_advance; schedule may be null if length is 0. */
+static inline uint64_t depot_lists_advance(const struct depot_lists *l, const uint8_t *schedule, size_t length)
+{
+    uint8_t none = 0;
+    return depot_advance(l->state, DEPOT_STATE_LENGTH, l->keys, DEPOT_KEY_LENGTH * l->capacity, l->chutes,
+                         DEPOT_CHUTE_LENGTH * l->capacity, depot_some_lent(l->answers, &none), DEPOT_ANSWER_LENGTH * l->count,
+                         l->image, depot_image_length(l->capacity), depot_some(l->commands), DEPOT_COMMAND_LENGTH * l->count,
+                         depot_some(schedule), length);
+}
+
+/* As depot_steps_needed; *steps is left as it was where the call is refused. */
+static inline uint64_t depot_lists_steps_needed(const struct depot_lists *l, size_t *steps)
+{
+    uint8_t count[DEPOT_STEP_COUNT_LENGTH];
+    uint64_t answer = depot_steps_needed(l->state, DEPOT_STATE_LENGTH, l->keys, DEPOT_KEY_LENGTH * l->capacity, l->chutes,
+                                         DEPOT_CHUTE_LENGTH * l->capacity, depot_some(l->answers), DEPOT_ANSWER_LENGTH * l->count,
+                                         depot_some(l->commands), DEPOT_COMMAND_LENGTH * l->count, count, sizeof count);
+    if (answer == 0)
+        *steps = (size_t)depot_key_at(count, 0);
+    return answer;
+}
+
+/* As depot_dispatch; *steps, how many turns there were, is left as it was where the call is refused. */
+static inline uint64_t depot_lists_dispatch(const struct depot_lists *l, uint8_t *schedule, size_t length, size_t *steps)
+{
+    uint8_t none = 0, count[DEPOT_STEP_COUNT_LENGTH];
+    uint64_t answer = depot_dispatch(l->state, DEPOT_STATE_LENGTH, l->keys, DEPOT_KEY_LENGTH * l->capacity, l->chutes,
+                                     DEPOT_CHUTE_LENGTH * l->capacity, depot_some_lent(l->answers, &none),
+                                     DEPOT_ANSWER_LENGTH * l->count, l->image, depot_image_length(l->capacity),
+                                     depot_some(l->commands), DEPOT_COMMAND_LENGTH * l->count, depot_some_lent(schedule, &none),
+                                     length, count, sizeof count);
+    if (answer == 0)
+        *steps = (size_t)depot_key_at(count, 0);
+    return answer;
+}
+
+/* As depot_pending_counts; counts has DEPOT_COUNTS_LENGTH bytes. */
+static inline uint64_t depot_lists_pending_counts(const struct depot_lists *l, uint8_t *counts)
+{
+    return depot_pending_counts(l->state, DEPOT_STATE_LENGTH, l->keys, DEPOT_KEY_LENGTH * l->capacity, l->chutes,
+                                DEPOT_CHUTE_LENGTH * l->capacity, depot_some(l->answers), DEPOT_ANSWER_LENGTH * l->count,
+                                depot_some(l->commands), DEPOT_COMMAND_LENGTH * l->count, counts, DEPOT_COUNTS_LENGTH);
+}
+
+/* As depot_worker_status; status has DEPOT_STATUS_LENGTH bytes. */
+static inline uint64_t depot_lists_worker_status(const struct depot_lists *l, uint8_t *status)
+{
+    return depot_worker_status(l->state, DEPOT_STATE_LENGTH, l->keys, DEPOT_KEY_LENGTH * l->capacity, l->chutes,
+                               DEPOT_CHUTE_LENGTH * l->capacity, depot_some(l->answers), DEPOT_ANSWER_LENGTH * l->count,
+                               depot_some(l->commands), DEPOT_COMMAND_LENGTH * l->count, status, DEPOT_STATUS_LENGTH);
+}
+
+/* Puts a command at its place, from 1, of a list of commands. text is an identifier of 13 characters, or null for a worker change
+ * or a checkpoint: thirteen characters '0'. Nothing is tested; depot_open does that. */
+static inline void depot_put_command(uint8_t *commands, size_t place, enum depot_kind kind, const char *text, unsigned chute)
+{
+    uint8_t *command = commands + DEPOT_COMMAND_LENGTH * (place - 1);
+    size_t i;
+    command[0] = (uint8_t)kind;
+    for (i = 0; i < DEPOT_IDENTIFIER_LENGTH; i++)
+        command[1 + i] = text != NULL ? (uint8_t)text[i] : (uint8_t)'0';
+    command[14] = (uint8_t)(chute >> 8 & 255u);
+    command[15] = (uint8_t)(chute & 255u);
+}
+
+/* The answer to the command at a place, from 1. */
+static inline unsigned depot_answer_at(const struct depot_lists *l, size_t place)
+{
+    return depot_short_at(l->answers, place - 1);
+}
+
+/* Whether every command has its answer; the table is then the last one, but for a worker that still removes nothing changes it. */
+static inline int depot_all_answered(const struct depot_lists *l)
+{
+    size_t i;
+    for (i = 0; i < l->count; i++)
+        if (depot_short_at(l->answers, i) == DEPOT_NOT_YET)
+            return 0;
+    return 1;
+}
+
+/* How many commands are loaded. */
+static inline unsigned depot_loaded(const struct depot_lists *l)
+{
+    return depot_short_at(l->state + 8, 0);
+}
+
+/* The record behind a record, 0 at the end of the chain; behind the head, 0, is the first. */
+static inline unsigned depot_next_record(const struct depot_lists *l, unsigned record)
+{
+    return l->state[14 + record];
+}
+
+/* The place of the command that a record holds, 0 for none. */
+static inline unsigned depot_record_place(const struct depot_lists *l, unsigned record)
+{
+    return depot_short_at(l->state + 165, record);
+}
+
+/* The identifier of the command that a record holds: 13 characters in the list of commands, without an ending 0; null for none. */
+static inline const char *depot_record_text(const struct depot_lists *l, unsigned record)
+{
+    unsigned place = depot_record_place(l, record);
+    return place == 0 ? NULL : (const char *)(l->commands + DEPOT_COMMAND_LENGTH * (size_t)(place - 1) + 1);
+}
+
+/* How many records are in the chain; at most DEPOT_MOST_NODES, also in a run that no dealing reaches. */
+static inline unsigned depot_chain_length(const struct depot_lists *l)
+{
+    unsigned length = 0, record = depot_next_record(l, 0);
+    while (record != 0 && length < DEPOT_MOST_NODES) {
+        length++;
+        record = depot_next_record(l, record);
+    }
+    return length;
+}
+
+/* The state of a party, 0 the loader: enum depot_thread_state; and its own record, 0 for none. */
+static inline unsigned depot_party_state(const struct depot_lists *l, unsigned party)
+{
+    return l->state[4393 + 5 * party];
+}
+
+static inline unsigned depot_party_record(const struct depot_lists *l, unsigned party)
+{
+    return l->state[4393 + 5 * party + 2];
+}
+
+/* Whether every command is removed and every party idle: nothing is left to be dealt. */
+static inline int depot_all_removed(const struct depot_lists *l)
+{
+    unsigned i;
+    if (depot_loaded(l) != l->count)
+        return 0;
+    for (i = 1; i <= DEPOT_MOST_NODES; i++)
+        if (depot_record_place(l, i) != 0)
+            return 0;
+    for (i = 0; i <= DEPOT_MOST_WORKERS; i++)
+        if (depot_party_state(l, i) != DEPOT_IDLE)
+            return 0;
+    return 1;
+}
+
+/* A refusal in words, by its number (depot_number of an answer). */
+static inline const char *depot_refusal_text(unsigned number)
+{
+    switch (number) {
+    case DEPOT_ACCEPTED: return "accepted";
+    case DEPOT_WRONG_GRAPH_SIZE: return "graph size not 1 to 150";
+    case DEPOT_WRONG_WORKERS: return "workers not 1 to 64";
+    case DEPOT_WRONG_CAPACITY: return "room not 1 to 4,096";
+    case DEPOT_WRONG_LIST_LENGTH: return "length of the commands no multiple of 16";
+    case DEPOT_TOO_MANY_COMMANDS: return "over 4,096 commands";
+    case DEPOT_WRONG_LENGTH: return "a list of a wrong length";
+    case DEPOT_UNKNOWN_KIND: return "kind not 1 to 6";
+    case DEPOT_MALFORMED: return "identifier malformed";
+    case DEPOT_WRONG_CHECK_DIGIT: return "check digit wrong";
+    case DEPOT_WRONG_CHUTE: return "chute wrong for the kind";
+    case DEPOT_UNKNOWN_THREAD: return "a party that is not there";
+    case DEPOT_OUT_OF_RANGE: return "run or key out of range";
+    case DEPOT_WRONG_DIGIT: return "no digit where one must stand in the identifier";
+    case DEPOT_WRONG_COUNT: return "worker count not 1 to 64";
+    case DEPOT_WRONG_CHAIN: return "image: its chain is broken";
+    case DEPOT_WRONG_RECORD: return "image: a record out of range";
+    default: return "no refusal of this header";
+    }
+}
+
+/* An answer in words; of 1 to 512, a chute that was read, "chute". */
+static inline const char *depot_answer_text(unsigned answer)
+{
+    switch (answer) {
+    case DEPOT_NOT_YET: return "not yet";
+    case DEPOT_DONE: return "done";
+    case DEPOT_NO_SUCH_ITEM: return "no such item";
+    case DEPOT_STORE_FULL: return "store full";
+    case DEPOT_ANNOUNCED_AGAIN: return "announced again";
+    default: return answer <= DEPOT_MOST_CHUTE ? "chute" : "no answer of this header";
+    }
+}
 
 #ifdef __cplusplus
 }

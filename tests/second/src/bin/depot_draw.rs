@@ -2,7 +2,7 @@
 //!
 //!     depot_draw < input.bin > run.svg
 //!
-//! It ends with 0, with 1 where the input is refused and 2 where options are given.
+//! It ends with 0, with 1 where the input is refused and 2 where the options are wrong.
 
 use std::io::{self, Read, Write};
 use std::process::ExitCode;
@@ -10,10 +10,22 @@ use std::process::ExitCode;
 use second::draw::draw;
 use second::text::input::Input;
 
+const USAGE: &str = "\
+usage: depot_draw < input.bin > run.svg
+       depot_draw --help";
+
 fn main() -> ExitCode {
-    if std::env::args().len() > 1 {
-        eprintln!("usage: depot_draw < input.bin > run.svg");
-        return ExitCode::from(2);
+    let words: Vec<String> = std::env::args().skip(1).collect();
+    match words.iter().map(String::as_str).collect::<Vec<_>>()[..] {
+        [] => {}
+        ["--help" | "-h"] => {
+            println!("{USAGE}");
+            return ExitCode::SUCCESS;
+        }
+        _ => {
+            eprintln!("{USAGE}");
+            return ExitCode::from(2);
+        }
     }
     match picture().and_then(|picture| write_output(&picture)) {
         Ok(()) => ExitCode::SUCCESS,

@@ -10,7 +10,8 @@ use second::text::options::Options;
 use second::text::{show, show_turns};
 
 const USAGE: &str = "\
-usage: depot_text pack --size N --workers N --room N [TURNS] < list.txt > input.bin
+usage: depot_text --help
+       depot_text pack --size N --workers N --room N [TURNS] < list.txt > input.bin
        depot_text unpack [--turns-file FILE] < input.bin > list.txt
 TURNS: --turns \"0 1 ..\" | --turns-file FILE | --round-robin COUNT | --random SEED COUNT | --dispatch
 list.txt has a line a command, with its place before it or without:
@@ -45,6 +46,7 @@ fn main() -> ExitCode {
 fn convert(words: &[String]) -> Result<Vec<u8>, Failure> {
     let words: Vec<&str> = words.iter().map(String::as_str).collect();
     match words.as_slice() {
+        ["--help" | "-h"] => Ok(format!("{USAGE}\n").into_bytes()),
         ["pack", options @ ..] => {
             let options = Options::read(options).map_err(Failure::Usage)?;
             let list = read_input()?;

@@ -1,0 +1,159 @@
+/* A host that is written from depot.h and docs/HOSTING.md alone. The first process, `shift FILE`, opens a list, deals random turns,
+ * shows the panel with identifiers and saves its lists to FILE; the second, `shift FILE resume`, loads them, finishes by the
+ * dispatcher and prints answers and table. */
+#include <depot.h>
+
+#include <stdio.h>
+#include <stdlib.h>
+#include <string.h>
+
+enum { COMMANDS = 9, SIZE = 5, WORKERS = 3, CAPACITY = 4, TURNS = 60 };
+
+static uint8_t state[DEPOT_STATE_LENGTH], keys[DEPOT_KEY_LENGTH * CAPACITY], chutes[DEPOT_CHUTE_LENGTH * CAPACITY],
+    answers[DEPOT_ANSWER_LENGTH * COMMANDS], image[DEPOT_RECORD_LENGTH * (CAPACITY + 1)],
+    commands[DEPOT_COMMAND_LENGTH * COMMANDS];
+static const struct depot_lists lists = {state, keys, chutes, answers, image, commands, CAPACITY, COMMANDS};
+
+static const char *const states[] = {"idle", "loading", "searching", "holding", "looked-up", "written", "walking", "clearing"};
+
+static void must_accept(const char *call, uint64_t answer)
+{
+    if (answer == 0)
+        return;
+    printf("%s: refused %u (%s), place %lu, character %u\n", call, depot_number(answer),
+           depot_refusal_text(depot_number(answer)), (unsigned long)depot_place(answer), depot_character(answer));
+    exit(EXIT_FAILURE);
+}
+
+static void put_commands(void)
+{
+    depot_put_command(commands, 1, DEPOT_INSERT, "RR473124829GB", 12);
+    depot_put_command(commands, 2, DEPOT_INSERT, "CP100000017DE", 40);
+    depot_put_command(commands, 3, DEPOT_READ, "RR473124829GB", 0);
+    depot_put_command(commands, 4, DEPOT_UPDATE, "CP100000017DE", 41);
+    depot_put_command(commands, 5, DEPOT_READ, "CP100000017DE", 0);
+    depot_put_command(commands, 6, DEPOT_INSERT, "EE200000023FR", 7);
+    depot_put_command(commands, 7, DEPOT_DELETE, "RR473124829GB", 0);
+    depot_put_command(commands, 8, DEPOT_READ, "RR473124829GB", 0);
+    depot_put_command(commands, 9, DEPOT_CHECKPOINT, NULL, 0);
+}
+
+/* Turns for any of the parties, by a generator of its own, so that they are the same everywhere. */
+static void deal_at_random(void)
+{
+    uint8_t schedule[TURNS];
+    uint32_t seed = 2026;
+    for (size_t i = 0; i < TURNS; i++) {
+        seed = seed * 1664525u + 1013904223u;
+        schedule[i] = (uint8_t)((seed >> 16) % (WORKERS + 1));
+    }
+    must_accept("depot_advance", depot_lists_advance(&lists, schedule, sizeof schedule));
+}
+
+static void print_panel(void)
+{
+    uint8_t counts[DEPOT_COUNTS_LENGTH];
+    unsigned record = depot_next_record(&lists, 0);
+    must_accept("depot_pending_counts", depot_lists_pending_counts(&lists, counts));
+    printf("loaded %u, in the chain %u\n", depot_loaded(&lists), depot_chain_length(&lists));
+    for (unsigned i = 0; i < depot_chain_length(&lists); i++, record = depot_next_record(&lists, record))
+        printf("  %u %.13s waits for %u\n", depot_record_place(&lists, record), depot_record_text(&lists, record), counts[i]);
+    for (unsigned party = 0; party <= WORKERS; party++) {
+        unsigned own = depot_party_record(&lists, party);
+        printf("  party %u %s", party, states[depot_party_state(&lists, party)]);
+        if (own != 0)
+            printf(" with %u", depot_record_place(&lists, own));
+        printf("\n");
+    }
+}
+
+/* The five lists that change, and the commands, in one file with a sum at its end. */
+static const struct {
+    uint8_t *bytes;
+    size_t length;
+} kept[] = {{state, sizeof state},     {keys, sizeof keys},   {chutes, sizeof chutes},
+            {answers, sizeof answers}, {image, sizeof image}, {commands, sizeof commands}};
+
+static uint32_t sum_of_all(void)
+{
+    uint32_t sum = 2166136261u;
+    for (size_t i = 0; i < sizeof kept / sizeof kept[0]; i++)
+        for (size_t j = 0; j < kept[i].length; j++)
+            sum = (sum ^ kept[i].bytes[j]) * 16777619u;
+    return sum;
+}
+
+static void must(int ok, const char *what)
+{
+    if (ok)
+        return;
+    printf("%s failed\n", what);
+    exit(EXIT_FAILURE);
+}
+
+static void save(const char *name)
+{
+    uint32_t sum = sum_of_all();
+    FILE *file = fopen(name, "wb");
+    must(file != NULL, "opening the file");
+    for (size_t i = 0; i < sizeof kept / sizeof kept[0]; i++)
+        must(fwrite(kept[i].bytes, 1, kept[i].length, file) == kept[i].length, "writing");
+    must(fwrite(&sum, 1, sizeof sum, file) == sizeof sum && fclose(file) == 0, "writing");
+}
+
+static void load(const char *name)
+{
+    uint32_t sum;
+    FILE *file = fopen(name, "rb");
+    must(file != NULL, "opening the file");
+    for (size_t i = 0; i < sizeof kept / sizeof kept[0]; i++)
+        must(fread(kept[i].bytes, 1, kept[i].length, file) == kept[i].length, "reading");
+    must(fread(&sum, 1, sizeof sum, file) == sizeof sum && fclose(file) == 0, "reading");
+    must(sum == sum_of_all(), "the checksum");
+}
+
+static void finish(void)
+{
+    size_t allowed = 0, turns = 0;
+    uint8_t *schedule;
+    must_accept("depot_steps_needed", depot_lists_steps_needed(&lists, &allowed));
+    schedule = malloc(allowed);
+    must(schedule != NULL, "malloc");
+    must_accept("depot_dispatch", depot_lists_dispatch(&lists, schedule, allowed, &turns));
+    printf("dispatched %lu turns of %lu allowed; all answered %d, all removed %d\n", (unsigned long)turns,
+           (unsigned long)allowed, depot_all_answered(&lists), depot_all_removed(&lists));
+    free(schedule);
+}
+
+static void print_results(void)
+{
+    for (size_t place = 1; place <= COMMANDS; place++) {
+        unsigned answer = depot_answer_at(&lists, place);
+        printf("%lu %s", (unsigned long)place, depot_answer_text(answer));
+        if (answer >= 1 && answer <= DEPOT_MOST_CHUTE)
+            printf(" %u", answer);
+        printf("\n");
+    }
+    for (size_t i = 0; i < CAPACITY && depot_short_at(chutes, i) != 0; i++) {
+        uint8_t text[DEPOT_IDENTIFIER_LENGTH];
+        must_accept("depot_write_identifier", depot_write_identifier(depot_key_at(keys, i), text, sizeof text));
+        printf("%.13s chute %u\n", (const char *)text, depot_short_at(chutes, i));
+    }
+}
+
+int main(int count, char **words)
+{
+    must(count == 2 || (count == 3 && strcmp(words[2], "resume") == 0), "usage: shift FILE [resume];");
+    if (count == 3) {
+        load(words[1]);
+        finish();
+        print_results();
+        return EXIT_SUCCESS;
+    }
+    put_commands();
+    must_accept("depot_open", depot_lists_open(&lists, SIZE, WORKERS));
+    deal_at_random();
+    print_panel();
+    save(words[1]);
+    return EXIT_SUCCESS;
+}
