@@ -1,29 +1,14 @@
 /* A host that is written from depot.h and docs/HOSTING.md alone. The first process, `shift FILE`, opens a list, deals random turns,
  * shows the panel with identifiers and saves its lists to FILE; the second, `shift FILE resume`, loads them, finishes by the
  * dispatcher and prints answers and table. */
-#include <depot.h>
+#include "show.h"
 
-#include <stdio.h>
-#include <stdlib.h>
 #include <string.h>
 
 enum { COMMANDS = 9, SIZE = 5, WORKERS = 3, CAPACITY = 4, TURNS = 60 };
 
-static uint8_t state[DEPOT_STATE_LENGTH], keys[DEPOT_KEY_LENGTH * CAPACITY], chutes[DEPOT_CHUTE_LENGTH * CAPACITY],
-    answers[DEPOT_ANSWER_LENGTH * COMMANDS], image[DEPOT_RECORD_LENGTH * (CAPACITY + 1)],
-    commands[DEPOT_COMMAND_LENGTH * COMMANDS];
-static const struct depot_lists lists = {state, keys, chutes, answers, image, commands, CAPACITY, COMMANDS};
-
-static const char *const states[] = {"idle", "loading", "searching", "holding", "looked-up", "written", "walking", "clearing"};
-
-static void must_accept(const char *call, uint64_t answer)
-{
-    if (answer == 0)
-        return;
-    printf("%s: refused %u (%s), place %lu, character %u\n", call, depot_number(answer),
-           depot_refusal_text(depot_number(answer)), (unsigned long)depot_place(answer), depot_character(answer));
-    exit(EXIT_FAILURE);
-}
+static uint8_t block[DEPOT_BLOCK_LENGTH(CAPACITY, COMMANDS)], commands[DEPOT_COMMAND_LENGTH * COMMANDS];
+static struct depot_lists lists;
 
 static void put_commands(void)
 {
@@ -60,56 +45,49 @@ static void print_panel(void)
         printf("  %u %.13s waits for %u\n", depot_record_place(&lists, record), depot_record_text(&lists, record), counts[i]);
     for (unsigned party = 0; party <= WORKERS; party++) {
         unsigned own = depot_party_record(&lists, party);
-        printf("  party %u %s", party, states[depot_party_state(&lists, party)]);
+        printf("  party %u %s", party, depot_state_text(depot_party_state(&lists, party)));
         if (own != 0)
             printf(" with %u", depot_record_place(&lists, own));
         printf("\n");
     }
 }
 
-/* The five lists that change, and the commands, in one file with a sum at its end. */
-static const struct {
-    uint8_t *bytes;
-    size_t length;
-} kept[] = {{state, sizeof state},     {keys, sizeof keys},   {chutes, sizeof chutes},
-            {answers, sizeof answers}, {image, sizeof image}, {commands, sizeof commands}};
+static void must(int ok, const char *what)
+{
+    if (!ok)
+        fail(what, "failed");
+}
 
+/* A sum over all that is saved: the block and the commands. */
 static uint32_t sum_of_all(void)
 {
     uint32_t sum = 2166136261u;
-    for (size_t i = 0; i < sizeof kept / sizeof kept[0]; i++)
-        for (size_t j = 0; j < kept[i].length; j++)
-            sum = (sum ^ kept[i].bytes[j]) * 16777619u;
+    for (size_t i = 0; i < sizeof block; i++)
+        sum = (sum ^ block[i]) * 16777619u;
+    for (size_t i = 0; i < sizeof commands; i++)
+        sum = (sum ^ commands[i]) * 16777619u;
     return sum;
-}
-
-static void must(int ok, const char *what)
-{
-    if (ok)
-        return;
-    printf("%s failed\n", what);
-    exit(EXIT_FAILURE);
 }
 
 static void save(const char *name)
 {
     uint32_t sum = sum_of_all();
     FILE *file = fopen(name, "wb");
-    must(file != NULL, "opening the file");
-    for (size_t i = 0; i < sizeof kept / sizeof kept[0]; i++)
-        must(fwrite(kept[i].bytes, 1, kept[i].length, file) == kept[i].length, "writing");
-    must(fwrite(&sum, 1, sizeof sum, file) == sizeof sum && fclose(file) == 0, "writing");
+    must(file != NULL, name);
+    must(fwrite(block, sizeof block, 1, file) == 1 && fwrite(commands, sizeof commands, 1, file) == 1 &&
+             fwrite(&sum, sizeof sum, 1, file) == 1 && fclose(file) == 0,
+         "writing");
 }
 
 static void load(const char *name)
 {
     uint32_t sum;
     FILE *file = fopen(name, "rb");
-    must(file != NULL, "opening the file");
-    for (size_t i = 0; i < sizeof kept / sizeof kept[0]; i++)
-        must(fread(kept[i].bytes, 1, kept[i].length, file) == kept[i].length, "reading");
-    must(fread(&sum, 1, sizeof sum, file) == sizeof sum && fclose(file) == 0, "reading");
-    must(sum == sum_of_all(), "the checksum");
+    must(file != NULL, name);
+    must(fread(block, sizeof block, 1, file) == 1 && fread(commands, sizeof commands, 1, file) == 1 &&
+             fread(&sum, sizeof sum, 1, file) == 1 && fclose(file) == 0,
+         "reading");
+    must(sum == sum_of_all(), "checksum");
 }
 
 static void finish(void)
@@ -125,29 +103,15 @@ static void finish(void)
     free(schedule);
 }
 
-static void print_results(void)
-{
-    for (size_t place = 1; place <= COMMANDS; place++) {
-        unsigned answer = depot_answer_at(&lists, place);
-        printf("%lu %s", (unsigned long)place, depot_answer_text(answer));
-        if (answer >= 1 && answer <= DEPOT_MOST_CHUTE)
-            printf(" %u", answer);
-        printf("\n");
-    }
-    for (size_t i = 0; i < CAPACITY && depot_short_at(chutes, i) != 0; i++) {
-        uint8_t text[DEPOT_IDENTIFIER_LENGTH];
-        must_accept("depot_write_identifier", depot_write_identifier(depot_key_at(keys, i), text, sizeof text));
-        printf("%.13s chute %u\n", (const char *)text, depot_short_at(chutes, i));
-    }
-}
-
 int main(int count, char **words)
 {
-    must(count == 2 || (count == 3 && strcmp(words[2], "resume") == 0), "usage: shift FILE [resume];");
+    must(count == 2 || (count == 3 && strcmp(words[2], "resume") == 0), "usage: shift FILE [resume]");
+    lists = depot_lists_in(block, CAPACITY, commands, COMMANDS);
     if (count == 3) {
         load(words[1]);
         finish();
-        print_results();
+        print_answers(&lists, 0);
+        print_table(&lists, "", "\n");
         return EXIT_SUCCESS;
     }
     put_commands();

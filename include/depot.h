@@ -392,11 +392,10 @@ uint64_t depot_write_identifier(uint64_t key, uint8_t *text, size_t text_length)
 
 /* ---- The same calls with fewer arguments, and what hosts ask besides
  *
- * All below is inline: it adds no symbol to the archive, and what it says of a run it reads off the layout of
- * docs/STATE-LAYOUT.md. It is tested (tests/wrappers.c), not proved. */
+ * All below is inline and adds no symbol to the archive. It is tested (tests/wrappers.c), not proved. */
 
-/* The six lists that a host keeps between calls, with the two numbers that give their lengths: a list handed over as part of this
- * has the right length, and no list can stand in another's place. */
+/* The six lists that a host keeps between calls, with the two numbers that give their lengths: handed over as part of this, a list
+ * has the right length and stands in its own place. Fill it by depot_lists_in, or one by one. */
 struct depot_lists {
     uint8_t *state;          /* DEPOT_STATE_LENGTH bytes */
     uint8_t *keys;           /* DEPOT_KEY_LENGTH × capacity */
@@ -408,69 +407,84 @@ struct depot_lists {
     size_t count;            /* how many commands there are */
 };
 
-/* What stands for a list of no byte: a pointer is never null for the archive. */
+/* How many bytes the five lists that calls write have together, a constant where room and count are. */
+#define DEPOT_BLOCK_LENGTH(capacity, count)                                                                                        \
+    (DEPOT_STATE_LENGTH + (DEPOT_KEY_LENGTH + DEPOT_CHUTE_LENGTH) * (capacity) + DEPOT_ANSWER_LENGTH * (count) +                    \
+     DEPOT_RECORD_LENGTH * ((capacity) + 1))
+
+/* Lists that lie in one block of DEPOT_BLOCK_LENGTH(capacity, count) bytes, in the order of the calls' arguments, so that the block
+ * and the commands are all that is to be saved. capacity is 1 to DEPOT_MOST_CAPACITY, count at most DEPOT_MOST_COMMANDS. */
+static inline struct depot_lists depot_lists_in(uint8_t *block, size_t capacity, const uint8_t *commands, size_t count)
+{
+    struct depot_lists l;
+    l.state = block;
+    l.keys = l.state + DEPOT_STATE_LENGTH;
+    l.chutes = l.keys + DEPOT_KEY_LENGTH * capacity;
+    l.answers = l.chutes + DEPOT_CHUTE_LENGTH * capacity;
+    l.image = l.answers + DEPOT_ANSWER_LENGTH * count;
+    l.commands = commands;
+    l.capacity = capacity;
+    l.count = count;
+    return l;
+}
+
+/* What stands for a list of no byte, as a pointer is never null for the archive; the second for a list that a call may write. */
 static inline const uint8_t *depot_some(const uint8_t *list)
 {
     static const uint8_t none = 0;
     return list != NULL ? list : &none;
 }
 
-/* The same for a list that a call may write; of no byte, so nothing is written. */
 static inline uint8_t *depot_some_lent(uint8_t *list, uint8_t *none)
 {
     return list != NULL ? list : none;
 }
 
+/* The lists of l with their lengths, as the calls take them; none is a byte of the caller's. */
+#define DEPOT_RUN_(l, none)                                                                                                        \
+    (l)->state, DEPOT_STATE_LENGTH, (l)->keys, DEPOT_KEY_LENGTH * (l)->capacity, (l)->chutes, DEPOT_CHUTE_LENGTH * (l)->capacity,   \
+        depot_some_lent((l)->answers, none), DEPOT_ANSWER_LENGTH * (l)->count
+#define DEPOT_IMAGE_(l) (l)->image, depot_image_length((l)->capacity)
+#define DEPOT_COMMANDS_(l) depot_some((l)->commands), DEPOT_COMMAND_LENGTH * (l)->count
+
 /* As depot_open. */
 static inline uint64_t depot_lists_open(const struct depot_lists *l, uint64_t size, uint64_t workers)
 {
     uint8_t none = 0;
-    return depot_open(l->state, DEPOT_STATE_LENGTH, l->keys, DEPOT_KEY_LENGTH * l->capacity, l->chutes,
-                      DEPOT_CHUTE_LENGTH * l->capacity, depot_some_lent(l->answers, &none), DEPOT_ANSWER_LENGTH * l->count,
-                      l->image, depot_image_length(l->capacity), depot_some(l->commands), DEPOT_COMMAND_LENGTH * l->count, size,
-                      workers, l->capacity);
+    return depot_open(DEPOT_RUN_(l, &none), DEPOT_IMAGE_(l), DEPOT_COMMANDS_(l), size, workers, l->capacity);
 }
 
-/* As depot_open_from; source is an image of the same room. */
+/* As depot_open_from; source is an image of the same room, and not l->image. */
 static inline uint64_t depot_lists_open_from(const struct depot_lists *l, const uint8_t *source, uint64_t size, uint64_t workers)
 {
     uint8_t none = 0;
-    return depot_open_from(l->state, DEPOT_STATE_LENGTH, l->keys, DEPOT_KEY_LENGTH * l->capacity, l->chutes,
-                           DEPOT_CHUTE_LENGTH * l->capacity, depot_some_lent(l->answers, &none), DEPOT_ANSWER_LENGTH * l->count,
-                           l->image, depot_image_length(l->capacity), depot_some(l->commands), DEPOT_COMMAND_LENGTH * l->count,
-                           source, depot_image_length(l->capacity), size, workers, l->capacity);
+    return depot_open_from(DEPOT_RUN_(l, &none), DEPOT_IMAGE_(l), DEPOT_COMMANDS_(l), source, depot_image_length(l->capacity),
+                           size, workers, l->capacity);
 }
 
 /* As depot_advance; schedule may be null if length is 0. */
 static inline uint64_t depot_lists_advance(const struct depot_lists *l, const uint8_t *schedule, size_t length)
 {
     uint8_t none = 0;
-    return depot_advance(l->state, DEPOT_STATE_LENGTH, l->keys, DEPOT_KEY_LENGTH * l->capacity, l->chutes,
-                         DEPOT_CHUTE_LENGTH * l->capacity, depot_some_lent(l->answers, &none), DEPOT_ANSWER_LENGTH * l->count,
-                         l->image, depot_image_length(l->capacity), depot_some(l->commands), DEPOT_COMMAND_LENGTH * l->count,
-                         depot_some(schedule), length);
+    return depot_advance(DEPOT_RUN_(l, &none), DEPOT_IMAGE_(l), DEPOT_COMMANDS_(l), depot_some(schedule), length);
 }
 
 /* As depot_steps_needed; *steps is left as it was where the call is refused. */
 static inline uint64_t depot_lists_steps_needed(const struct depot_lists *l, size_t *steps)
 {
-    uint8_t count[DEPOT_STEP_COUNT_LENGTH];
-    uint64_t answer = depot_steps_needed(l->state, DEPOT_STATE_LENGTH, l->keys, DEPOT_KEY_LENGTH * l->capacity, l->chutes,
-                                         DEPOT_CHUTE_LENGTH * l->capacity, depot_some(l->answers), DEPOT_ANSWER_LENGTH * l->count,
-                                         depot_some(l->commands), DEPOT_COMMAND_LENGTH * l->count, count, sizeof count);
+    uint8_t none = 0, count[DEPOT_STEP_COUNT_LENGTH];
+    uint64_t answer = depot_steps_needed(DEPOT_RUN_(l, &none), DEPOT_COMMANDS_(l), count, sizeof count);
     if (answer == 0)
         *steps = (size_t)depot_key_at(count, 0);
     return answer;
 }
 
-/* As depot_dispatch; *steps, how many turns there were, is left as it was where the call is refused. */
+/* As depot_dispatch; *steps, how many turns there were, is left as it was where the call is refused. schedule may be null if length
+ * is 0, which is refused. */
 static inline uint64_t depot_lists_dispatch(const struct depot_lists *l, uint8_t *schedule, size_t length, size_t *steps)
 {
     uint8_t none = 0, count[DEPOT_STEP_COUNT_LENGTH];
-    uint64_t answer = depot_dispatch(l->state, DEPOT_STATE_LENGTH, l->keys, DEPOT_KEY_LENGTH * l->capacity, l->chutes,
-                                     DEPOT_CHUTE_LENGTH * l->capacity, depot_some_lent(l->answers, &none),
-                                     DEPOT_ANSWER_LENGTH * l->count, l->image, depot_image_length(l->capacity),
-                                     depot_some(l->commands), DEPOT_COMMAND_LENGTH * l->count, depot_some_lent(schedule, &none),
+    uint64_t answer = depot_dispatch(DEPOT_RUN_(l, &none), DEPOT_IMAGE_(l), DEPOT_COMMANDS_(l), depot_some_lent(schedule, &none),
                                      length, count, sizeof count);
     if (answer == 0)
         *steps = (size_t)depot_key_at(count, 0);
@@ -480,71 +494,84 @@ static inline uint64_t depot_lists_dispatch(const struct depot_lists *l, uint8_t
 /* As depot_pending_counts; counts has DEPOT_COUNTS_LENGTH bytes. */
 static inline uint64_t depot_lists_pending_counts(const struct depot_lists *l, uint8_t *counts)
 {
-    return depot_pending_counts(l->state, DEPOT_STATE_LENGTH, l->keys, DEPOT_KEY_LENGTH * l->capacity, l->chutes,
-                                DEPOT_CHUTE_LENGTH * l->capacity, depot_some(l->answers), DEPOT_ANSWER_LENGTH * l->count,
-                                depot_some(l->commands), DEPOT_COMMAND_LENGTH * l->count, counts, DEPOT_COUNTS_LENGTH);
+    uint8_t none = 0;
+    return depot_pending_counts(DEPOT_RUN_(l, &none), DEPOT_COMMANDS_(l), counts, DEPOT_COUNTS_LENGTH);
 }
 
 /* As depot_worker_status; status has DEPOT_STATUS_LENGTH bytes. */
 static inline uint64_t depot_lists_worker_status(const struct depot_lists *l, uint8_t *status)
 {
-    return depot_worker_status(l->state, DEPOT_STATE_LENGTH, l->keys, DEPOT_KEY_LENGTH * l->capacity, l->chutes,
-                               DEPOT_CHUTE_LENGTH * l->capacity, depot_some(l->answers), DEPOT_ANSWER_LENGTH * l->count,
-                               depot_some(l->commands), DEPOT_COMMAND_LENGTH * l->count, status, DEPOT_STATUS_LENGTH);
+    uint8_t none = 0;
+    return depot_worker_status(DEPOT_RUN_(l, &none), DEPOT_COMMANDS_(l), status, DEPOT_STATUS_LENGTH);
 }
 
-/* Puts a command at its place, from 1, of a list of commands. text is an identifier of 13 characters, or null for a worker change
- * or a checkpoint: thirteen characters '0'. Nothing is tested; depot_open does that. */
+#undef DEPOT_RUN_
+#undef DEPOT_IMAGE_
+#undef DEPOT_COMMANDS_
+
+/* Puts a command at its place, from 1, of a list of commands. text is an identifier as a string, or null for a worker change or a
+ * checkpoint: thirteen characters '0'. Nothing is refused here. What does not fit is put so that opening refuses it: a shorter
+ * string with bytes 0 behind it, a longer one with 0 as its last character, a chute above 65,535 as 65,535. */
 static inline void depot_put_command(uint8_t *commands, size_t place, enum depot_kind kind, const char *text, unsigned chute)
 {
     uint8_t *command = commands + DEPOT_COMMAND_LENGTH * (place - 1);
-    size_t i;
+    size_t i, length = 0;
+    while (text != NULL && length <= DEPOT_IDENTIFIER_LENGTH && text[length] != 0)
+        length++;
     command[0] = (uint8_t)kind;
     for (i = 0; i < DEPOT_IDENTIFIER_LENGTH; i++)
-        command[1 + i] = text != NULL ? (uint8_t)text[i] : (uint8_t)'0';
-    command[14] = (uint8_t)(chute >> 8 & 255u);
-    command[15] = (uint8_t)(chute & 255u);
+        command[1 + i] = (uint8_t)(text == NULL ? '0' : i < length ? text[i] : 0);
+    if (length > DEPOT_IDENTIFIER_LENGTH)
+        command[DEPOT_IDENTIFIER_LENGTH] = 0;
+    command[14] = (uint8_t)(chute > 0xffffu ? 255u : chute >> 8);
+    command[15] = (uint8_t)(chute > 0xffffu ? 255u : chute & 255u);
 }
 
-/* The answer to the command at a place, from 1. */
+/* The answer to the command at a place, from 1; DEPOT_NOT_YET for a place that has no command. */
 static inline unsigned depot_answer_at(const struct depot_lists *l, size_t place)
 {
-    return depot_short_at(l->answers, place - 1);
+    return place >= 1 && place <= l->count ? depot_short_at(l->answers, place - 1) : (unsigned)DEPOT_NOT_YET;
 }
 
-/* Whether every command has its answer; the table is then the last one, but for a worker that still removes nothing changes it. */
+/* Whether every command has its answer. Table and image are then the last ones: what is left to do is to take records out of the
+ * chain. */
 static inline int depot_all_answered(const struct depot_lists *l)
 {
-    size_t i;
-    for (i = 0; i < l->count; i++)
-        if (depot_short_at(l->answers, i) == DEPOT_NOT_YET)
+    size_t place;
+    for (place = 1; place <= l->count; place++)
+        if (depot_answer_at(l, place) == DEPOT_NOT_YET)
             return 0;
     return 1;
 }
 
+/* What a run says of itself, by the layout of docs/STATE-LAYOUT.md: for runs that a call left. A record or party that there is none
+ * of has nothing: 0. */
+enum { DEPOT_AT_LOADED_ = 8, DEPOT_AT_NEXT_ = 14, DEPOT_AT_PLACES_ = 165, DEPOT_AT_PARTIES_ = 4393, DEPOT_PARTY_LENGTH_ = 5 };
+
 /* How many commands are loaded. */
 static inline unsigned depot_loaded(const struct depot_lists *l)
 {
-    return depot_short_at(l->state + 8, 0);
+    return depot_short_at(l->state + DEPOT_AT_LOADED_, 0);
 }
 
 /* The record behind a record, 0 at the end of the chain; behind the head, 0, is the first. */
 static inline unsigned depot_next_record(const struct depot_lists *l, unsigned record)
 {
-    return l->state[14 + record];
+    return record <= DEPOT_MOST_NODES ? l->state[DEPOT_AT_NEXT_ + record] : 0u;
 }
 
 /* The place of the command that a record holds, 0 for none. */
 static inline unsigned depot_record_place(const struct depot_lists *l, unsigned record)
 {
-    return depot_short_at(l->state + 165, record);
+    return record <= DEPOT_MOST_NODES ? depot_short_at(l->state + DEPOT_AT_PLACES_, record) : 0u;
 }
 
-/* The identifier of the command that a record holds: 13 characters in the list of commands, without an ending 0; null for none. */
+/* The identifier of the command that a record holds: 13 characters in the list of commands, without an ending 0, so print it by
+ * "%.13s"; 13 characters '-' for none. */
 static inline const char *depot_record_text(const struct depot_lists *l, unsigned record)
 {
-    unsigned place = depot_record_place(l, record);
-    return place == 0 ? NULL : (const char *)(l->commands + DEPOT_COMMAND_LENGTH * (size_t)(place - 1) + 1);
+    size_t place = depot_record_place(l, record);
+    return place >= 1 && place <= l->count ? (const char *)(l->commands + DEPOT_COMMAND_LENGTH * (place - 1) + 1) : "-------------";
 }
 
 /* How many records are in the chain; at most DEPOT_MOST_NODES, also in a run that no dealing reaches. */
@@ -558,15 +585,16 @@ static inline unsigned depot_chain_length(const struct depot_lists *l)
     return length;
 }
 
-/* The state of a party, 0 the loader: enum depot_thread_state; and its own record, 0 for none. */
+/* The state of a party, 0 the loader: enum depot_thread_state. */
 static inline unsigned depot_party_state(const struct depot_lists *l, unsigned party)
 {
-    return l->state[4393 + 5 * party];
+    return party <= DEPOT_MOST_WORKERS ? l->state[DEPOT_AT_PARTIES_ + DEPOT_PARTY_LENGTH_ * party] : (unsigned)DEPOT_IDLE;
 }
 
+/* The own record of a party, 0 for none. */
 static inline unsigned depot_party_record(const struct depot_lists *l, unsigned party)
 {
-    return l->state[4393 + 5 * party + 2];
+    return party <= DEPOT_MOST_WORKERS ? l->state[DEPOT_AT_PARTIES_ + DEPOT_PARTY_LENGTH_ * party + 2] : 0u;
 }
 
 /* Whether every command is removed and every party idle: nothing is left to be dealt. */
@@ -582,6 +610,36 @@ static inline int depot_all_removed(const struct depot_lists *l)
         if (depot_party_state(l, i) != DEPOT_IDLE)
             return 0;
     return 1;
+}
+
+/* A kind in words. */
+static inline const char *depot_kind_text(unsigned kind)
+{
+    switch (kind) {
+    case DEPOT_INSERT: return "insert";
+    case DEPOT_DELETE: return "delete";
+    case DEPOT_READ: return "read";
+    case DEPOT_UPDATE: return "update";
+    case DEPOT_WORKERS: return "workers";
+    case DEPOT_CHECKPOINT: return "checkpoint";
+    default: return "no kind of this header";
+    }
+}
+
+/* A party's state in words. */
+static inline const char *depot_state_text(unsigned state)
+{
+    switch (state) {
+    case DEPOT_IDLE: return "idle";
+    case DEPOT_LOADING: return "loading";
+    case DEPOT_SEARCHING: return "searching";
+    case DEPOT_HOLDING: return "holding";
+    case DEPOT_LOOKED_UP: return "looked-up";
+    case DEPOT_WRITTEN: return "written";
+    case DEPOT_WALKING: return "walking";
+    case DEPOT_CLEARING: return "clearing";
+    default: return "no state of this header";
+    }
 }
 
 /* A refusal in words, by its number (depot_number of an answer). */

@@ -2,7 +2,6 @@
 #include <depot.h>
 
 #include <stdio.h>
-#include <stdlib.h>
 #include <string.h>
 
 static unsigned failed;
@@ -17,15 +16,16 @@ static void expect(int ok, const char *what)
 
 enum { ROOM = 3, COUNT = 3 };
 
+enum { BLOCK = DEPOT_BLOCK_LENGTH(ROOM, COUNT) };
+
+/* A run of three commands: its block, a guard, its commands. */
 struct run {
-    uint8_t state[DEPOT_STATE_LENGTH], keys[DEPOT_KEY_LENGTH * ROOM], chutes[DEPOT_CHUTE_LENGTH * ROOM],
-        answers[DEPOT_ANSWER_LENGTH * COUNT], image[DEPOT_RECORD_LENGTH * (ROOM + 1)], commands[DEPOT_COMMAND_LENGTH * COUNT];
+    uint8_t block[BLOCK], guard[16], commands[DEPOT_COMMAND_LENGTH * COUNT];
 };
 
 static struct depot_lists lists_of(struct run *r)
 {
-    struct depot_lists l = {r->state, r->keys, r->chutes, r->answers, r->image, r->commands, ROOM, COUNT};
-    return l;
+    return depot_lists_in(r->block, ROOM, r->commands, COUNT);
 }
 
 static void put_commands(struct run *r)
@@ -35,8 +35,9 @@ static void put_commands(struct run *r)
     depot_put_command(r->commands, 3, DEPOT_CHECKPOINT, NULL, 0);
 }
 
-#define ALL(r) (r).state, sizeof (r).state, (r).keys, sizeof (r).keys, (r).chutes, sizeof (r).chutes, (r).answers, sizeof (r).answers
-#define IMAGE(r) (r).image, sizeof (r).image, (r).commands, sizeof (r).commands
+/* The lists of a run as the calls take them, by the lengths of the header's table. */
+#define ALL(l) (l).state, 4718, (l).keys, 8 * ROOM, (l).chutes, 2 * ROOM, (l).answers, 2 * COUNT
+#define IMAGE(l) (l).image, 16 * (ROOM + 1), (l).commands, 16 * COUNT
 
 /* Two runs, one by the wrappers and one by the calls, are the same bytes. */
 static void same(const struct run *a, const struct run *b, const char *what)
@@ -50,7 +51,7 @@ static void test_calls(void)
     const uint8_t schedule[] = {0, 0, 1, 1, 1};
     uint8_t lent_a[400], lent_b[400], count[DEPOT_STEP_COUNT_LENGTH], counts_a[DEPOT_COUNTS_LENGTH], counts_b[DEPOT_COUNTS_LENGTH],
         status_a[DEPOT_STATUS_LENGTH], status_b[DEPOT_STATUS_LENGTH];
-    struct depot_lists l = lists_of(&a);
+    struct depot_lists l = lists_of(&a), m = lists_of(&b);
     size_t steps = 0;
     memset(&a, 7, sizeof a);
     memset(&b, 7, sizeof b);
@@ -58,28 +59,90 @@ static void test_calls(void)
     memset(lent_b, 9, sizeof lent_b);
     put_commands(&a);
     put_commands(&b);
-    expect(depot_lists_open(&l, 2, 2) == depot_open(ALL(b), IMAGE(b), 2, 2, ROOM), "open");
+    expect(depot_lists_open(&l, 2, 2) == depot_open(ALL(m), IMAGE(m), 2, 2, ROOM), "open");
     same(&a, &b, "what opening leaves");
-    expect(depot_lists_advance(&l, schedule, sizeof schedule) == depot_advance(ALL(b), IMAGE(b), schedule, sizeof schedule), "advance");
+    expect(depot_lists_advance(&l, schedule, sizeof schedule) == depot_advance(ALL(m), IMAGE(m), schedule, sizeof schedule), "advance");
     same(&a, &b, "what advancing leaves");
     expect(depot_lists_pending_counts(&l, counts_a) ==
-               depot_pending_counts(ALL(b), b.commands, sizeof b.commands, counts_b, sizeof counts_b) &&
+               depot_pending_counts(ALL(m), m.commands, 16 * COUNT, counts_b, sizeof counts_b) &&
                memcmp(counts_a, counts_b, sizeof counts_a) == 0, "pending counts");
     expect(depot_lists_worker_status(&l, status_a) ==
-               depot_worker_status(ALL(b), b.commands, sizeof b.commands, status_b, sizeof status_b) &&
+               depot_worker_status(ALL(m), m.commands, 16 * COUNT, status_b, sizeof status_b) &&
                memcmp(status_a, status_b, sizeof status_a) == 0, "worker status");
     expect(depot_lists_steps_needed(&l, &steps) == 0 &&
-               depot_steps_needed(ALL(b), b.commands, sizeof b.commands, count, sizeof count) == 0 &&
+               depot_steps_needed(ALL(m), m.commands, 16 * COUNT, count, sizeof count) == 0 &&
                steps == depot_key_at(count, 0) && steps == (3 + 2) * (3 * 2 + 6), "steps needed");
     steps = 1;
     expect(depot_lists_dispatch(&l, lent_a, 59, &steps) == DEPOT_WRONG_LENGTH && steps == 1, "a refusal leaves the number of turns");
     expect(depot_lists_dispatch(&l, lent_a, sizeof lent_a, &steps) == 0 &&
-               depot_dispatch(ALL(b), IMAGE(b), lent_b, sizeof lent_b, count, sizeof count) == 0 &&
+               depot_dispatch(ALL(m), IMAGE(m), lent_b, sizeof lent_b, count, sizeof count) == 0 &&
                steps == depot_key_at(count, 0), "dispatch");
     same(&a, &b, "what dispatching leaves");
     expect(memcmp(lent_a, lent_b, sizeof lent_a) == 0, "the dealing");
-    expect(depot_image_place(a.image) == 3 && depot_lists_open_from(&l, b.image, 1, 1) == 0 &&
-               depot_short_at(a.chutes, 0) == 300, "open from an image");
+    expect(depot_image_place(l.image) == 3 && depot_lists_open_from(&l, m.image, 1, 1) == 0 && depot_short_at(l.chutes, 0) == 300,
+           "open from an image");
+}
+
+/* The lists lie in the block one behind the other, and fill it. */
+static void test_block(void)
+{
+    static struct run r;
+    struct depot_lists l = lists_of(&r);
+    expect(l.state == r.block && l.keys == l.state + 4718 && l.chutes == l.keys + 8 * ROOM && l.answers == l.chutes + 2 * ROOM &&
+               l.image == l.answers + 2 * COUNT && l.image + depot_image_length(ROOM) == r.block + BLOCK,
+           "the block's lists");
+    expect(l.commands == r.commands && l.capacity == ROOM && l.count == COUNT, "commands, room and count");
+    expect(DEPOT_BLOCK_LENGTH(1 + 1, 2 + 1) == 4718 + 10 * 2 + 2 * 3 + 16 * 3, "a sum as room");
+}
+
+/* What does not fit is refused when it is opened, with its place and character. */
+static void test_put(void)
+{
+    static const struct {
+        const char *text;
+        unsigned chute;
+        uint64_t refusal;
+    } cases[] = {
+        {"AA000000005AA", 512, 0},
+        {"AA000000005A", 7, 8 | UINT64_C(13) << 32},
+        {"AA000000005AAA", 7, 8 | UINT64_C(13) << 32},
+        {"AA0000", 7, 13 | UINT64_C(7) << 32},
+        {"", 7, 8 | UINT64_C(1) << 32},
+        {"AA000000005AA", 513, 10},
+        {"AA000000005AA", 65536 + 7, 10},
+        {"AA000000005AA", 0xffffffffu, 10},
+        {NULL, 7, 8 | UINT64_C(1) << 32},
+    };
+    static struct run r;
+    struct depot_lists l = lists_of(&r);
+    size_t i;
+    for (i = 0; i < sizeof cases / sizeof cases[0]; i++) {
+        uint64_t refusal = cases[i].refusal;
+        put_commands(&r);
+        memset(r.guard, 9, sizeof r.guard);
+        depot_put_command(r.commands, 2, DEPOT_INSERT, cases[i].text, cases[i].chute);
+        expect(depot_lists_open(&l, 1, 1) == (refusal == 0 ? 0 : refusal | 2 << 8), "what is put is refused as it should be");
+        expect(r.commands[15] == 44 && r.commands[32] == DEPOT_CHECKPOINT, "the commands beside it");
+    }
+    for (i = 0; i < sizeof r.guard; i++)
+        expect(r.guard[i] == 9, "the guard behind the block");
+}
+
+/* Records and parties that are not there, also by a run's bytes that no call left. */
+static void test_outside(void)
+{
+    static struct run r;
+    struct depot_lists l = lists_of(&r);
+    unsigned i;
+    memset(r.block, 255, sizeof r.block);
+    for (i = 0; i < 300; i++) {
+        expect(depot_record_text(&l, i)[12] == '-', "no text of a place that is not there");
+        expect(i <= 150 || (depot_next_record(&l, i) == 0 && depot_record_place(&l, i) == 0), "no record above 150");
+        expect(i <= 64 || (depot_party_state(&l, i) == 0 && depot_party_record(&l, i) == 0), "no party above 64");
+    }
+    memset(r.block, 1, sizeof r.block);
+    expect(depot_chain_length(&l) == 150, "a chain that goes round");
+    expect(depot_answer_at(&l, 0) == 0 && depot_answer_at(&l, COUNT) == 257 && depot_answer_at(&l, COUNT + 1) == 0, "places without a command");
 }
 
 /* An empty list: no answers, no commands, no turns. */
@@ -114,14 +177,14 @@ static void test_reading(void)
     (void)depot_lists_advance(&l, &loader, 1);
     expect(depot_chain_length(&l) == 1 && depot_next_record(&l, 0) == 1 && depot_record_place(&l, 1) == 1 &&
                memcmp(depot_record_text(&l, 1), "AA000000005AA", 13) == 0, "record 1 is in the chain");
-    expect(depot_record_place(&l, 2) == 0 && depot_record_text(&l, 2) == NULL, "record 2 holds none");
+    expect(depot_record_place(&l, 2) == 0 && memcmp(depot_record_text(&l, 2), "-------------", 14) == 0, "record 2 holds none");
     (void)depot_lists_advance(&l, &worker, 1);
     expect(depot_party_state(&l, 1) == DEPOT_SEARCHING && depot_party_record(&l, 1) == 0, "worker 1 searches");
     (void)depot_lists_advance(&l, &worker, 1);
     expect(depot_party_state(&l, 1) == DEPOT_HOLDING && depot_party_record(&l, 1) == 1, "and holds record 1");
     (void)depot_lists_advance(&l, &worker, 1);
     (void)depot_lists_advance(&l, &worker, 1);
-    expect(depot_answer_at(&l, 1) == DEPOT_DONE && depot_short_at(r.chutes, 0) == 300, "the insert is written");
+    expect(depot_answer_at(&l, 1) == DEPOT_DONE && depot_short_at(l.chutes, 0) == 300, "the insert is written");
 }
 
 /* Every number has words of its own, and a switch takes all of them. */
@@ -134,12 +197,22 @@ static void test_texts(void)
     expect(strcmp(depot_refusal_text(17), depot_refusal_text(255)) == 0, "no refusal");
     expect(strcmp(depot_answer_text(0), "not yet") == 0 && strcmp(depot_answer_text(512), "chute") == 0 &&
                strcmp(depot_answer_text(513), depot_answer_text(1001)) == 0, "answers");
+    for (i = 1; i <= 6; i++)
+        for (j = 0; j < i; j++)
+            expect(strcmp(depot_kind_text(i), depot_kind_text(j)) != 0, "two kinds have the same words");
+    for (i = 0; i <= 7; i++)
+        for (j = 0; j < i; j++)
+            expect(strcmp(depot_state_text(i), depot_state_text(j)) != 0, "two states have the same words");
+    expect(strcmp(depot_kind_text(7), depot_kind_text(0)) == 0 && strcmp(depot_state_text(8), depot_state_text(255)) == 0, "no kind, no state");
     expect(DEPOT_WRONG_STATE == 12 && DEPOT_KEY_TOO_LARGE == 12, "two names of 12");
 }
 
 int main(void)
 {
+    test_block();
     test_calls();
+    test_put();
+    test_outside();
     test_null();
     test_reading();
     test_texts();
