@@ -14,7 +14,7 @@ extern "C" {
 
 /* Words
  *
- * The host's words are those of the scope (document 01); the code's stand beside them.
+ * The host's words, and the code's beside them; docs/CONCEPTS.md says what they mean.
  *
  *     party      thread          0 is the loader, 1 and up are the workers
  *     turn       step            a wait is a turn that changes nothing
@@ -267,11 +267,8 @@ uint64_t depot_open_from(uint8_t *state, size_t state_length, uint8_t *keys, siz
  * That some dealing finishes does not mean that each repeated pattern does. With one worker, 1 0 1 repeated from the opening never
  * loads a command: the loader's turn always falls while the worker stands on the head. Two turns each, 0 0 1 1, never load the
  * second of two inserts at graph size 1. Deal round-robin, one turn each (0, 1, .. up to the largest worker count, and again),
- * some thousands of turns a call: in a search made apart from this repository, when a read still took two turns, inserts and
- * deletes still waited for every command and there were no worker changes, it finished from every run reached (up to 4 records, 4
- * workers and 6 commands) and in millions of random runs (up to 20 records, 8 workers, 40 commands), never in more than
- * n (2 w + s + 6) + 2 rounds, with n commands, w workers and graph size s. tests/second/tests/patterns.rs runs 2,000 such runs as
- * things are now, and 2,000 with worker changes, w being the largest count. It is not proved; that depot_dispatch finishes is.
+ * some thousands of turns a call: it finished in every run that was tried (docs/HOSTING.md says which). It is not proved; that
+ * depot_dispatch finishes is.
  *
  * Writes state, keys, chutes, answers, image; reads commands (those of the opening) and schedule.
  * Refuses 6 (a length that is not the opening's, by the state's own settings), then 12 (the state breaks its layout), then 11

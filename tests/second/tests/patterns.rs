@@ -1,6 +1,6 @@
 //! Dealing by a repeated pattern: which never finish, and that plain round-robin does. Demand 3
 //! promises that some further dealing finishes, and not that every repeated pattern does; these
-//! are the examples that README.md and the header name.
+//! are the examples that docs/HOSTING.md and the header name.
 
 use second::command::{Command, Kind};
 use second::random::Random;

@@ -4,11 +4,13 @@
 //! records, and who is written before whom, are held against the dependence of documents 01 and 02,
 //! who begins a search and takes a command against the worker counts of document 02's A.2, the
 //! image against its A.3, and the table of every state against its A.10. From every state is
-//! dispatched on a copy, which is held against A.6.
+//! dispatched on a copy, which is held against A.6; and from every state and party plain round-robin
+//! is followed to its finish.
 
 mod judge;
 mod lists;
 mod met;
+mod round_robin;
 mod search;
 
 use std::panic::{AssertUnwindSafe, catch_unwind};

@@ -9,6 +9,7 @@ use second::serial::Entries;
 
 use crate::judge::{Judge, bound, hold_count, hold_pass, hold_turn};
 use crate::met::{Met, passes};
+use crate::round_robin::Turns;
 
 /// The states of one setting, numbered as they are met, and which leads to which.
 #[derive(Default)]
@@ -29,6 +30,8 @@ pub fn every_order(first: Run, met: &mut Met) {
 /// The same with a judge of its own.
 pub fn every_order_by(judge: &Judge, first: Run, met: &mut Met) {
     let mut search = Search::default();
+    let mut turns = Turns::of(usize::from(first.largest) + 1);
+    let most = most_rounds(&first) * (u32::from(first.largest) + 1);
     let mut left = Vec::from([(search.meet(&first), first)]);
     while let Some((number, run)) = left.pop() {
         judge.hold(&run);
@@ -40,6 +43,7 @@ pub fn every_order_by(judge: &Judge, first: Run, met: &mut Met) {
             hold_worker(&run, party, &after, met);
             if !moved {
                 assert_eq!(after, run, "a wait changes nothing");
+                turns.note(number, party, number);
                 continue;
             }
             hold_turn(&run, party, &after);
@@ -54,6 +58,7 @@ pub fn every_order_by(judge: &Judge, first: Run, met: &mut Met) {
             let to = search.meet(&after);
             assert_ne!(to, number, "a turn that is no wait changes something");
             search.before[to].push(number);
+            turns.note(number, party, to);
             if to == known {
                 left.push((to, after));
             }
@@ -61,8 +66,15 @@ pub fn every_order_by(judge: &Judge, first: Run, met: &mut Met) {
     }
     let states = search.before.len();
     assert_eq!(search.leading_to_a_finish(), states, "{judge:?}");
+    assert!(turns.most_to_a_finish(&search.finished) <= most, "{judge:?}");
     met.states += states;
     met.settings += 1;
+}
+
+/// How many rounds of round-robin finish a list, as far as was tried.
+fn most_rounds(first: &Run) -> u32 {
+    let [workers, size] = [first.largest, first.settings.size].map(u32::from);
+    first.commands.len() as u32 * (2 * workers + size + 6) + 2
 }
 
 /// Judges a dispatch from a state, on a copy, and notes how many turns it used.
