@@ -52,8 +52,8 @@ fn the_worked_example_is_drawn_as_it_is_kept() {
     assert!(output.ends_with("\nstore 2 chain 0\n"));
     for told in [
         "turn 44, worker 1: looked up",
-        "turn 46, worker 2: looks up and writes answer 3 of command 3",
-        "turn 54, worker 1: writes answer 1000 of command 2",
+        "turn 46, worker 2: looks up and answers command 3: chute 3",
+        "turn 54, worker 1: answers command 2: done",
     ] {
         assert!(picture.contains(&format!(">{told}<")), "{told}");
     }
@@ -74,10 +74,10 @@ fn the_example_with_shifts_is_drawn_as_it_is_kept() {
     );
     for told in [
         "turn 3, worker 2: waits, above the worker count 1",
-        "turn 20, worker 1: writes answer 1000 of command 2",
+        "turn 20, worker 1: answers command 2: done",
         "48 by worker 3",
         "69 by worker 3",
-        "turn 75, worker 3: writes answer 1000 of command 6",
+        "turn 75, worker 3: answers command 6: done",
         "turn 76, worker 2: searching, may take nothing",
         "turn 79, worker 2: waits, above the worker count 1",
         "turn 84, worker 3: becomes idle",
@@ -85,7 +85,7 @@ fn the_example_with_shifts_is_drawn_as_it_is_kept() {
         "92 by worker 1",
         "100 by worker 1",
         "Worker count in force: 1 from the opening; 3 from turn 20; 1 from turn 75.",
-        "turn 112, worker 1: writes answer 1000 of command 9",
+        "turn 112, worker 1: answers command 9: done",
         "Image: zeros from the opening; place 9 and 2 entries from turn 112.",
     ] {
         assert!(picture.contains(&format!(">{told}<")), "{told}");
@@ -132,9 +132,9 @@ fn a_list_is_packed_with_the_turns_of_the_dispatcher() {
     let picture = String::from_utf8(picture).expect("words");
     for told in [
         "turn 1, loader: loading",
-        "turn 6, worker 1: writes answer 1000 of command 1",
-        "turn 15, worker 1: writes answer 1000 of command 2",
-        "turn 23, worker 1: looks up and writes answer 7 of command 3",
+        "turn 6, worker 1: answers command 1: done",
+        "turn 15, worker 1: answers command 2: done",
+        "turn 23, worker 1: looks up and answers command 3: chute 7",
         "turn 35, worker 1: becomes idle",
         "Worker count in force: 1 from the opening; 2 from turn 6.",
         "Image: zeros from the opening; place 4 and 1 entry from turn 32.",
@@ -249,7 +249,7 @@ fn a_faulty_identifier_is_told_with_its_character() {
 #[test]
 fn options_that_are_not_understood_end_with_2_and_the_usage() {
     let twice = [&SETTINGS[..], &["--dispatch", "--turns", "1"]].concat();
-    let cases: [(&str, &[&str]); 7] = [
+    let cases: [(&str, &[&str]); 15] = [
         (TEXT, &[]),
         (TEXT, &["pack"]),
         (TEXT, &["pack", "--size", "x"]),
@@ -257,6 +257,14 @@ fn options_that_are_not_understood_end_with_2_and_the_usage() {
         (TEXT, &twice),
         (TEXT, &["wrap"]),
         (DRAW, &["run.svg"]),
+        (DRAW, &["--from"]),
+        (DRAW, &["--from", "0"]),
+        (DRAW, &["--from", "x"]),
+        (DRAW, &["--from", "2", "--from", "2"]),
+        (DRAW, &["--turns", "0"]),
+        (DRAW, &["--turns", "301"]),
+        (DRAW, &["--from", "1", "--turns"]),
+        (DRAW, &["--from", "1", "--help"]),
     ];
     for (program, options) in cases {
         let (status, output, words) = run(program, options, b"");
@@ -268,6 +276,76 @@ fn options_that_are_not_understood_end_with_2_and_the_usage() {
         );
         assert_eq!(words.contains("| --dispatch\n"), program == TEXT);
     }
+}
+
+#[test]
+fn more_turns_than_are_drawn_are_told() {
+    let (_, _, words) = run(DRAW, &["--turns", "301"], EXAMPLE);
+    let told = "depot_draw: --turns: at most 300 turns are drawn\nusage: ";
+    assert!(words.starts_with(told), "{words}");
+}
+
+#[test]
+fn help_ends_with_0_and_is_written_to_the_output() {
+    for (program, told) in [
+        (TEXT, "--dispatch"),
+        (DRAW, "At most 300 turns are drawn.\n"),
+    ] {
+        for option in ["--help", "-h"] {
+            let (status, output, words) = run(program, &[option], b"");
+            assert_eq!((status, words), (Some(0), String::new()));
+            let output = String::from_utf8(output).unwrap();
+            assert!(output.starts_with("usage: ") && output.contains(told));
+        }
+    }
+}
+
+/// Some of the example's turns, with the turns' own numbers; without options all are drawn, as from
+/// turn 1 on.
+#[test]
+fn a_window_of_the_example_is_drawn() {
+    let drawn = |options: &[&str]| {
+        let (status, picture, words) = run(DRAW, options, EXAMPLE);
+        assert_eq!((status, words), (Some(0), String::new()));
+        String::from_utf8(picture).unwrap()
+    };
+    let all = drawn(&[]);
+    for same in [
+        &["--from", "1"][..],
+        &["--turns", "300"],
+        &["--turns", "19"],
+    ] {
+        assert!(drawn(same) == all, "{same:?}");
+    }
+    let picture = drawn(&["--turns", "8", "--from", "9"]);
+    for told in [
+        "Only turns 9 to 16 of 19 are drawn.",
+        "turn 9, worker 1: answers command 1: done",
+        "turn 16, worker 1: looks up and answers command 2: chute 7",
+        "7 by worker 1",
+    ] {
+        assert!(picture.contains(&format!(">{told}<")), "{told}");
+    }
+    for turn in ["turn 8,", "turn 17,"] {
+        assert!(all.contains(turn) && !picture.contains(turn), "{turn}");
+    }
+}
+
+/// A window past the end is refused; an input without turns is drawn as long as none is named.
+#[test]
+fn a_window_past_the_end_ends_with_1_and_writes_nothing() {
+    let empty = &EXAMPLE[..38];
+    for (input, turn, turns) in [(&EXAMPLE[..], "20", "19 turns"), (empty, "1", "0 turns")] {
+        let told = format!("depot_draw: --from is past the end: the schedule has {turns}\n");
+        let refused = run(DRAW, &["--from", turn], input);
+        assert_eq!(refused, (Some(1), Vec::new(), told));
+    }
+    for options in [&[][..], &["--turns", "5"]] {
+        let (status, picture, words) = run(DRAW, options, empty);
+        assert_eq!((status, words), (Some(0), String::new()));
+        assert!(picture.starts_with(b"<svg "));
+    }
+    assert_eq!(run(DRAW, &["--from", "19"], EXAMPLE).0, Some(0));
 }
 
 #[test]

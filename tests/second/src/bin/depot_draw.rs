@@ -1,33 +1,39 @@
-//! Draws the run of an input of the program `depot` as SVG:
+//! Draws the run of an input of the program `depot`, or some of its turns, as SVG:
 //!
-//!     depot_draw < input.bin > run.svg
+//!     depot_draw [--from TURN] [--turns COUNT] < input.bin > run.svg
 //!
-//! It ends with 0, with 1 where the input is refused and 2 where the options are wrong.
+//! It ends with 0, with 1 where the input or the window is refused and 2 where the options are
+//! wrong.
 
 use std::io::{self, Read, Write};
 use std::process::ExitCode;
 
 use second::draw::draw;
+use second::draw::window::Window;
 use second::text::input::Input;
 
 const USAGE: &str = "\
-usage: depot_draw < input.bin > run.svg
-       depot_draw --help";
+usage: depot_draw [--from TURN] [--turns COUNT] < input.bin > run.svg
+       depot_draw --help
+--from TURN: the first turn that is drawn; without it, turn 1
+--turns COUNT: how many turns are drawn; without it, as many as there are
+At most 300 turns are drawn.";
 
 fn main() -> ExitCode {
     let words: Vec<String> = std::env::args().skip(1).collect();
-    match words.iter().map(String::as_str).collect::<Vec<_>>()[..] {
-        [] => {}
-        ["--help" | "-h"] => {
-            println!("{USAGE}");
-            return ExitCode::SUCCESS;
-        }
-        _ => {
-            eprintln!("{USAGE}");
+    let words: Vec<&str> = words.iter().map(String::as_str).collect();
+    if let ["--help" | "-h"] = words[..] {
+        println!("{USAGE}");
+        return ExitCode::SUCCESS;
+    }
+    let window = match Window::read(&words) {
+        Ok(window) => window,
+        Err(fault) => {
+            eprintln!("depot_draw: {fault}\n{USAGE}");
             return ExitCode::from(2);
         }
-    }
-    match picture().and_then(|picture| write_output(&picture)) {
+    };
+    match picture(&window).and_then(|picture| write_output(&picture)) {
         Ok(()) => ExitCode::SUCCESS,
         Err(fault) => {
             eprintln!("depot_draw: {fault}");
@@ -36,11 +42,11 @@ fn main() -> ExitCode {
     }
 }
 
-fn picture() -> Result<String, String> {
+fn picture(window: &Window) -> Result<String, String> {
     let mut bytes = Vec::new();
     let read = io::stdin().read_to_end(&mut bytes);
     read.map_err(|error| format!("input: {error}"))?;
-    Ok(draw(&Input::read(&bytes)?))
+    draw(&Input::read(&bytes)?, window)
 }
 
 fn write_output(picture: &str) -> Result<(), String> {

@@ -1,8 +1,9 @@
 //! The legend: each sign of the picture with its meaning, in lines as wide as the page.
 
-use super::rows::{draw_arrow, draw_block, draw_cross, draw_diamond, draw_freed, draw_rest};
+use super::look::width;
+use super::signs::{Line, draw_block, draw_cross, draw_diamond, draw_rest};
 use super::svg::Svg;
-use super::{LINE, Page, RIGHT, notes, width};
+use super::{LINE, Page, RIGHT, notes};
 use crate::text::input::Input;
 
 /// Where the legend begins if there is no note.
@@ -96,7 +97,7 @@ fn places(input: &Input, page: f64) -> Vec<(f64, f64)> {
     let [mut x, mut y] = [RIGHT, 0.0];
     let mut places = Vec::new();
     for (_, words) in entries(input) {
-        let length = SIGN + width(words, 11.0) + SPACE;
+        let length = SIGN + width(words, "cell") + SPACE;
         if x + length > page && x > RIGHT {
             [x, y] = [RIGHT, y + LINE];
         }
@@ -120,7 +121,17 @@ fn draw_sign(svg: &mut Svg, sign: Sign, x: f64, y: f64) {
         Sign::Writing => draw_diamond(svg, middle, y),
         Sign::Wait => draw_cross(svg, middle, y),
         Sign::Rest => draw_rest(svg, 1, middle, y),
-        Sign::Arrow => draw_arrow(svg, middle, y + 7.0, y - 7.0),
-        Sign::Freed => draw_freed(svg, middle, y - 7.0, y + 4.0),
+        Sign::Arrow | Sign::Freed => {
+            let begins = matches!(sign, Sign::Arrow);
+            let [from, to] = if begins { [7.0, -1.0] } else { [-7.0, 0.0] };
+            let line = Line {
+                begins,
+                x: middle,
+                from: y + from,
+                to: y + to,
+            };
+            line.draw(svg);
+            line.draw_end(svg);
+        }
     }
 }

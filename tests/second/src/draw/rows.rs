@@ -1,8 +1,11 @@
 //! The rows: the turns' numbers, the head, a row a record and a row a party.
 
+use super::columns::{ANSWER, SPACE};
+use super::look::width;
+use super::signs::{Line, draw_block, draw_cross, draw_diamond, draw_rest};
 use super::svg::{Svg, short};
 use super::trace::{Frame, Life, Outcome, Phase, Reason, Span, Turn};
-use super::{LEFT, Page, party_class, party_mark, party_name, width};
+use super::{LEFT, Page, answer_words, party_class, party_mark, party_name};
 use crate::command::Kind;
 use crate::run::{HEAD, Party};
 use crate::text::{kind_name, show_command};
@@ -10,16 +13,20 @@ use crate::text::{kind_name, show_command};
 /// Heights of the axis and of the rows.
 const AXIS: f64 = 28.0;
 const HEAD_ROW: f64 = 22.0;
-const RECORD: f64 = 50.0;
+const RECORD: f64 = 58.0;
 /// The row of the worker count in force.
 pub const COUNT: f64 = 24.0;
 pub const PARTY: f64 = 46.0;
-/// Within a record's row: where the lock's strip, the bar and the words below it stand.
+/// Within a record's row: where the lock's strip, the bar, the words on it and those below it
+/// stand. The bar has room above and below its words for the ends of arrows.
 const STRIP: f64 = 6.0;
 const STRIP_HEIGHT: f64 = 10.0;
 const BAR: f64 = 17.0;
-const BAR_HEIGHT: f64 = 16.0;
-const WORDS: f64 = 43.0;
+const BAR_HEIGHT: f64 = 26.0;
+const ON_BAR: f64 = 33.0;
+const WORDS: f64 = 53.0;
+/// Where words begin in a span.
+const MARGIN: f64 = 3.0;
 
 /// The height of all that stands above the parties.
 pub fn above_parties(records: usize) -> f64 {
@@ -31,46 +38,60 @@ impl Page<'_> {
         let bottom = self.parties_top + PARTY * self.parties.len() as f64;
         svg.text("label", LEFT - 8.0, self.axis + 9.0, "turn");
         svg.text("label", LEFT - 8.0, self.axis + 22.0, "who");
-        for (index, turn) in self.trace.turns.iter().enumerate() {
-            let number = index + 1;
-            if number % 5 == 0 || number == 1 {
+        for (number, turn) in self.trace.numbered() {
+            if self.has_number(number) {
                 svg.text(
                     "axis",
-                    self.middle(number),
+                    self.columns.middle(number),
                     self.axis + 8.0,
                     &number.to_string(),
                 );
             }
             if number % 5 == 0 {
-                let x = short(self.x(number + 1));
+                let x = short(self.columns.x(number + 1));
                 let [top, bottom] = [short(self.axis + AXIS), short(bottom)];
                 svg.path("grid", &format!("M{x} {top}V{bottom}"));
             }
             let class = format!("who {}", party_class(turn.party));
             svg.text(
                 &class,
-                self.middle(number),
+                self.columns.middle(number),
                 self.axis + 21.0,
                 &party_mark(turn.party),
             );
         }
     }
 
-    /// Bars, then arrows, then what must not be crossed by them.
+    /// Whether a turn's number stands above its column: every fifth does, and the first if the
+    /// next is far enough.
+    fn has_number(&self, number: usize) -> bool {
+        let next = number.next_multiple_of(5);
+        let far = (next - number) as f64 * self.columns.width;
+        let first = number == self.trace.first;
+        next == number || (first && far > width(&next.to_string(), "axis") + SPACE)
+    }
+
+    /// The lines between the records, then their bars, which hide the lines of others, then the
+    /// ends of the lines, and then the words.
     pub fn draw_records(&self, svg: &mut Svg) {
         svg.text("label", LEFT - 8.0, self.axis + AXIS + 14.0, "head");
+        let lives = self.trace.lives_shown();
+        let lines: Vec<Line> = lives.flat_map(|(_, life)| self.lines(life)).collect();
+        for line in &lines {
+            line.draw(svg);
+        }
         for record in &self.records {
             self.draw_phases(svg, *record);
         }
-        for life in &self.trace.lives {
-            self.draw_arrows(svg, life);
+        for line in &lines {
+            line.draw_end(svg);
         }
         self.draw_locks(svg, HEAD);
         for record in &self.records {
             self.draw_locks(svg, *record);
             self.draw_sets(svg, *record);
         }
-        for (index, life) in self.trace.lives.iter().enumerate() {
+        for (index, life) in self.trace.lives_shown() {
             self.draw_command(svg, index, life);
         }
     }
@@ -112,9 +133,9 @@ impl Page<'_> {
                 self.draw_bar(svg, class, &span, y + 3.0, 15.0);
                 self.draw_fitting(svg, "small", &span, y + 14.0, &[name, brief]);
             }
-            for (index, turn) in self.trace.turns.iter().enumerate() {
+            for (number, turn) in self.trace.numbered() {
                 if turn.party == *party {
-                    self.draw_turn(svg, index + 1, *turn, y + 26.0);
+                    self.draw_turn(svg, number, turn, y + 26.0);
                 }
             }
         }
@@ -133,7 +154,7 @@ impl Page<'_> {
     /// A record's bar, with the colour of the worker that has it along its lower edge.
     fn draw_phases(&self, svg: &mut Svg, record: u8) {
         let y = self.record_y(record).unwrap_or(0.0) + BAR;
-        svg.text("label", LEFT - 8.0, y + 12.0, &format!("record {record}"));
+        svg.text("label", LEFT - 8.0, y + 17.0, &format!("record {record}"));
         for span in self
             .trace
             .spans(|frame| (frame.place(record), frame.phase(record)))
@@ -147,8 +168,8 @@ impl Page<'_> {
     }
 
     fn draw_bar<T>(&self, svg: &mut Svg, class: &str, span: &Span<T>, y: f64, height: f64) {
-        let x = self.x(span.first);
-        let length = self.x(span.last + 1) - x;
+        let x = self.columns.x(span.first);
+        let length = self.columns.x(span.last + 1) - x;
         match class {
             "" => {}
             "idle" => svg.rect(class, [x, y + height / 2.0 - 1.0, length, 2.0]),
@@ -156,12 +177,11 @@ impl Page<'_> {
         }
     }
 
-    /// The first of several wordings that fits into a span, if one does.
+    /// The first of several wordings that fits on a span's bar, if one does.
     fn draw_fitting<T>(&self, svg: &mut Svg, class: &str, span: &Span<T>, y: f64, words: &[&str]) {
-        let x = self.x(span.first) + 3.0;
-        let room = self.x(span.last + 1) - x;
-        let size = if class == "small" { 9.0 } else { 11.0 };
-        if let Some(words) = words.iter().find(|words| width(words, size) <= room) {
+        let x = self.columns.x(span.first) + MARGIN;
+        let room = self.columns.x(span.last + 1) - x - 1.0;
+        if let Some(words) = fitting(class, room, words) {
             svg.text(class, x, y, words);
         }
     }
@@ -172,17 +192,18 @@ impl Page<'_> {
         for span in self.trace.spans(|frame| frame.locked_by(record)) {
             let Some(party) = span.value else { continue };
             self.draw_bar(svg, &party_class(party), &span, y, STRIP_HEIGHT);
-            let middle = (self.x(span.first) + self.x(span.last + 1)) / 2.0;
+            let middle = (self.columns.x(span.first) + self.columns.x(span.last + 1)) / 2.0;
             svg.text("onlock", middle, y + 8.0, &party_mark(party));
         }
-        for (index, turn) in self.trace.turns.iter().enumerate() {
+        for (number, turn) in self.trace.numbered() {
             if turn.outcome == Outcome::Wait(Reason::Locked(record)) {
-                draw_block(svg, self.middle(index + 1), y);
+                draw_block(svg, self.columns.middle(number), y);
             }
         }
     }
 
-    /// The words below a bar that say for which commands it waits.
+    /// The words below a bar that say for which commands it waits. They stand beside the line that
+    /// begins or ends there, and behind the answer of the command that had the record before.
     fn draw_sets(&self, svg: &mut Svg, record: u8) {
         let places = |frame: &Frame| -> Vec<String> {
             let records = frame.waits_for(record).into_iter();
@@ -199,30 +220,53 @@ impl Page<'_> {
                     &format!("for {list}"),
                     &list[..],
                 ];
-                self.draw_fitting(svg, "small", &span, y, &words);
+                let x = self.columns.middle(span.first) + MARGIN;
+                let x = x.max(self.answers_end(record, span.first) + SPACE);
+                let room = self.columns.x(span.last + 1) - x;
+                if let Some(words) = fitting("small", room, &words) {
+                    svg.label("small", x, y, words);
+                }
             }
         }
     }
 
-    /// Arrows to the records that a command begins to wait for, and back when each wait ends.
-    /// Both end inside a bar.
-    fn draw_arrows(&self, svg: &mut Svg, life: &Life) {
-        let Some(own) = self.record_y(life.record) else {
-            return;
-        };
+    /// Where the answers of a record end that were written before a turn.
+    fn answers_end(&self, record: u8, turn: usize) -> f64 {
+        let lives = self.trace.lives_shown().filter(|(_, life)| {
+            life.record == record && life.written.is_some_and(|(written, _)| written < turn)
+        });
+        let ends = lives.filter_map(|(_, life)| self.columns.answer_end(&self.trace, life));
+        ends.fold(0.0, f64::max)
+    }
+
+    /// The lines to the records that a command begins to wait for in these turns, and back where
+    /// such a wait ends; they go from bar to bar.
+    fn lines(&self, life: &Life) -> Vec<Line> {
+        let edge = |from: f64, to: f64| from + BAR + if to > from { BAR_HEIGHT } else { 0.0 };
+        let mut lines = Vec::new();
         for wait in &life.waits {
-            let Some(other) = self.record_y(wait.record) else {
+            let rows = [life.record, wait.record].map(|record| self.record_y(record));
+            let [Some(own), Some(other)] = rows else {
                 continue;
             };
-            let sign = if other > own { 1.0 } else { -1.0 };
-            let middle = BAR + BAR_HEIGHT / 2.0;
-            let from = own + middle + sign * BAR_HEIGHT / 2.0;
-            let to = other + middle - sign * BAR_HEIGHT / 2.0;
-            draw_arrow(svg, self.middle(wait.from), from, to + sign * 6.0);
-            if let Some(until) = wait.until {
-                draw_freed(svg, self.middle(until), to, from - sign * 4.0);
+            let [own, other] = [edge(own, other), edge(other, own)];
+            let ends = [
+                (true, Some(wait.from), own, other),
+                (false, wait.until, other, own),
+            ];
+            for (begins, turn, from, to) in ends {
+                if let Some(turn) = turn.filter(|turn| self.trace.shows(*turn)) {
+                    let x = self.columns.middle(turn);
+                    lines.push(Line {
+                        begins,
+                        x,
+                        from,
+                        to,
+                    });
+                }
             }
         }
+        lines
     }
 
     /// A command's words on its bar, and its writing turn with the answer below it.
@@ -231,12 +275,10 @@ impl Page<'_> {
             return;
         };
         let command = &self.input.commands[index];
-        let last = life
-            .removed
-            .map_or(self.trace.turns.len(), |removed| removed - 1);
+        let last = life.removed.map_or(self.trace.last(), |turn| turn - 1);
         let span = Span {
             value: (),
-            first: life.loaded,
+            first: life.loaded.max(self.trace.first),
             last,
         };
         let place = index + 1;
@@ -245,17 +287,17 @@ impl Page<'_> {
             &format!("{place} {}", kind_name(command.kind)),
             &place.to_string()[..],
         ];
-        self.draw_fitting(svg, "cell", &span, y + BAR + 12.0, &words);
-        if let Some((turn, answer)) = life.written {
-            let x = self.middle(turn);
+        self.draw_fitting(svg, "cell", &span, y + ON_BAR, &words);
+        if let Some((turn, answer)) = life.written.filter(|(turn, _)| self.trace.shows(*turn)) {
+            let x = self.columns.middle(turn);
+            svg.label("small", x + ANSWER, y + WORDS, &answer_words(answer));
             draw_diamond(svg, x, y + WORDS - 3.0);
-            svg.text("small", x + 7.0, y + WORDS, &format!("answer {answer}"));
         }
     }
 
     /// A turn's mark in its party's row.
     fn draw_turn(&self, svg: &mut Svg, number: usize, turn: Turn, y: f64) {
-        let x = self.middle(number);
+        let x = self.columns.middle(number);
         let words = format!(
             "turn {number}, {}: {}",
             party_name(turn.party),
@@ -276,8 +318,8 @@ impl Page<'_> {
 
     /// What became of a turn, in words.
     fn told(&self, number: usize) -> String {
-        let turn = self.trace.turns[number - 1];
-        let frame = &self.trace.frames[number];
+        let turn = self.trace.turn(number);
+        let frame = self.trace.frame(number);
         match turn.outcome {
             Outcome::Step => match (state(frame, turn.party).0[0], turn.party > frame.in_force) {
                 ("", _) => "becomes idle".to_string(),
@@ -294,7 +336,8 @@ impl Page<'_> {
                     | Kind::Workers
                     | Kind::Checkpoint => "",
                 };
-                format!("{looks}writes answer {answer} of command {place}")
+                let words = answer_words(answer);
+                format!("{looks}answers command {place}: {words}")
             }
             Outcome::Wait(Reason::NoRecordFree) => "waits, no record is free".to_string(),
             Outcome::Wait(Reason::EveryCommandLoaded) => "waits, all is loaded".to_string(),
@@ -313,50 +356,14 @@ impl Page<'_> {
     }
 }
 
-/// A wait's beginning: from the one that waits to the one waited for.
-pub fn draw_arrow(svg: &mut Svg, x: f64, from: f64, to: f64) {
-    let line = format!("M{} {}V{}", short(x), short(from), short(to));
-    svg.path("arrow", &line);
-    let back = if to > from { -6 } else { 6 };
-    svg.path("head", &format!("M{} {}l-3 {back}h6z", short(x), short(to)));
-}
-
-/// A wait's end: from the one waited for to the one that waits.
-pub fn draw_freed(svg: &mut Svg, x: f64, from: f64, to: f64) {
-    svg.path(
-        "freed",
-        &format!("M{} {}V{}", short(x), short(from), short(to)),
-    );
-    svg.circle("ring", x, to, 2.8);
-}
-
-/// The sign above a lock that a turn waited for; `y` is where the lock's strip begins.
-pub fn draw_block(svg: &mut Svg, x: f64, y: f64) {
-    svg.path(
-        "block",
-        &format!("M{} {}h7l-3.5 5z", short(x - 3.5), short(y - 5.5)),
-    );
-}
-
-pub fn draw_diamond(svg: &mut Svg, x: f64, y: f64) {
-    svg.path(
-        "wrote",
-        &format!("M{} {}l5 5l-5 5l-5 -5z", short(x), short(y - 5.0)),
-    );
-}
-
-pub fn draw_cross(svg: &mut Svg, x: f64, y: f64) {
-    let [x, y] = [short(x - 3.0), short(y - 3.0)];
-    svg.path("wait", &format!("M{x} {y}l6 6m0 -6l-6 6"));
-}
-
-/// The wait of an idle worker that is above the count in force: its dot, but pale.
-pub fn draw_rest(svg: &mut Svg, party: u8, x: f64, y: f64) {
-    svg.circle(&format!("rest {}", party_class(party)), x, y, 3.5);
+/// The first of several wordings that is not wider than the room.
+fn fitting<'a>(class: &str, room: f64, words: &[&'a str]) -> Option<&'a str> {
+    let mut words = words.iter().copied();
+    words.find(|words| width(words, class) <= room)
 }
 
 /// The sign below a wait that says why; a pale dot says it alone.
-fn reason_mark(reason: Reason) -> String {
+pub fn reason_mark(reason: Reason) -> String {
     match reason {
         Reason::NotAllowed => String::new(),
         Reason::Locked(HEAD) => "H".to_string(),
@@ -381,12 +388,12 @@ fn phase_class(phase: Phase) -> &'static str {
 fn state(frame: &Frame, party: u8) -> ([&'static str; 2], &'static str) {
     match frame.parties[usize::from(party)] {
         Party::Idle => (["", ""], "idle"),
-        Party::Loading { .. } => (["loading", "load"], "loading"),
-        Party::Searching { .. } => (["searching", "search"], "searching"),
-        Party::Holding { .. } => (["holding", "hold"], "executing"),
-        Party::LookedUp { .. } => (["looked up", "look"], "executing"),
-        Party::Written { .. } => (["written", "wrote"], "executing"),
-        Party::Walking { .. } => (["walking", "walk"], "executing"),
-        Party::Clearing { .. } => (["clearing", "clear"], "clearing"),
+        Party::Loading { .. } => (["loading", "load"], "loading state"),
+        Party::Searching { .. } => (["searching", "search"], "searching state"),
+        Party::Holding { .. } => (["holding", "hold"], "executing state"),
+        Party::LookedUp { .. } => (["looked up", "look"], "executing state"),
+        Party::Written { .. } => (["written", "wrote"], "executing state"),
+        Party::Walking { .. } => (["walking", "walk"], "executing state"),
+        Party::Clearing { .. } => (["clearing", "clear"], "clearing state"),
     }
 }

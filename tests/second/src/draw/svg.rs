@@ -2,6 +2,8 @@
 
 use std::fmt::Write;
 
+use super::look::text_box;
+
 /// Grows downwards; numbers are in pixels.
 pub struct Svg {
     body: String,
@@ -31,6 +33,13 @@ impl Svg {
             short(y),
             escape(words),
         ));
+    }
+
+    /// Words on a piece of paper, which hides the lines that run behind them.
+    pub fn label(&mut self, class: &str, x: f64, y: f64, words: &str) {
+        let [left, top, width, height] = text_box(class, x, y, words);
+        self.rect("paper", [left - 1.0, top - 1.0, width + 2.0, height + 2.0]);
+        self.text(class, x, y, words);
     }
 
     pub fn circle(&mut self, class: &str, x: f64, y: f64, radius: f64) {

@@ -1,8 +1,9 @@
 //! The table below the rows: what became of each command, at which turns, and why it waited.
 
+use super::look::width;
 use super::svg::Svg;
 use super::trace::{Life, Outcome, Reason, Trace, Wait};
-use super::{GAP, LINE, Page, RIGHT, party_name, width};
+use super::{GAP, LINE, Page, RIGHT, answer_words, count, party_name};
 use crate::command::{Command, Kind};
 use crate::text::input::Input;
 use crate::text::show_command;
@@ -23,19 +24,20 @@ const MOST: usize = 24;
 /// Where each column begins, and its heading.
 const COLUMNS: [(f64, &str); 9] = [
     (0.0, "command"),
-    (190.0, "answer"),
-    (240.0, "record"),
-    (290.0, "loaded"),
-    (342.0, "linked"),
-    (390.0, "taken"),
-    (496.0, "written"),
-    (548.0, "removed"),
-    (608.0, "had to wait for"),
+    (206.0, "answer"),
+    (314.0, "record"),
+    (366.0, "loaded"),
+    (418.0, "linked"),
+    (466.0, "taken"),
+    (588.0, "written"),
+    (644.0, "removed"),
+    (706.0, "had to wait for"),
 ];
 
 /// The height of the table and the space below it.
 pub fn height(trace: &Trace, input: &Input) -> f64 {
-    let rows = trace.lives.len().min(MOST) + usize::from(left_out(trace, input).is_some());
+    let rows =
+        trace.lives_shown().count().min(MOST) + usize::from(left_out(trace, input).is_some());
     let [changes, checkpoints] = [input.changes_workers(), input.has_checkpoints()];
     let below = 2 * usize::from(changes) + usize::from(checkpoints);
     let space = if below > 0 { 0.5 } else { 0.0 };
@@ -68,7 +70,7 @@ impl Page<'_> {
             svg.text("column", RIGHT + x, y, heading);
         }
         y += LINE;
-        for (index, life) in self.trace.lives.iter().enumerate().take(MOST) {
+        for (index, life) in self.trace.lives_shown().take(MOST) {
             for ((x, _), words) in COLUMNS.iter().zip(self.cells(index, life)) {
                 svg.text("cell", RIGHT + x, y, &words);
             }
@@ -96,9 +98,9 @@ impl Page<'_> {
         for (index, life) in self.trace.lives.iter().enumerate() {
             let checkpoint = self.input.commands[index].kind == Kind::Checkpoint;
             if let (true, Some((turn, _))) = (checkpoint, life.written) {
-                let entries = match self.trace.frames[turn].used {
+                let entries = match life.entries {
                     1 => "1 entry".to_string(),
-                    used => format!("{used} entries"),
+                    entries => format!("{entries} entries"),
                 };
                 words.push(format!(
                     "place {} and {entries} from turn {turn}",
@@ -125,10 +127,10 @@ impl Page<'_> {
     fn rests(&self) -> String {
         let mut words = Vec::new();
         for worker in self.parties.iter().skip(1) {
-            let turns = self.trace.turns.iter().enumerate().filter(|(_, turn)| {
+            let turns = self.trace.numbered().filter(|(_, turn)| {
                 turn.party == *worker && turn.outcome == Outcome::Wait(Reason::NotAllowed)
             });
-            let turns: Vec<String> = turns.map(|(index, _)| (index + 1).to_string()).collect();
+            let turns: Vec<String> = turns.map(|(number, _)| number.to_string()).collect();
             if !turns.is_empty() {
                 let turns = turns.join(" ");
                 words.push(format!("{} at turns {turns}", party_name(*worker)));
@@ -144,10 +146,11 @@ impl Page<'_> {
     /// As many of these, one after another, as the page has room for from here on; at least the
     /// first.
     fn within(&self, from: f64, words: Vec<String>) -> String {
-        let room = self.width - 2.0 * RIGHT - from - width("; and 10 more", 11.0);
+        let length = |words: &str| width(words, "cell");
+        let room = self.width - 2.0 * RIGHT - from - length("; and 10 more");
         let mut line = String::new();
         for (told, next) in words.iter().enumerate() {
-            if told > 0 && width(&line, 11.0) + width(next, 11.0) > room {
+            if told > 0 && length(&line) + length(next) > room {
                 return format!("{line}; and {} more", words.len() - told);
             }
             let comma = if told > 0 { "; " } else { "" };
@@ -165,7 +168,7 @@ impl Page<'_> {
         [
             format!("{} {command}", index + 1),
             life.written
-                .map_or(String::new(), |(_, answer)| answer.to_string()),
+                .map_or(String::new(), |(_, answer)| answer_words(answer)),
             life.record.to_string(),
             life.loaded.to_string(),
             turn(life.linked),
@@ -183,6 +186,9 @@ impl Page<'_> {
             let why = why(earlier, &self.input.commands[index]);
             let until = match wait.until {
                 Some(turn) => format!("until turn {turn}"),
+                None if self.trace.last() < self.input.schedule.len() => {
+                    format!("past turn {}", self.trace.last())
+                }
                 None => "to the end".to_string(),
             };
             format!("{} ({why}) {until}", wait.place)
@@ -206,15 +212,25 @@ fn why(earlier: &Command, later: &Command) -> &'static str {
 
 /// What the table does not tell.
 fn left_out(trace: &Trace, input: &Input) -> Option<String> {
-    let [loaded, all] = [trace.lives.len(), input.commands.len()];
-    let more = loaded.saturating_sub(MOST);
-    let waiting = super::count(all - loaded, "command");
-    match (more, all - loaded) {
-        (0, 0) => None,
-        (0, _) => Some(format!("Not loaded in these turns: the last {waiting}.")),
-        (more, 0) => Some(format!("And {more} more.")),
-        (more, _) => Some(format!(
-            "And {more} more, and the last {waiting}, not loaded in these turns."
-        )),
-    }
+    let [loaded, shown] = [trace.lives.len(), trace.lives_shown().count()];
+    let number = |commands: usize| count(commands, "command");
+    let [more, waiting, gone] = [
+        shown.saturating_sub(MOST),
+        input.commands.len() - loaded,
+        loaded - shown,
+    ];
+    let sentences = [
+        (more, format!("And {more} more.")),
+        (
+            waiting,
+            format!("Not loaded in these turns: the last {}.", number(waiting)),
+        ),
+        (
+            gone,
+            format!("Removed before these turns: {}.", number(gone)),
+        ),
+    ];
+    let told = sentences.into_iter().filter(|(commands, _)| *commands > 0);
+    let told: Vec<String> = told.map(|(_, sentence)| sentence).collect();
+    (!told.is_empty()).then(|| told.join(" "))
 }

@@ -67,6 +67,8 @@ pub struct Life {
     pub waits: Vec<Wait>,
     pub taken: Option<(usize, u8)>,
     pub written: Option<(usize, u16)>,
+    /// How many entries the store had after that.
+    pub entries: u16,
     pub removed: Option<usize>,
 }
 
@@ -86,43 +88,78 @@ pub struct Span<T> {
     pub last: usize,
 }
 
-/// The first turns of a run. `frames[t]` is how things stand after turn t, from 1 on.
+/// Some turns of a run, one after another, with all that led to them.
 pub struct Trace {
+    /// The number of the first of these turns, from 1 on.
+    pub first: usize,
+    /// How things stand before the first of them, and after each.
     pub frames: Vec<Frame>,
     pub turns: Vec<Turn>,
-    /// One for each command that was loaded, in order.
+    /// One for each command that was loaded before the last of them or at it, in order.
     pub lives: Vec<Life>,
 }
 
 impl Trace {
-    /// Runs an input for at most so many turns.
-    pub fn of(input: &Input, most: usize) -> Trace {
+    /// Runs an input from the opening to the last of these turns.
+    pub fn of(input: &Input, [first, last]: [usize; 2]) -> Trace {
         let mut run = Run::open(input.settings, input.commands.clone());
-        let mut frames = vec![Frame::of(&run)];
-        let mut turns = Vec::new();
-        for party in input.schedule.iter().take(most) {
-            let outcome = take_turn(&mut run, *party);
-            turns.push(Turn {
-                party: *party,
-                outcome,
-            });
-            frames.push(Frame::of(&run));
-        }
         let mut trace = Trace {
-            frames,
-            turns,
+            first,
+            frames: Vec::new(),
+            turns: Vec::new(),
             lives: Vec::new(),
         };
-        for turn in 1..trace.frames.len() {
-            trace.follow(turn);
+        let mut before = Frame::of(&run);
+        for (turn, party) in (1..=last).zip(&input.schedule) {
+            let outcome = take_turn(&mut run, *party);
+            let after = Frame::of(&run);
+            trace.follow(turn, outcome, [&before, &after]);
+            let before = std::mem::replace(&mut before, after);
+            if turn >= first {
+                let party = *party;
+                trace.turns.push(Turn { party, outcome });
+                trace.frames.push(before);
+            }
         }
+        trace.frames.push(before);
         trace
+    }
+
+    /// The turns with their numbers.
+    pub fn numbered(&self) -> impl Iterator<Item = (usize, Turn)> {
+        (self.first..).zip(self.turns.iter().copied())
+    }
+
+    pub fn turn(&self, number: usize) -> Turn {
+        self.turns[number - self.first]
+    }
+
+    /// How things stand after a turn.
+    pub fn frame(&self, number: usize) -> &Frame {
+        &self.frames[number - self.first + 1]
+    }
+
+    /// The number of the last turn.
+    pub fn last(&self) -> usize {
+        self.first + self.turns.len() - 1
+    }
+
+    /// Whether a turn is one of these.
+    pub fn shows(&self, turn: usize) -> bool {
+        (self.first..=self.last()).contains(&turn)
+    }
+
+    /// The commands, by index, that had not gone before these turns.
+    pub fn lives_shown(&self) -> impl Iterator<Item = (usize, &Life)> {
+        let shown = |life: &Life| life.removed.is_none_or(|turn| turn >= self.first);
+        let lives = self.lives.iter().enumerate();
+        lives.filter(move |(_, life)| shown(life))
     }
 
     /// The stretches of turns over which a value of the frame stays the same.
     pub fn spans<T: PartialEq>(&self, value: impl Fn(&Frame) -> T) -> Vec<Span<T>> {
         let mut spans: Vec<Span<T>> = Vec::new();
-        for (turn, frame) in self.frames.iter().enumerate().skip(1) {
+        for (turn, frame) in (self.first..).zip(&self.frames[1..]) {
             let value = value(frame);
             match spans.last_mut() {
                 Some(span) if span.value == value => span.last = turn,
@@ -136,15 +173,19 @@ impl Trace {
         spans
     }
 
-    /// The records that are ever used, in order.
+    /// The records that are used in these turns, in order.
     pub fn records_used(&self) -> Vec<u8> {
-        let used = |record: &u8| self.lives.iter().any(|life| life.record == *record);
-        (1..=150).filter(used).collect()
+        let mut records: Vec<u8> = self.lives_shown().map(|(_, life)| life.record).collect();
+        records.sort();
+        records.dedup();
+        records
     }
 
-    /// Enters into the lives what a turn changed.
-    fn follow(&mut self, turn: usize) {
-        let [before, after] = [&self.frames[turn - 1], &self.frames[turn]];
+    /// Enters into the lives what a turn changed; a wait changes nothing.
+    fn follow(&mut self, turn: usize, outcome: Outcome, [before, after]: [&Frame; 2]) {
+        if matches!(outcome, Outcome::Wait(_)) {
+            return;
+        }
         if after.loaded > before.loaded {
             let record = before.records.free;
             self.lives.push(Life {
@@ -155,9 +196,10 @@ impl Trace {
         }
         for life in self.lives.iter_mut().filter(|life| life.removed.is_none()) {
             follow_life(life, turn, before, after);
-            match self.turns[turn - 1].outcome {
+            match outcome {
                 Outcome::Wrote { record, answer } if record == life.record => {
                     life.written = Some((turn, answer));
+                    life.entries = after.used;
                 }
                 _ => {}
             }
@@ -255,6 +297,10 @@ fn follow_life(life: &mut Life, turn: usize, before: &Frame, after: &Frame) {
         Phase::Unused => life.removed = Some(turn),
         _ => {}
     }
+    let set = |frame: &Frame| frame.records.set[usize::from(life.record)];
+    if set(before) == set(after) {
+        return;
+    }
     let now = after.waits_for(life.record);
     for wait in life.waits.iter_mut().filter(|wait| wait.until.is_none()) {
         if !now.contains(&wait.record) {
@@ -305,15 +351,12 @@ mod tests {
             workers,
             room: 4,
         };
-        let schedule = schedule.to_vec();
-        Trace::of(
-            &Input {
-                settings,
-                commands,
-                schedule,
-            },
-            1000,
-        )
+        let input = Input {
+            settings,
+            commands,
+            schedule: schedule.to_vec(),
+        };
+        Trace::of(&input, [1, schedule.len()])
     }
 
     /// Document 01, the program's example.
@@ -337,6 +380,7 @@ mod tests {
             waits: vec![],
             taken: Some((7, 1)),
             written: Some((9, 1000)),
+            entries: 1,
             removed: Some(13),
         };
         let second = Life {
@@ -346,6 +390,7 @@ mod tests {
             waits: vec![wait],
             taken: Some((15, 1)),
             written: Some((16, 7)),
+            entries: 1,
             removed: Some(19),
         };
         assert_eq!(example().lives, [first, second]);
