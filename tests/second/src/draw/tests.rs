@@ -90,7 +90,12 @@ fn pictures(seed: u64) -> Vec<String> {
     let dense = "--size 1 --workers 1 --room 1 --dispatch";
     let list = "read RR473124829GB\ninsert AA000000005AA 7\n".repeat(20);
     inputs.push(input(dense, &list));
-    let mut pictures = Vec::new();
+    // Waits that begin soon after the answer of the command that had the record before; the window
+    // ends at an answer.
+    let turns = format!("0,0{}", ",0,0,0,1,1,1,1,1,1,1,1".repeat(20));
+    let soon = format!("--size 2 --workers 1 --room 1 --turns-file {turns}");
+    inputs.push(input(&soon, &"insert AA000000005AA 7\n".repeat(22)));
+    let mut pictures = vec![window(&inputs[inputs.len() - 1], 1, 119)];
     for input in inputs {
         pictures.push(whole(&input));
         if let Some(past) = input.schedule.len().checked_sub(1) {

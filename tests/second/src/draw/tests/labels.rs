@@ -231,6 +231,20 @@ fn no_line_crosses_words() {
     }
 }
 
+/// All words are inside the page, which is the first rectangle.
+#[test]
+fn words_are_inside_the_page() {
+    for picture in pictures(7).into_iter().chain(kept()) {
+        let shapes: Vec<Shape> = picture.lines().filter_map(read_shape).collect();
+        let page = shapes.iter().find(|shape| shape.is_rect).unwrap().place;
+        for shape in shapes.iter().filter(|shape| shape.words.is_some()) {
+            let [x, y, width, height] = shape.place;
+            let inside = x >= 0.0 && x + width <= page[2] && y >= 0.0 && y + height <= page[3];
+            assert!(inside, "{:?} at {:?} of {page:?}", shape.words, shape.place);
+        }
+    }
+}
+
 /// The rule, part by part.
 #[test]
 fn the_label_test_finds_faults() {
