@@ -29,8 +29,10 @@ use window::Window;
 const MOST_RECORDS: usize = 12;
 const MOST_WORKERS: usize = 8;
 
-/// Where the first column begins, and how wide the page is at least.
-const LEFT: f64 = 84.0;
+/// Where the names of the rows end, where the first column begins, and how wide the page is at
+/// least.
+const NAMES: f64 = 78.0;
+const LEFT: f64 = 92.0;
 const RIGHT: f64 = 24.0;
 const LEAST_WIDTH: f64 = 1200.0;
 /// The height of a line of words, and of the space between two parts.
@@ -146,9 +148,10 @@ fn notes(input: &Input, trace: &Trace) -> Vec<String> {
     let mut notes = Vec::new();
     let [first, last, all] = [trace.first, trace.last(), input.schedule.len()];
     if trace.turns.len() < all {
-        notes.push(match first == last {
-            true => format!("Only turn {first} of {all} is drawn."),
-            false => format!("Only turns {first} to {last} of {all} are drawn."),
+        notes.push(if first == last {
+            format!("Only turn {first} of {all} is drawn.")
+        } else {
+            format!("Only turns {first} to {last} of {all} are drawn.")
         });
     }
     let records = trace.records_used().len();

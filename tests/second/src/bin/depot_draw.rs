@@ -9,27 +9,31 @@ use std::io::{self, Read, Write};
 use std::process::ExitCode;
 
 use second::draw::draw;
-use second::draw::window::Window;
+use second::draw::window::{MOST_TURNS, Window};
 use second::text::input::Input;
 
-const USAGE: &str = "\
+fn usage() -> String {
+    format!(
+        "\
 usage: depot_draw [--from TURN] [--turns COUNT] < input.bin > run.svg
        depot_draw --help
 --from TURN: the first turn that is drawn; without it, turn 1
 --turns COUNT: how many turns are drawn; without it, as many as there are
-At most 300 turns are drawn.";
+At most {MOST_TURNS} turns are drawn."
+    )
+}
 
 fn main() -> ExitCode {
     let words: Vec<String> = std::env::args().skip(1).collect();
     let words: Vec<&str> = words.iter().map(String::as_str).collect();
     if let ["--help" | "-h"] = words[..] {
-        println!("{USAGE}");
+        println!("{}", usage());
         return ExitCode::SUCCESS;
     }
     let window = match Window::read(&words) {
         Ok(window) => window,
         Err(fault) => {
-            eprintln!("depot_draw: {fault}\n{USAGE}");
+            eprintln!("depot_draw: {fault}\n{}", usage());
             return ExitCode::from(2);
         }
     };

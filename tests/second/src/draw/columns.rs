@@ -45,7 +45,7 @@ impl Columns {
 
     /// Where the words of an answer end that is written in these turns.
     pub fn answer_end(&self, trace: &Trace, life: &Life) -> Option<f64> {
-        let (turn, answer) = life.written.filter(|(turn, _)| trace.shows(*turn))?;
+        let (turn, answer) = trace.answer_shown(life)?;
         Some(self.middle(turn) + answer_length(answer))
     }
 
@@ -74,16 +74,15 @@ fn widest_mark(trace: &Trace) -> f64 {
     widths.fold(0.0, f64::max)
 }
 
-/// How wide columns must be that each answer of a record ends before the next one's sign.
+/// How wide columns must be so that each answer of a record ends before the next one's sign.
 fn room_for_answers(trace: &Trace) -> f64 {
     let mut least: f64 = 0.0;
     for record in trace.records_used() {
         let lives = trace
             .lives_shown()
             .filter(|(_, life)| life.record == record);
-        let written = lives.filter_map(|(_, life)| life.written);
-        let written: Vec<(usize, u16)> = written.filter(|(turn, _)| trace.shows(*turn)).collect();
-        for pair in written.windows(2) {
+        let answers = lives.filter_map(|(_, life)| trace.answer_shown(life));
+        for pair in answers.collect::<Vec<(usize, u16)>>().windows(2) {
             let length = answer_length(pair[0].1) + SPACE + SIGN;
             least = least.max(length / (pair[1].0 - pair[0].0) as f64);
         }

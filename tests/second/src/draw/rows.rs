@@ -5,7 +5,7 @@ use super::look::width;
 use super::signs::{Line, draw_block, draw_cross, draw_diamond, draw_rest};
 use super::svg::{Svg, short};
 use super::trace::{Frame, Life, Outcome, Phase, Reason, Span, Turn};
-use super::{LEFT, Page, answer_words, party_class, party_mark, party_name};
+use super::{NAMES, Page, answer_words, party_class, party_mark, party_name};
 use crate::command::Kind;
 use crate::run::{HEAD, Party};
 use crate::text::{kind_name, show_command};
@@ -36,8 +36,8 @@ pub fn above_parties(records: usize) -> f64 {
 impl Page<'_> {
     pub fn draw_axis(&self, svg: &mut Svg) {
         let bottom = self.parties_top + PARTY * self.parties.len() as f64;
-        svg.text("label", LEFT - 8.0, self.axis + 9.0, "turn");
-        svg.text("label", LEFT - 8.0, self.axis + 22.0, "who");
+        svg.text("label", NAMES, self.axis + 9.0, "turn");
+        svg.text("label", NAMES, self.axis + 22.0, "who");
         for (number, turn) in self.trace.numbered() {
             if self.has_number(number) {
                 svg.text(
@@ -74,7 +74,7 @@ impl Page<'_> {
     /// The lines between the records, then their bars, which hide the lines of others, then the
     /// ends of the lines, and then the words.
     pub fn draw_records(&self, svg: &mut Svg) {
-        svg.text("label", LEFT - 8.0, self.axis + AXIS + 14.0, "head");
+        svg.text("label", NAMES, self.axis + AXIS + 14.0, "head");
         let lives = self.trace.lives_shown();
         let lines: Vec<Line> = lives.flat_map(|(_, life)| self.lines(life)).collect();
         for line in &lines {
@@ -102,7 +102,7 @@ impl Page<'_> {
             return;
         }
         let y = self.parties_top - COUNT;
-        svg.text("label", LEFT - 8.0, y + 14.0, "allowed");
+        svg.text("label", NAMES, y + 14.0, "allowed");
         for span in self.trace.spans(|frame| frame.in_force) {
             self.draw_bar(svg, "force", &span, y + 2.0, 16.0);
             let words = match span.value {
@@ -126,7 +126,7 @@ impl Page<'_> {
     pub fn draw_parties(&self, svg: &mut Svg) {
         for (index, party) in self.parties.iter().enumerate() {
             let y = self.parties_top + PARTY * index as f64;
-            svg.text("label", LEFT - 8.0, y + 14.0, &party_name(*party));
+            svg.text("label", NAMES, y + 14.0, &party_name(*party));
             self.draw_above(svg, *party, y);
             for span in self.trace.spans(|frame| state(frame, *party)) {
                 let ([name, brief], class) = span.value;
@@ -154,7 +154,7 @@ impl Page<'_> {
     /// A record's bar, with the colour of the worker that has it along its lower edge.
     fn draw_phases(&self, svg: &mut Svg, record: u8) {
         let y = self.record_y(record).unwrap_or(0.0) + BAR;
-        svg.text("label", LEFT - 8.0, y + 17.0, &format!("record {record}"));
+        svg.text("label", NAMES, y + 17.0, &format!("record {record}"));
         for span in self
             .trace
             .spans(|frame| (frame.place(record), frame.phase(record)))
@@ -215,11 +215,7 @@ impl Page<'_> {
         for span in self.trace.spans(places) {
             if !span.value.is_empty() {
                 let list = span.value.join(", ");
-                let words = [
-                    &format!("waits for {list}"),
-                    &format!("for {list}"),
-                    &list[..],
-                ];
+                let words = [&format!("waits for {list}")[..], &format!("for {list}")];
                 let x = self.columns.middle(span.first) + MARGIN;
                 let x = x.max(self.answers_end(record, span.first) + SPACE);
                 let room = self.columns.x(span.last + 1) - x;
@@ -288,7 +284,7 @@ impl Page<'_> {
             &place.to_string()[..],
         ];
         self.draw_fitting(svg, "cell", &span, y + ON_BAR, &words);
-        if let Some((turn, answer)) = life.written.filter(|(turn, _)| self.trace.shows(*turn)) {
+        if let Some((turn, answer)) = self.trace.answer_shown(life) {
             let x = self.columns.middle(turn);
             svg.label("small", x + ANSWER, y + WORDS, &answer_words(answer));
             draw_diamond(svg, x, y + WORDS - 3.0);

@@ -96,6 +96,9 @@ fn pictures(seed: u64) -> Vec<String> {
     let soon = format!("--size 2 --workers 1 --room 1 --turns-file {turns}");
     inputs.push(input(&soon, &"insert AA000000005AA 7\n".repeat(22)));
     let mut pictures = vec![window(&inputs[inputs.len() - 1], 1, 119)];
+    // Turns with long numbers.
+    let long = input("--size 4 --workers 3 --room 1 --random 2 20000", &list);
+    pictures.extend([11_111, 19_999].map(|from| window(&long, from, MOST_TURNS)));
     for input in inputs {
         pictures.push(whole(&input));
         if let Some(past) = input.schedule.len().checked_sub(1) {

@@ -156,6 +156,11 @@ impl Trace {
         lives.filter(move |(_, life)| shown(life))
     }
 
+    /// The writing turn of a command and its answer, if it is one of these turns.
+    pub fn answer_shown(&self, life: &Life) -> Option<(usize, u16)> {
+        life.written.filter(|(turn, _)| self.shows(*turn))
+    }
+
     /// The stretches of turns over which a value of the frame stays the same.
     pub fn spans<T: PartialEq>(&self, value: impl Fn(&Frame) -> T) -> Vec<Span<T>> {
         let mut spans: Vec<Span<T>> = Vec::new();
@@ -345,24 +350,32 @@ mod tests {
         }
     }
 
-    fn trace(size: u8, workers: u8, commands: Vec<Command>, schedule: &[u8]) -> Trace {
+    fn input(size: u8, workers: u8, commands: Vec<Command>, schedule: &[u8]) -> Input {
         let settings = Settings {
             size,
             workers,
             room: 4,
         };
-        let input = Input {
+        Input {
             settings,
             commands,
             schedule: schedule.to_vec(),
-        };
+        }
+    }
+
+    fn trace(size: u8, workers: u8, commands: Vec<Command>, schedule: &[u8]) -> Trace {
+        let input = input(size, workers, commands, schedule);
         Trace::of(&input, [1, schedule.len()])
     }
 
     /// Document 01, the program's example.
-    fn example() -> Trace {
+    fn example_input() -> Input {
         let commands = vec![command(Kind::Insert, 7), command(Kind::Read, 0)];
-        trace(2, 1, commands, &[[0; 5].as_slice(), &[1; 14]].concat())
+        input(2, 1, commands, &[[0; 5].as_slice(), &[1; 14]].concat())
+    }
+
+    fn example() -> Trace {
+        Trace::of(&example_input(), [1, 19])
     }
 
     #[test]
@@ -480,6 +493,44 @@ mod tests {
         let turns: Vec<usize> = (1..=12).filter(|turn| waits[turn - 1]).collect();
         assert_eq!(turns, [7, 9, 12]);
         assert_eq!(trace.lives[0].removed, Some(11));
+    }
+
+    /// Some turns of the example: they and what stands after them are those of the whole, and lives
+    /// are told as far as the last of them.
+    #[test]
+    fn some_turns_are_those_of_the_whole() {
+        let whole = example();
+        let some = Trace::of(&example_input(), [9, 12]);
+        assert_eq!(some.turns, whole.turns[8..12]);
+        assert_eq!([some.first, some.last()], [9, 12]);
+        for turn in 9..=12 {
+            assert_eq!(some.turn(turn), whole.turns[turn - 1]);
+            assert_eq!(some.frame(turn).parties, whole.frames[turn].parties);
+            assert_eq!(some.frame(turn).records, whole.frames[turn].records);
+        }
+        assert_eq!(some.frames[0].parties, whole.frames[8].parties);
+        let spans = some.spans(|frame| frame.phase(2));
+        let phases: Vec<(Phase, usize, usize)> = spans
+            .iter()
+            .map(|span| (span.value, span.first, span.last))
+            .collect();
+        assert_eq!(phases, [(Phase::Waiting, 9, 11), (Phase::Ready, 12, 12)]);
+        let first = Life {
+            removed: None,
+            ..whole.lives[0].clone()
+        };
+        let second = Life {
+            taken: None,
+            written: None,
+            entries: 0,
+            removed: None,
+            ..whole.lives[1].clone()
+        };
+        assert_eq!(some.lives, [first, second]);
+        assert_eq!(some.answer_shown(&some.lives[0]), Some((9, 1000)));
+        let later = Trace::of(&example_input(), [14, 19]);
+        assert_eq!(later.records_used(), [2]);
+        assert_eq!(later.answer_shown(&later.lives[0]), None);
     }
 
     #[test]
