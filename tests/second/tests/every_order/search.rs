@@ -46,14 +46,7 @@ pub fn every_order_by(judge: &Judge, first: Run, met: &mut Met) {
                 turns.note(number, party, number);
                 continue;
             }
-            hold_turn(&run, party, &after);
-            if let Party::Written { own } = after.parties[usize::from(party)] {
-                passes(&run, own).for_each(|pass| {
-                    hold_pass(&pass);
-                    met.note_pass(pass);
-                });
-                met.note_moves(&run, &after);
-            }
+            hold_step(&run, party, &after, met);
             let known = search.before.len();
             let to = search.meet(&after);
             assert_ne!(to, number, "a turn that is no wait changes something");
@@ -66,7 +59,10 @@ pub fn every_order_by(judge: &Judge, first: Run, met: &mut Met) {
     }
     let states = search.before.len();
     assert_eq!(search.leading_to_a_finish(), states, "{judge:?}");
-    assert!(turns.most_to_a_finish(&search.finished) <= most, "{judge:?}");
+    assert!(
+        turns.most_to_a_finish(&search.finished) <= most,
+        "{judge:?}"
+    );
     met.states += states;
     met.settings += 1;
 }
@@ -83,6 +79,19 @@ fn hold_dispatch(judge: &Judge, run: &Run, met: &mut Met) {
     let turns = dispatch(&mut after);
     judge.hold_dispatch(run, &turns, &after);
     met.note_dispatch(turns.len() as u64, bound(run));
+}
+
+/// Judges a turn that is no wait by the order of a party's states, and a writing turn by whom it
+/// passes.
+fn hold_step(run: &Run, party: u8, after: &Run, met: &mut Met) {
+    hold_turn(run, party, after);
+    if let Party::Written { own } = after.parties[usize::from(party)] {
+        passes(run, own).for_each(|pass| {
+            hold_pass(&pass);
+            met.note_pass(pass);
+        });
+        met.note_moves(run, after);
+    }
 }
 
 /// Judges a turn by the worker counts, and notes it, if it is a worker's.
