@@ -52,23 +52,20 @@ static void print_moment(void)
     printf("\n");
 }
 
-/* The next dealing: each party once, beginning with another one at each call; when all is answered, the busy workers alone, so
- * that none begins a new search. Its length is 0 when nobody is busy. */
+/* The next dealing: each party once, beginning with another one at each call; when all is answered, the busy ones alone, so that
+ * none begins a new search. Its length is 0 when nobody is busy. */
 static size_t next_schedule(unsigned calls, uint8_t *schedule)
 {
-    int last = depot_all_answered(&lists);
-    size_t length = 0;
-    for (unsigned i = 0; i < PARTIES; i++) {
-        unsigned party = (calls + i) % PARTIES;
-        if (!last || (party > 0 && depot_party_state(&lists, party) != DEPOT_IDLE))
-            schedule[length++] = (uint8_t)party;
-    }
-    return length;
+    if (depot_all_answered(&lists))
+        return depot_busy(&lists, schedule);
+    for (unsigned i = 0; i < PARTIES; i++)
+        schedule[i] = (uint8_t)((calls + i) % PARTIES);
+    return PARTIES;
 }
 
 static void run(void)
 {
-    uint8_t schedule[PARTIES];
+    uint8_t schedule[1 + DEPOT_MOST_WORKERS];
     unsigned calls = 0;
     size_t length;
     while ((length = next_schedule(calls, schedule)) > 0) {
@@ -88,8 +85,8 @@ static void look_up(const char *text)
 {
     uint8_t key[DEPOT_KEY_LENGTH];
     must_accept("depot_read_identifier", depot_read_identifier((const uint8_t *)text, strlen(text), key, sizeof key));
-    for (size_t i = 0; i < CAPACITY; i++)
-        if (depot_short_at(lists.chutes, i) != 0 && depot_key_at(lists.keys, i) == depot_key_at(key, 0)) {
+    for (size_t i = 0; i < depot_used(&lists); i++)
+        if (depot_key_at(lists.keys, i) == depot_key_at(key, 0)) {
             printf("%s goes to chute %u\n", text, depot_short_at(lists.chutes, i));
             return;
         }

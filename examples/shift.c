@@ -5,7 +5,7 @@
 
 #include <string.h>
 
-enum { COMMANDS = 9, SIZE = 5, WORKERS = 3, CAPACITY = 4, TURNS = 60 };
+enum { COMMANDS = 9, SIZE = 5, WORKERS = 3, CAPACITY = 4, TURNS = 90 };
 
 static uint8_t block[DEPOT_BLOCK_LENGTH(CAPACITY, COMMANDS)], commands[DEPOT_COMMAND_LENGTH * COMMANDS];
 static struct depot_lists lists;
@@ -35,6 +35,18 @@ static void deal_at_random(void)
     must_accept("depot_advance", depot_lists_advance(&lists, schedule, sizeof schedule));
 }
 
+/* A record of the chain: its command, how many it waits for, and the places of their commands. */
+static void print_record(unsigned record, unsigned count)
+{
+    unsigned place = depot_record_place(&lists, record);
+    printf("  %u %s %.13s waits for %u", place, depot_kind_text(depot_command_kind(&lists, place)),
+           depot_record_text(&lists, record), count);
+    for (unsigned other = 1; other <= SIZE; other++)
+        if (depot_waits_for(&lists, record, other))
+            printf(", place %u", depot_record_place(&lists, other));
+    printf("\n");
+}
+
 static void print_panel(void)
 {
     uint8_t counts[DEPOT_COUNTS_LENGTH];
@@ -42,8 +54,8 @@ static void print_panel(void)
     must_accept("depot_pending_counts", depot_lists_pending_counts(&lists, counts));
     printf("loaded %u, in the chain %u\n", depot_loaded(&lists), depot_chain_length(&lists));
     for (unsigned i = 0; i < depot_chain_length(&lists); i++, record = depot_next_record(&lists, record))
-        printf("  %u %.13s waits for %u\n", depot_record_place(&lists, record), depot_record_text(&lists, record), counts[i]);
-    for (unsigned party = 0; party <= WORKERS; party++) {
+        print_record(record, counts[i]);
+    for (unsigned party = 0; party <= depot_largest_workers(&lists); party++) {
         unsigned own = depot_party_record(&lists, party);
         printf("  party %u %s", party, depot_state_text(depot_party_state(&lists, party)));
         if (own != 0)

@@ -24,10 +24,10 @@ static inline void must_accept(const char *call, uint64_t answer)
     exit(EXIT_FAILURE);
 }
 
-/* The table, with something before and after each entry. A place is in use if its chute is not 0. */
+/* The table, with something before and after each entry. */
 static inline void print_table(const struct depot_lists *l, const char *before, const char *after)
 {
-    for (size_t i = 0; i < l->capacity && depot_short_at(l->chutes, i) != 0; i++) {
+    for (size_t i = 0; i < depot_used(l); i++) {
         uint8_t text[DEPOT_IDENTIFIER_LENGTH];
         must_accept("depot_write_identifier", depot_write_identifier(depot_key_at(l->keys, i), text, sizeof text));
         printf("%s%.13s chute %u%s", before, (const char *)text, depot_short_at(l->chutes, i), after);
@@ -38,10 +38,9 @@ static inline void print_table(const struct depot_lists *l, const char *before, 
 static inline void print_answers(const struct depot_lists *l, size_t earlier)
 {
     for (size_t place = 1; place <= l->count; place++) {
-        const uint8_t *command = l->commands + DEPOT_COMMAND_LENGTH * (place - 1);
         unsigned answer = depot_answer_at(l, place);
-        printf("%lu %s %.13s %s", (unsigned long)(earlier + place), depot_kind_text(command[0]), (const char *)command + 1,
-               depot_answer_text(answer));
+        printf("%lu %s %.13s %s", (unsigned long)(earlier + place), depot_kind_text(depot_command_kind(l, place)),
+               depot_command_text(l, place), depot_answer_text(answer));
         if (answer >= 1 && answer <= DEPOT_MOST_CHUTE)
             printf(" %u", answer);
         printf("\n");

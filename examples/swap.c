@@ -36,13 +36,12 @@ static void free_lists(struct depot_lists *l)
     free(l->state); /* where the block begins */
 }
 
-/* One turn each, the loader first. */
-static void deal(const struct depot_lists *l, unsigned workers)
+/* One turn each. */
+static void deal(const struct depot_lists *l)
 {
     uint8_t schedule[1 + DEPOT_MOST_WORKERS];
-    for (unsigned party = 0; party <= workers; party++)
-        schedule[party] = (uint8_t)party;
-    must_accept("depot_advance", depot_lists_advance(l, schedule, 1 + workers));
+    size_t length = depot_round(l, schedule);
+    must_accept("depot_advance", depot_lists_advance(l, schedule, length));
 }
 
 /* How many answers are given. */
@@ -77,7 +76,7 @@ static void first_host(const char *file)
     while (depot_image_place(lists.image) == 0) {
         if (calls++ == MOST_CALLS)
             fail("first host", "no checkpoint is written");
-        deal(&lists, 3);
+        deal(&lists);
     }
     printf("first host: image of place %lu after %u calls, %u of %d commands answered\n",
            (unsigned long)depot_image_place(lists.image), calls, answered(&lists), COMMANDS);
@@ -102,7 +101,7 @@ static void second_host(const char *file)
     for (unsigned calls = 0; !depot_all_answered(&lists); calls++) {
         if (calls == MOST_CALLS)
             fail("second host", "not done");
-        deal(&lists, 1);
+        deal(&lists);
     }
     print_answers(&lists, place);
     print_table(&lists, "", "\n");

@@ -17,33 +17,33 @@ extern "C" {
  * The host's words, and the code's beside them; docs/CONCEPTS.md says what they mean.
  *
  *     party      thread          0 is the loader, 1 and up are the workers
- *     turn       step            a wait is a turn that changes nothing
+ *     turn       step            a wait is a turn that changes nothing; a command's writing turn is the one that answers it
  *     dealing    schedule        party numbers, one byte each, one turn each
- *     run        state           what the caller keeps between calls, as bytes
+ *     run        state           what the caller keeps between calls: the state's bytes, keys, chutes, answers, image
  *     record     node            1 up to the graph size; 0 is the head
  *     place      sequence number a command's place in its list, from 1
- *     room       capacity        how many items the store has room for
+ *     room       capacity        how many items the store has room for, one a slot
  *
  * Lists
  *
  * A list is a pointer and its length in bytes. The caller owns every list and lends it for the time of the call: no call keeps
  * a pointer, allocates, or frees. Lists are bytes and need no alignment. A number of more than one byte has its high byte first.
- * A pointer is never null, not even with length 0: pass the address of any object then.
+ * A pointer is never null, not even with length 0: pass the address of any object then. (The wrappers at the end take null.)
  * A list that the call writes overlaps no other list of that call. Lists that are only read may overlap each other.
  * What overlaps, is null or is shorter than its length says is outside what is proved.
  *
  *     state      DEPOT_STATE_LENGTH bytes, whatever the settings (layout: docs/STATE-LAYOUT.md)
- *     keys       8 bytes for each place of the room
- *     chutes     2 bytes for each place of the room
+ *     keys       8 bytes for each slot of the room
+ *     chutes     2 bytes for each slot of the room
  *     answers    2 bytes for each command
- *     image      DEPOT_RECORD_LENGTH bytes for each place of the room and once more (layout: docs/IMAGE-LAYOUT.md)
+ *     image      DEPOT_RECORD_LENGTH bytes for each slot of the room and once more (layout: docs/IMAGE-LAYOUT.md)
  *     commands   16 bytes for each command: kind (1), identifier (13), chute (2); of a worker change (DEPOT_WORKERS) the
  *                identifier is thirteen characters '0' and the chute the new worker count, of a checkpoint (DEPOT_CHECKPOINT)
  *                the identifier is the same and the chute 0
  *
- * The caller keeps these six between calls and hands them to each call as the last accepted call left them. Keys stand
- * ascending in the places in use, each with its chute in the same place of chutes; the places after them hold 0 in both. Key 0
- * is a real item, so a place is in use if its chute is not 0.
+ * The caller keeps these six between calls and hands them to each call as the last accepted call left them. The list of commands
+ * is whole at the opening: nothing is added to it later. Keys stand ascending in the slots in use, each with its chute in the same
+ * slot of chutes; the slots after them hold 0 in both. Key 0 is a real item, so a slot is in use if its chute is not 0.
  *
  * Answers and refusals
  *
@@ -63,10 +63,12 @@ extern "C" {
  *
  * Linking
  *
- * The archive is libdepot_c.a, for x86-64 and the System V calling convention; of the C library it uses memcpy and memset.
- * `pkg-config --cflags --libs depot` gives the flags. */
+ * The archive is libdepot_c.a, for x86-64 and the System V calling convention, without AVX, for programs of any kind (position
+ * independent or not, static, shared); of the C library it uses memcpy and memset. `pkg-config --cflags --libs depot` gives the
+ * flags, where PKG_CONFIG_PATH names lib/pkgconfig of the prefix. */
 
-/* The version of this header and of the archive that it belongs to: 10000 × major + 100 × minor + patch. */
+/* The version of this header: 10000 × major + 100 × minor + patch. The archive cannot be asked for its own, so keep the two of one
+ * package together; `pkg-config --modversion depot` is the package's. */
 #define DEPOT_VERSION 10000
 
 enum {
@@ -246,14 +248,14 @@ uint64_t depot_open_from(uint8_t *state, size_t state_length, uint8_t *keys, siz
  * The count in force is the opening's, and from the writing turn of a worker change on that of the change. A worker above it waits
  * when idle; if it is searching, it walks to the end and takes nothing; with a record it goes on as before, so that the worker
  * that holds the change finishes its removal. Proved over the same lists of calls (crates/controller/specs/Count.antt): no command
- * delivered after a worker change, up to and including the next one, is taken by a worker above its count, and none before the
+ * behind a worker change in the list, up to and including the next one, is taken by a worker above its count, and none before the
  * first change by a worker above the opening's.
  *
- * Keys and chutes may be read between any two calls. Proved over the same lists of calls: they are what the commands already written
- * give when run alone in delivery order, from the opening's store; a command is written when its answer is not DEPOT_NOT_YET, and
- * no entry shows a part of a command. An update may be written before an earlier insert of another item, so the table need not be
- * one that the commands one after another have at some moment. After insert A 3, insert B 7 and update A 9 with the answers 1000,
- * 0, 1000 it is
+ * Keys and chutes may be read between any two calls. Proved over the same lists of calls: they are what the commands already
+ * written give when run alone in the order of the list, from the opening's store; a command is written when its answer is not
+ * DEPOT_NOT_YET, and no entry shows a part of a command. An update may be written before an earlier insert of another item, so the
+ * table need not be one that the commands one after another have at some moment. After insert A 3, insert B 7 and update A 9 with
+ * the answers 1000, 0, 1000 it is
  *
  *     keys A, 0    chutes 9, 0
  *
@@ -261,14 +263,14 @@ uint64_t depot_open_from(uint8_t *state, size_t state_length, uint8_t *keys, siz
  *
  * At the writing turn of a checkpoint the store goes into the image, which is zeros before the first one and stands until the
  * next. Proved over the same lists of calls: the image is always that of the last checkpoint written, with its place and with what
- * the commands delivered before it leave. Save it between calls, when depot_image_place(image) has changed, as you save the other
+ * the commands before it in the list leave. Save it between calls, when depot_image_place(image) has changed, as you save the other
  * lists.
  *
  * That some dealing finishes does not mean that each repeated pattern does. With one worker, 1 0 1 repeated from the opening never
  * loads a command: the loader's turn always falls while the worker stands on the head. Two turns each, 0 0 1 1, never load the
  * second of two inserts at graph size 1. Deal round-robin, one turn each (0, 1, .. up to the largest worker count, and again),
- * some thousands of turns a call: it finished in every run that was tried (docs/HOSTING.md says which). It is not proved; that
- * depot_dispatch finishes is.
+ * some thousands of turns a call, until depot_all_removed: every run that was tried got there (docs/HOSTING.md says which). It is
+ * not proved; that depot_dispatch finishes is.
  *
  * Writes state, keys, chutes, answers, image; reads commands (those of the opening) and schedule.
  * Refuses 6 (a length that is not the opening's, by the state's own settings), then 12 (the state breaks its layout), then 11
@@ -333,7 +335,9 @@ uint64_t depot_dispatch(uint8_t *state, size_t state_length, uint8_t *keys, size
                         uint8_t *count, size_t count_length);
 
 /* The panel report (pending counts): for each record in the chain, in chain order, how many records it waits for, one byte each;
- * 0 after the last. A record that waits for none is 0 too, so the counts do not say how long the chain is.
+ * 0 after the last. A record that waits for none is 0 too, so the counts do not say how long the chain is: depot_next_record does.
+ * A record is waited for until the worker that removes it has come by and taken it out of the set, which is some turns after its
+ * command was answered and its record left the chain. So the first in the chain may still wait for one that is answered.
  * A command waits for each earlier one of the same item, but a read not for a read; inserts and deletes also wait for one another,
  * whatever their items. Reads and updates of other items pass them. A worker change or checkpoint waits for every earlier command,
  * and every later one waits for it. The reports are not lent the image.
@@ -506,22 +510,40 @@ static inline uint64_t depot_lists_worker_status(const struct depot_lists *l, ui
 #undef DEPOT_IMAGE_
 #undef DEPOT_COMMANDS_
 
-/* Puts a command at its place, from 1, of a list of commands. text is an identifier as a string, or null for a worker change or a
- * checkpoint: thirteen characters '0'. Nothing is refused here. What does not fit is put so that opening refuses it: a shorter
- * string with bytes 0 behind it, a longer one with 0 as its last character, a chute above 65,535 as 65,535. */
-static inline void depot_put_command(uint8_t *commands, size_t place, enum depot_kind kind, const char *text, unsigned chute)
+/* Puts a command at its place, from 1, of a list of commands. kind is one of enum depot_kind; text is an identifier as a string, or
+ * null for a worker change or a checkpoint: thirteen characters '0'. Nothing is refused here. What does not fit is put so that
+ * opening refuses it: a kind above 255 as 255, a shorter string with bytes 0 behind it, a longer one with 0 as its last character,
+ * a chute above 65,535 as 65,535. */
+static inline void depot_put_command(uint8_t *commands, size_t place, unsigned kind, const char *text, unsigned chute)
 {
     uint8_t *command = commands + DEPOT_COMMAND_LENGTH * (place - 1);
     size_t i, length = 0;
     while (text != NULL && length <= DEPOT_IDENTIFIER_LENGTH && text[length] != 0)
         length++;
-    command[0] = (uint8_t)kind;
+    command[0] = (uint8_t)(kind > 255u ? 255u : kind);
     for (i = 0; i < DEPOT_IDENTIFIER_LENGTH; i++)
         command[1 + i] = (uint8_t)(text == NULL ? '0' : i < length ? text[i] : 0);
     if (length > DEPOT_IDENTIFIER_LENGTH)
         command[DEPOT_IDENTIFIER_LENGTH] = 0;
     command[14] = (uint8_t)(chute > 0xffffu ? 255u : chute >> 8);
     command[15] = (uint8_t)(chute > 0xffffu ? 255u : chute & 255u);
+}
+
+/* The command at a place, from 1: its kind, its identifier (13 characters in the list, without an ending 0, so print it by "%.13s")
+ * and its chute. A place that has no command has kind 0, thirteen characters '-' and chute 0. */
+static inline unsigned depot_command_kind(const struct depot_lists *l, size_t place)
+{
+    return place >= 1 && place <= l->count ? l->commands[DEPOT_COMMAND_LENGTH * (place - 1)] : 0u;
+}
+
+static inline const char *depot_command_text(const struct depot_lists *l, size_t place)
+{
+    return place >= 1 && place <= l->count ? (const char *)(l->commands + DEPOT_COMMAND_LENGTH * (place - 1) + 1) : "-------------";
+}
+
+static inline unsigned depot_command_chute(const struct depot_lists *l, size_t place)
+{
+    return place >= 1 && place <= l->count ? depot_short_at(l->commands + DEPOT_COMMAND_LENGTH * (place - 1) + 14, 0) : 0u;
 }
 
 /* The answer to the command at a place, from 1; DEPOT_NOT_YET for a place that has no command. */
@@ -543,9 +565,51 @@ static inline int depot_all_answered(const struct depot_lists *l)
 
 /* What a run says of itself, by the layout of docs/STATE-LAYOUT.md: for runs that a call left. A record or party that there is none
  * of has nothing: 0. */
-enum { DEPOT_AT_LOADED_ = 8, DEPOT_AT_NEXT_ = 14, DEPOT_AT_PLACES_ = 165, DEPOT_AT_PARTIES_ = 4393, DEPOT_PARTY_LENGTH_ = 5 };
+enum {
+    DEPOT_AT_LARGEST_ = 3,
+    DEPOT_AT_ROOM_ = 4,
+    DEPOT_AT_COUNT_ = 6,
+    DEPOT_AT_LOADED_ = 8,
+    DEPOT_AT_USED_ = 10,
+    DEPOT_AT_IN_FORCE_ = 13,
+    DEPOT_AT_NEXT_ = 14,
+    DEPOT_AT_PLACES_ = 165,
+    DEPOT_AT_SETS_ = 769,
+    DEPOT_SET_LENGTH_ = 24,
+    DEPOT_AT_PARTIES_ = 4393,
+    DEPOT_PARTY_LENGTH_ = 5
+};
 
-/* How many commands are loaded. */
+/* Room and number of commands that a state was opened with, for a state read from a file. */
+static inline unsigned depot_room_in(const uint8_t *state)
+{
+    return depot_short_at(state + DEPOT_AT_ROOM_, 0);
+}
+
+static inline unsigned depot_count_in(const uint8_t *state)
+{
+    return depot_short_at(state + DEPOT_AT_COUNT_, 0);
+}
+
+/* The largest worker count of the opening and of all worker changes in the list: the last party that a dealing may name. */
+static inline unsigned depot_largest_workers(const struct depot_lists *l)
+{
+    return l->state[DEPOT_AT_LARGEST_];
+}
+
+/* The worker count in force: the opening's, or that of the last worker change written. */
+static inline unsigned depot_workers_in_force(const struct depot_lists *l)
+{
+    return l->state[DEPOT_AT_IN_FORCE_];
+}
+
+/* How many slots of the room are in use. */
+static inline unsigned depot_used(const struct depot_lists *l)
+{
+    return depot_short_at(l->state + DEPOT_AT_USED_, 0);
+}
+
+/* How many commands are loaded: the loader has taken a record for each, also for the one that it is bringing to the chain's end. */
 static inline unsigned depot_loaded(const struct depot_lists *l)
 {
     return depot_short_at(l->state + DEPOT_AT_LOADED_, 0);
@@ -563,12 +627,18 @@ static inline unsigned depot_record_place(const struct depot_lists *l, unsigned 
     return record <= DEPOT_MOST_NODES ? depot_short_at(l->state + DEPOT_AT_PLACES_, record) : 0u;
 }
 
-/* The identifier of the command that a record holds: 13 characters in the list of commands, without an ending 0, so print it by
- * "%.13s"; 13 characters '-' for none. */
+/* The identifier of the command that a record holds, as depot_command_text gives it. */
 static inline const char *depot_record_text(const struct depot_lists *l, unsigned record)
 {
-    size_t place = depot_record_place(l, record);
-    return place >= 1 && place <= l->count ? (const char *)(l->commands + DEPOT_COMMAND_LENGTH * (place - 1) + 1) : "-------------";
+    return depot_command_text(l, depot_record_place(l, record));
+}
+
+/* Whether a record waits for another one. */
+static inline int depot_waits_for(const struct depot_lists *l, unsigned record, unsigned other)
+{
+    if (record > DEPOT_MOST_NODES || other > DEPOT_MOST_NODES)
+        return 0;
+    return (l->state[DEPOT_AT_SETS_ + DEPOT_SET_LENGTH_ * record + 8 * (other / 64) + 7 - other % 64 / 8] >> other % 8 & 1) != 0;
 }
 
 /* How many records are in the chain; at most DEPOT_MOST_NODES, also in a run that no dealing reaches. */
@@ -594,19 +664,38 @@ static inline unsigned depot_party_record(const struct depot_lists *l, unsigned 
     return party <= DEPOT_MOST_WORKERS ? l->state[DEPOT_AT_PARTIES_ + DEPOT_PARTY_LENGTH_ * party + 2] : 0u;
 }
 
-/* Whether every command is removed and every party idle: nothing is left to be dealt. */
+/* Whether every command is removed: loaded, answered, and its record returned. That stays so, whatever is dealt. A worker may still
+ * be searching, and begin again when it gets a turn: see depot_busy. */
 static inline int depot_all_removed(const struct depot_lists *l)
 {
-    unsigned i;
+    unsigned record;
     if (depot_loaded(l) != l->count)
         return 0;
-    for (i = 1; i <= DEPOT_MOST_NODES; i++)
-        if (depot_record_place(l, i) != 0)
-            return 0;
-    for (i = 0; i <= DEPOT_MOST_WORKERS; i++)
-        if (depot_party_state(l, i) != DEPOT_IDLE)
+    for (record = 1; record <= DEPOT_MOST_NODES; record++)
+        if (depot_record_place(l, record) != 0)
             return 0;
     return 1;
+}
+
+/* A round: one turn for each party, the loader first. schedule has 1 + DEPOT_MOST_WORKERS bytes; how many of them there are. */
+static inline size_t depot_round(const struct depot_lists *l, uint8_t *schedule)
+{
+    size_t party, length = 1 + (size_t)depot_largest_workers(l);
+    for (party = 0; party < length; party++)
+        schedule[party] = (uint8_t)party;
+    return length;
+}
+
+/* One turn for each party that is not idle, as depot_round; 0 where all are idle. Dealt again and again when all is answered, it
+ * leaves every command removed and every party idle. */
+static inline size_t depot_busy(const struct depot_lists *l, uint8_t *schedule)
+{
+    size_t length = 0;
+    unsigned party;
+    for (party = 0; party <= DEPOT_MOST_WORKERS; party++)
+        if (depot_party_state(l, party) != DEPOT_IDLE)
+            schedule[length++] = (uint8_t)party;
+    return length;
 }
 
 /* A kind in words. */

@@ -52,7 +52,7 @@ static void put_list(void)
         unsigned chute = kind == DEPOT_INSERT || kind == DEPOT_UPDATE ? 1 + below(DEPOT_MOST_CHUTE) : 0;
         uint8_t text[DEPOT_IDENTIFIER_LENGTH + 1] = {0};
         must(depot_write_identifier(item, text, DEPOT_IDENTIFIER_LENGTH) == 0, "the identifier");
-        depot_put_command(commands, place, (enum depot_kind)kind, (const char *)text, chute);
+        depot_put_command(commands, place, kind, (const char *)text, chute);
         expected[place - 1] = answer_to(kind, item, chute);
     }
     depot_put_command(commands, COUNT, DEPOT_CHECKPOINT, NULL, 0);

@@ -99,19 +99,24 @@ static void test_block(void)
 static void test_put(void)
 {
     static const struct {
+        unsigned kind;
         const char *text;
         unsigned chute;
         uint64_t refusal;
     } cases[] = {
-        {"AA000000005AA", 512, 0},
-        {"AA000000005A", 7, 8 | UINT64_C(13) << 32},
-        {"AA000000005AAA", 7, 8 | UINT64_C(13) << 32},
-        {"AA0000", 7, 13 | UINT64_C(7) << 32},
-        {"", 7, 8 | UINT64_C(1) << 32},
-        {"AA000000005AA", 513, 10},
-        {"AA000000005AA", 65536 + 7, 10},
-        {"AA000000005AA", 0xffffffffu, 10},
-        {NULL, 7, 8 | UINT64_C(1) << 32},
+        {DEPOT_INSERT, "AA000000005AA", 512, 0},
+        {DEPOT_INSERT, "AA000000005A", 7, 8 | UINT64_C(13) << 32},
+        {DEPOT_INSERT, "AA000000005AAA", 7, 8 | UINT64_C(13) << 32},
+        {DEPOT_INSERT, "AA0000", 7, 13 | UINT64_C(7) << 32},
+        {DEPOT_INSERT, "", 7, 8 | UINT64_C(1) << 32},
+        {DEPOT_INSERT, "AA000000005AA", 513, 10},
+        {DEPOT_INSERT, "AA000000005AA", 65536 + 7, 10},
+        {DEPOT_INSERT, "AA000000005AA", 0xffffffffu, 10},
+        {DEPOT_INSERT, NULL, 7, 8 | UINT64_C(1) << 32},
+        {DEPOT_WORKERS, NULL, 64, 0},
+        {DEPOT_WORKERS, NULL, 65, 14},
+        {256 + DEPOT_DELETE, "AA000000005AA", 0, 7},
+        {0, "AA000000005AA", 0, 7},
     };
     static struct run r;
     struct depot_lists l = lists_of(&r);
@@ -120,7 +125,7 @@ static void test_put(void)
         uint64_t refusal = cases[i].refusal;
         put_commands(&r);
         memset(r.guard, 9, sizeof r.guard);
-        depot_put_command(r.commands, 2, DEPOT_INSERT, cases[i].text, cases[i].chute);
+        depot_put_command(r.commands, 2, cases[i].kind, cases[i].text, cases[i].chute);
         expect(depot_lists_open(&l, 1, 1) == (refusal == 0 ? 0 : refusal | 2 << 8), "what is put is refused as it should be");
         expect(r.commands[15] == 44 && r.commands[32] == DEPOT_CHECKPOINT, "the commands beside it");
     }
@@ -140,9 +145,16 @@ static void test_outside(void)
         expect(i <= 150 || (depot_next_record(&l, i) == 0 && depot_record_place(&l, i) == 0), "no record above 150");
         expect(i <= 64 || (depot_party_state(&l, i) == 0 && depot_party_record(&l, i) == 0), "no party above 64");
     }
+    expect(depot_waits_for(&l, 150, 150) && !depot_waits_for(&l, 151, 1) && !depot_waits_for(&l, 1, 151), "no set of a record above 150");
     memset(r.block, 1, sizeof r.block);
     expect(depot_chain_length(&l) == 150, "a chain that goes round");
     expect(depot_answer_at(&l, 0) == 0 && depot_answer_at(&l, COUNT) == 257 && depot_answer_at(&l, COUNT + 1) == 0, "places without a command");
+    put_commands(&r);
+    expect(depot_command_kind(&l, 1) == DEPOT_INSERT && depot_command_chute(&l, 1) == 300 &&
+               memcmp(depot_command_text(&l, 1), "AA000000005AA", 13) == 0,
+           "a command");
+    expect(depot_command_kind(&l, 0) == 0 && depot_command_chute(&l, COUNT + 1) == 0 && depot_command_text(&l, 0)[12] == '-',
+           "no command");
 }
 
 /* An empty list: no answers, no commands, no turns. */
@@ -187,6 +199,75 @@ static void test_reading(void)
     expect(depot_answer_at(&l, 1) == DEPOT_DONE && depot_short_at(l.chutes, 0) == 300, "the insert is written");
 }
 
+/* The sets beside the pending counts, after each turn of a run in which three wait for one another and the count changes. */
+static void test_sets(void)
+{
+    static struct run r;
+    struct depot_lists l = lists_of(&r);
+    uint8_t round[1 + DEPOT_MOST_WORKERS], counts[DEPOT_COUNTS_LENGTH];
+    unsigned turns, waits = 0;
+    put_commands(&r);
+    depot_put_command(r.commands, 2, DEPOT_WORKERS, NULL, 3);
+    expect(depot_lists_open(&l, 3, 1) == 0 && depot_workers_in_force(&l) == 1 && depot_largest_workers(&l) == 3, "one worker at first, three at the most");
+    expect(depot_room_in(l.state) == ROOM && depot_count_in(l.state) == COUNT && depot_used(&l) == 0, "room and count");
+    expect(depot_round(&l, round) == 4 && round[0] == 0 && round[3] == 3, "a round");
+    expect(depot_busy(&l, counts) == 0, "nobody is busy");
+    for (turns = 0; turns < 400 && !depot_all_removed(&l); turns++) {
+        unsigned record, other, i = 0;
+        expect(depot_lists_advance(&l, &round[turns % 4], 1) == 0 && depot_lists_pending_counts(&l, counts) == 0, "a turn");
+        for (record = depot_next_record(&l, 0); record != 0; record = depot_next_record(&l, record)) {
+            unsigned members = 0;
+            for (other = 0; other <= DEPOT_MOST_NODES; other++)
+                members += (unsigned)depot_waits_for(&l, record, other);
+            expect(members == counts[i++], "as many as the pending count says");
+            waits += members;
+        }
+    }
+    expect(waits > 10 && turns < 400 && depot_all_answered(&l), "round-robin removes all");
+    expect(depot_workers_in_force(&l) == 3 && depot_used(&l) == 1, "three workers, one item");
+}
+
+/* Dealt to the busy alone when all is answered, a run comes to its end, and stays there. */
+static void test_busy(void)
+{
+    static struct run r;
+    struct depot_lists l = lists_of(&r);
+    uint8_t schedule[1 + DEPOT_MOST_WORKERS];
+    unsigned calls = 0;
+    size_t length;
+    put_commands(&r);
+    expect(depot_lists_open(&l, 2, 2) == 0, "opened");
+    while (!depot_all_answered(&l) && calls++ < 400) {
+        expect(!depot_all_removed(&l), "what is not answered is not removed");
+        length = depot_round(&l, schedule);
+        (void)depot_lists_advance(&l, schedule, length);
+    }
+    expect(!depot_all_removed(&l) && depot_busy(&l, schedule) > 0, "answered, not yet removed");
+    while ((length = depot_busy(&l, schedule)) > 0 && calls++ < 400)
+        (void)depot_lists_advance(&l, schedule, length);
+    expect(length == 0 && depot_all_removed(&l), "all idle, all removed");
+    schedule[0] = 1;
+    expect(depot_lists_advance(&l, schedule, 1) == 0 && depot_busy(&l, schedule) == 1 && depot_all_removed(&l), "a new search, and all still removed");
+    for (calls = 0; calls < 100; calls++) {
+        schedule[0] = schedule[1] = 1;
+        expect(depot_lists_advance(&l, schedule, 2) == 0 && depot_busy(&l, schedule) == 1, "the search ends in the call, and a new one begins");
+    }
+}
+
+/* An image with zeros behind it opens in a larger room. */
+static void test_larger_room(void)
+{
+    enum { LARGER = 9 };
+    static struct run r;
+    static uint8_t block[DEPOT_BLOCK_LENGTH(LARGER, 0)], source[DEPOT_RECORD_LENGTH * (LARGER + 1)], lent[400];
+    struct depot_lists l = lists_of(&r), m = depot_lists_in(block, LARGER, NULL, 0);
+    size_t steps = 0;
+    put_commands(&r);
+    expect(depot_lists_open(&l, 2, 1) == 0 && depot_lists_dispatch(&l, lent, sizeof lent, &steps) == 0, "an image is written");
+    memcpy(source, l.image, depot_image_length(ROOM));
+    expect(depot_lists_open_from(&m, source, 1, 1) == 0 && depot_used(&m) == 1 && depot_short_at(m.chutes, 0) == 300, "opened in a larger room");
+}
+
 /* Every number has words of its own, and a switch takes all of them. */
 static void test_texts(void)
 {
@@ -215,6 +296,9 @@ int main(void)
     test_outside();
     test_null();
     test_reading();
+    test_sets();
+    test_busy();
+    test_larger_room();
     test_texts();
     printf("%u failed\n", failed);
     return failed != 0;
