@@ -63,7 +63,7 @@ extern "C" {
  *
  * Linking
  *
- * The archive is libdepot_c.a, for x86-64 and the System V calling convention, without AVX, for programs of any kind (position
+ * The archive is libdepot_c.a, for every x86-64 and the System V calling convention, for programs of any kind (position
  * independent or not, static, shared); of the C library it uses memcpy and memset. `pkg-config --cflags --libs depot` gives the
  * flags, where PKG_CONFIG_PATH names lib/pkgconfig of the prefix. */
 
