@@ -393,7 +393,15 @@ uint64_t depot_write_identifier(uint64_t key, uint8_t *text, size_t text_length)
 
 /* ---- The same calls with fewer arguments, and what hosts ask besides
  *
- * All below is inline and adds no symbol to the archive. It is tested (tests/wrappers.c), not proved. */
+ * All below is inline and adds no symbol to the archive. It is tested (tests/wrappers.c), not proved.
+ *
+ *     static uint8_t block[DEPOT_BLOCK_LENGTH(4, 2)], commands[DEPOT_COMMAND_LENGTH * 2], schedule[DEPOT_MOST_STEPS];
+ *     struct depot_lists lists = depot_lists_in(block, 4, commands, 2);  (room for four items, two commands)
+ *     size_t turns = 0;
+ *     depot_put_command(commands, 1, DEPOT_INSERT, "RR473124829GB", 12);
+ *     depot_put_command(commands, 2, DEPOT_READ, "RR473124829GB", 0);
+ *     if (depot_lists_open(&lists, 1, 1) == 0 && depot_lists_dispatch(&lists, schedule, sizeof schedule, &turns) == 0)
+ *         printf("%s %u\n", depot_answer_text(depot_answer_at(&lists, 2)), depot_answer_at(&lists, 2));  (prints chute 12) */
 
 /* The six lists that a host keeps between calls, with the two numbers that give their lengths: handed over as part of this, a list
  * has the right length and stands in its own place. Fill it by depot_lists_in, or one by one. */
