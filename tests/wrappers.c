@@ -14,7 +14,7 @@ static void expect(int ok, const char *what)
     failed++;
 }
 
-enum { ROOM = 3, COUNT = 3 };
+enum { ROOM = 5, COUNT = 3 };
 
 enum { BLOCK = DEPOT_BLOCK_LENGTH(ROOM, COUNT) };
 
@@ -167,6 +167,8 @@ static void test_null(void)
     l.answers = NULL;
     l.commands = NULL;
     l.count = 0;
+    expect(depot_some(NULL) != NULL && depot_some_lent(NULL, counts) == counts, "no null for the archive");
+    expect(depot_some(status) == status && depot_some_lent(status, counts) == status, "a list as it is");
     expect(depot_lists_open(&l, 1, 1) == 0, "an empty list opens");
     expect(depot_lists_advance(&l, NULL, 0) == 0, "an empty dealing");
     expect(depot_lists_pending_counts(&l, counts) == 0 && depot_lists_worker_status(&l, status) == 0, "its reports");
@@ -225,6 +227,22 @@ static void test_sets(void)
     }
     expect(waits > 10 && turns < 400 && depot_all_answered(&l), "round-robin removes all");
     expect(depot_workers_in_force(&l) == 3 && depot_used(&l) == 1, "three workers, one item");
+}
+
+/* Who waits for whom, record by record, in a chain that fills all three words of a set: of 150 checkpoints each waits for all before it. */
+static void test_members(void)
+{
+    enum { MANY = DEPOT_MOST_NODES };
+    static uint8_t block[DEPOT_BLOCK_LENGTH(1, MANY)], commands[DEPOT_COMMAND_LENGTH * MANY], schedule[MANY * (MANY + 3) / 2];
+    struct depot_lists l = depot_lists_in(block, 1, commands, MANY);
+    unsigned place, record, other;
+    for (place = 1; place <= MANY; place++)
+        depot_put_command(commands, place, DEPOT_CHECKPOINT, NULL, 0);
+    expect(depot_lists_open(&l, MANY, 1) == 0 && depot_lists_advance(&l, schedule, sizeof schedule) == 0, "the loader alone");
+    expect(depot_loaded(&l) == MANY && depot_chain_length(&l) == MANY && depot_party_state(&l, 0) == DEPOT_IDLE, "all are linked");
+    for (record = 0; record <= MANY; record++)
+        for (other = 0; other <= MANY; other++)
+            expect(depot_waits_for(&l, record, other) == (other >= 1 && other < record), "a record waits for those before it");
 }
 
 /* Dealt to the busy alone when all is answered, a run comes to its end, and stays there. */
@@ -297,6 +315,7 @@ int main(void)
     test_null();
     test_reading();
     test_sets();
+    test_members();
     test_busy();
     test_larger_room();
     test_texts();
