@@ -6,6 +6,7 @@ use second::bytes;
 use second::calls::{Given, LentLists};
 use second::depot::Depot;
 use second::image;
+use second::run::Run;
 
 use crate::input::Input;
 
@@ -90,6 +91,29 @@ impl Lists {
         let answer = depot.dispatch(&mut self.lend(), commands, lent, &mut count);
         accepted("dispatch", answer)?;
         Ok(u64::from_be_bytes(count) as usize)
+    }
+
+    /// An error unless these are the lists of a plain run.
+    pub fn same_as(&self, run: &Run) -> Result<(), String> {
+        let mut state = vec![0; bytes::STATE];
+        bytes::write_state(run, &mut state);
+        let bytes_of = |numbers: &[u16]| -> Vec<u8> {
+            numbers.iter().flat_map(|it| it.to_be_bytes()).collect()
+        };
+        let keys: Vec<u8> = run
+            .store
+            .keys
+            .iter()
+            .flat_map(|it| it.to_be_bytes())
+            .collect();
+        if state != self.state
+            || keys != self.keys
+            || bytes_of(&run.store.chutes) != self.chutes
+            || bytes_of(&run.answers) != self.answers
+        {
+            return Err("the plain run kept as arrays differs".to_string());
+        }
+        Ok(())
     }
 
     /// Sets every byte.

@@ -3,7 +3,6 @@
 use std::hint::black_box;
 use std::time::Duration;
 
-use second::bytes;
 use second::depot::Second;
 use second::run::Run;
 
@@ -70,16 +69,16 @@ impl Bench {
         })
     }
 
-    /// Medians of three times that are taken by turns, of work that adds them and makes so many turns.
-    pub fn medians(
+    /// Medians of times that are taken by turns, of work that adds them and makes so many turns.
+    pub fn medians<const N: usize>(
         &self,
         turns: usize,
-        mut once: impl FnMut(&mut [Duration; 3]) -> Result<(), String>,
-    ) -> Result<[Duration; 3], String> {
+        mut once: impl FnMut(&mut [Duration; N]) -> Result<(), String>,
+    ) -> Result<[Duration; N], String> {
         let repeats = LEAST_TURNS.div_ceil(turns);
-        let mut times = [const { Vec::new() }; 3];
+        let mut times = [const { Vec::new() }; N];
         for _ in 0..self.runs {
-            let mut sums = [Duration::ZERO; 3];
+            let mut sums = [Duration::ZERO; N];
             for _ in 0..repeats {
                 once(&mut sums)?;
             }
@@ -106,12 +105,7 @@ impl Bench {
             times[2] += time;
         }
         same(&proved, &plain)?;
-        let mut state = vec![0; bytes::STATE];
-        bytes::write_state(&run, &mut state);
-        if state != plain.state {
-            return Err("the plain run kept as arrays differs".to_string());
-        }
-        Ok(())
+        plain.same_as(&run)
     }
 
     /// One opening; the first finds lists in which no byte is 0.
@@ -158,7 +152,7 @@ impl Bench {
 
 /// The plain turns alone, under a name of their own for callgrind.
 #[inline(never)]
-fn plain_turns(run: &mut Run, schedule: &[u8]) {
+pub fn plain_turns(run: &mut Run, schedule: &[u8]) {
     run.advance(schedule);
 }
 

@@ -27,7 +27,7 @@ const fn settings(size: u8, workers: u8, room: u16) -> Settings {
 /// Measures and prints one part, or all.
 pub fn print(bench: &Bench, part: Option<&str>) -> Result<(), String> {
     type Part = fn(&Bench) -> Result<(), String>;
-    let parts: [(&str, Part); 7] = [
+    let parts: [(&str, Part); 8] = [
         ("steps", steps),
         ("calls", calls),
         ("growth", growth),
@@ -35,13 +35,14 @@ pub fn print(bench: &Bench, part: Option<&str>) -> Result<(), String> {
         ("mailing", mailing),
         ("checkpoint", checkpoint),
         ("dispatch", dispatch),
+        ("belt", belt),
     ];
     if let Some(part) = part
         && parts.iter().all(|(name, _)| *name != part)
     {
         return Err(format!(
-            "no part `{part}`; the parts are steps, calls, growth, reads, mailing, checkpoint and \
-             dispatch"
+            "no part `{part}`; the parts are steps, calls, growth, reads, mailing, checkpoint, \
+             dispatch and belt"
         ));
     }
     println!("Medians of {} runs, processor time.", bench.runs);
@@ -224,6 +225,47 @@ fn dispatch(bench: &Bench) -> Result<(), String> {
             ratio(it.advance, it.plain),
         );
     }
+    Ok(())
+}
+
+/// Document 02, A.14: a full belt's dealing by the dispatcher, beside plain Rust and beside threads. The
+/// ratio that the request names is printed last.
+fn belt(bench: &Bench) -> Result<(), String> {
+    let input = Input::new(
+        LARGEST,
+        Kinds::InsertsAndReads,
+        MOST_COMMANDS,
+        Order::Random,
+        0,
+    );
+    let it = bench.belt(&input)?;
+    println!(
+        "Full belt: size 150, 64 workers, room 4096, {MOST_COMMANDS} commands, the dispatcher's {} \
+         steps from opening.\n",
+        it.steps
+    );
+    println!("| | Commands a second |");
+    println!("|---|---|");
+    let commands = |time: Duration| rate(MOST_COMMANDS, time);
+    println!(
+        "| open and dispatch, proved, one core | {} |",
+        commands(it.dispatched)
+    );
+    for workers in [1, 2, 4, 64] {
+        let time = bench.threads(&input, workers)?;
+        println!(
+            "| plain threads, a mutex a record, {workers} workers | {} |",
+            commands(time)
+        );
+    }
+    println!("\n| | Proved | Plain | Ratio |");
+    println!("|---|---|---|---|");
+    println!(
+        "| open and advance; plain reads each command once and keeps its arrays | {} |",
+        cells(it.whole)
+    );
+    println!("| advance; plain keeps its arrays | {} |", cells(it.kept));
+    println!("| advance, calls on the same bytes | {} |", cells(it.calls));
     Ok(())
 }
 

@@ -8,18 +8,18 @@ use mathlib.Core.Logic.{⊎-elim}
 use native.Mathlib.Omega.{arith}
 use borrow.Author.Tests.{leb-true, eqb-true, eqb-false, eq-eqb, ne-eqb}
 use lib.Dec.{eqb, leb}
-use lib.ListN.{length, getD, getElem?, take, drop, length-map}
+use lib.ListN.{length, getD, getElem?, take, drop, length-map, length-drop}
 use Rattle.s10.specs.Refusal.{Refusal, plain, atCharacter, atPlace}
-use Rattle.s10.specs.Text.{largestKey}
+use Rattle.s10.specs.Text.{largestKey, untestedKey}
 use Rattle.s10.specs.Outcome.{readText}
 use Rattle.s10.specs.Outcome as Identifier
-use Rattle.s10.proofs.Laws.{accepted-is-at-most-largest}
+use Rattle.s10.proofs.Laws.{accepted-is-at-most-largest, accepted-as-untested as identifier-as-untested}
 use Rattle.command.specs.declared.Kind.{Kind}
 use Rattle.command.specs.declared.Kind.the-variants.{Insert, Delete, Read, Update, Workers, Checkpoint}
 use Rattle.command.specs.declared.Command.{Command}
-use Rattle.command.specs.Read.{CommandOutcome, accepted, refused, kindOf, chuteFits, chuteRefusal, chuteOf, firstNotZero, readZeros, readIdentifier, withKind, withChute, readCommand, parts, partsOf, readings, allAccepted, listRefused, firstRefusal, commandFrom, commandsIn}
+use Rattle.command.specs.Read.{CommandOutcome, accepted, refused, kindOf, chuteFits, chuteRefusal, chuteOf, firstNotZero, readZeros, readIdentifier, withKind, withChute, readCommand, parts, partsOf, readings, allAccepted, listRefused, firstRefusal, commandIn, commandsIn}
 use Rattle.command.specs.Dependent.{hasItem, isInsertOrDelete, isRead, isCheckpoint, areDependent}
-use Rattle.command.specs.Laws.{DependenceIsSymmetric, DependentPairs, KindOfItsNumber, AcceptedChuteFits, AcceptedChuteIsAtMostLast, AcceptedKeyIsAtMostLargest, CharacterIsTheIdentifiers, AllAccepted, NoRefusalIsAllAccepted, RefusedBeginsInside}
+use Rattle.command.specs.Laws.{DependenceIsSymmetric, DependentPairs, KindOfItsNumber, AcceptedChuteFits, AcceptedChuteIsAtMostLast, AcceptedKeyIsAtMostLargest, AcceptedAsUntested, CharacterIsTheIdentifiers, AllAccepted, NoRefusalIsAllAccepted, RefusedBeginsInside}
 
 -- equality goes both ways
 eqb-comm : (m n : ℕ) → eqb m n ≡ eqb n m
@@ -175,19 +175,70 @@ key-read kind text key = by (hasItem kind)
 pub accepted-key-is-at-most-largest : AcceptedKeyIsAtMostLargest
 accepted-key-is-at-most-largest part command e = key-read (command .kind) _ (command .key) (accepted-passed part command e .read)
 
--- so is the key of every command of a list: one that stands for a refused reading has key 0
-pub list-key-is-at-most-largest : (list : List ℕ) (i : ℕ) (command : Command) → getElem? (commandsIn list) i ≡ some command → command .key ≤ largestKey
-unfolding commandsIn readings commandFrom
-list-key-is-at-most-largest list i command = each (partsOf list) i
+-- the key of an accepted identifier is the one that it has untested, 0 where the kind names no item
+key-untested : (kind : Kind) (text : List ℕ) (key : ℕ) → readIdentifier kind text ≡ Identifier.accepted key → cond (hasItem kind) (untestedKey text) 0 ≡ key
+unfolding readIdentifier readZeros
+key-untested kind text key = by (hasItem kind)
   where
-    read : (part : List ℕ) (r : CommandOutcome) → readCommand part ≡ r → commandFrom r .key ≤ largestKey
-    read part (accepted c) e = accepted-key-is-at-most-largest part c e
-    read part (refused n) e = omega arith
+    whole : (b : Bool) (r : Refusal) → cond b (Identifier.accepted 0) (Identifier.refused r) ≡ Identifier.accepted key → 0 ≡ key
+    whole true r e = cc
+    whole false r e = let z : _≡_ {A = ℕ} 0 1 = cc in absurd (omega arith)
 
-    each : (ps : List (List ℕ)) (i : ℕ) → getElem? (map commandFrom (map readCommand ps)) i ≡ some command → command .key ≤ largestKey
-    each [] i e = let z : _≡_ {A = ℕ} 0 1 = cc in absurd (omega arith)
-    each (part ∷ ps) zero e = let same : commandFrom (readCommand part) ≡ command = cc in rw (← same) (read part (readCommand part) refl)
-    each (part ∷ ps) (suc i) e = each ps i e
+    long : (b : Bool) (o : Identifier.TextOutcome) → (o ≡ Identifier.accepted key → 0 ≡ key) → cond b o (Identifier.refused (plain 8)) ≡ Identifier.accepted key → 0 ≡ key
+    long true o h e = h e
+    long false o h e = let z : _≡_ {A = ℕ} 0 1 = cc in absurd (omega arith)
+
+    by : (b : Bool) → cond b (readText text) (readZeros text) ≡ Identifier.accepted key → cond b (untestedKey text) 0 ≡ key
+    by true e = identifier-as-untested text key e
+    by false e = long (eqb (length text) 13) (cond (eqb (firstNotZero 0 text) 13) (Identifier.accepted 0) (Identifier.refused (atCharacter (firstNotZero 0 text + 1) (plain 8)))) (whole (eqb (firstNotZero 0 text) 13) (atCharacter (firstNotZero 0 text + 1) (plain 8))) e
+
+-- kind, key and chute are those that the tests were made of
+pub accepted-as-untested : AcceptedAsUntested
+unfolding readCommand withKind withChute commandIn
+accepted-as-untested part command e = cases (kindOf (getD part 0 0)) refl e
+  where
+    text : List ℕ
+    text = take 13 (drop 1 part)
+
+    bytes : List ℕ
+    bytes = drop 14 part
+
+    chosen : (kind : Kind) (key : ℕ) (b : Bool) → kindOf (getD part 0 0) ≡ some kind → readIdentifier kind text ≡ Identifier.accepted key
+        → eqb (length bytes) 2 && chuteFits kind (chuteOf bytes) ≡ b
+        → cond b (accepted (record { kind = kind; key = key; chute = chuteOf bytes })) (refused (chuteRefusal kind)) ≡ accepted command → commandIn part ≡ command
+    chosen kind key true k r f e =
+        let two = eqb-true (length bytes) 2 (and-eq-true-iff (eqb (length bytes) 2) _ .0 f .0) in
+        let long : length part ≡ 16 = omega (arith, rw length-drop at two) in
+        let read : Command = record { kind = kind; key = key; chute = chuteOf bytes } in
+        let same : read ≡ command = cc in
+        rw (k, eq-eqb (length part) 16 long, key-untested kind text key r) same
+    chosen kind key false k r f e = let z : _≡_ {A = ℕ} 0 1 = cc in absurd (omega arith)
+
+    named : (kind : Kind) (o : Identifier.TextOutcome) → kindOf (getD part 0 0) ≡ some kind → readIdentifier kind text ≡ o → withChute kind o bytes ≡ accepted command
+        → commandIn part ≡ command
+    named kind (Identifier.accepted key) k r e = chosen kind key _ k r refl e
+    named kind (Identifier.refused n) k r e = let z : _≡_ {A = ℕ} 0 1 = cc in absurd (omega arith)
+
+    cases : (k : Option Kind) → kindOf (getD part 0 0) ≡ k → withKind k text bytes ≡ accepted command → commandIn part ≡ command
+    cases (some kind) k e = named kind (readIdentifier kind text) k refl e
+    cases none k e = let z : _≡_ {A = ℕ} 0 1 = cc in absurd (omega arith)
+
+-- where no part is refused, each command of the list was read so
+pub read-so : (ps : List (List ℕ)) (place i : ℕ) (command : Command) → firstRefusal place (map readCommand ps) ≡ allAccepted
+    → getElem? (map commandIn ps) i ≡ some command → (part : List ℕ) × (readCommand part ≡ accepted command)
+unfolding firstRefusal
+read-so [] place i command e at = let z : _≡_ {A = ℕ} 0 1 = cc in absurd (omega arith)
+read-so (part ∷ ps) place i command e at = go (readCommand part) refl (λ j. read-so ps (place + 1) j command) i e at
+  where
+    go : (r : CommandOutcome) → readCommand part ≡ r
+        → ((j : ℕ) → firstRefusal (place + 1) (map readCommand ps) ≡ allAccepted → getElem? (map commandIn ps) j ≡ some command → (part : List ℕ) × (readCommand part ≡ accepted command))
+        → (i : ℕ) → firstRefusal place (r ∷ map readCommand ps) ≡ allAccepted → getElem? (commandIn part ∷ map commandIn ps) i ≡ some command
+        → (part : List ℕ) × (readCommand part ≡ accepted command)
+    go (accepted c) r rest zero e at =
+        let same : commandIn part ≡ command = cc in
+        (part, r ∙ ap accepted (sym (accepted-as-untested part c r) ∙ same))
+    go (accepted c) r rest (suc i) e at = rest i e at
+    go (refused n) r rest i e at = let z : _≡_ {A = ℕ} 0 1 = cc in absurd (omega arith)
 
 -- the kind's and the chute's name none
 pub character-is-the-identifiers : CharacterIsTheIdentifiers
@@ -241,6 +292,11 @@ pub length-parts : (n : ℕ) (bytes : List ℕ) → length (parts n bytes) ≡ n
 unfolding parts
 length-parts zero bytes = refl
 length-parts (suc n) bytes = ap suc (length-parts n (drop 16 bytes))
+
+-- as many as start inside the list
+pub length-parts-of : (list : List ℕ) → length (partsOf list) ≡ (length list + 15) / 16
+unfolding partsOf
+length-parts-of list = length-parts ((length list + 15) / 16) list
 
 -- and as many parts as start inside the list
 pub length-readings : (list : List ℕ) → length (readings list) ≡ (length list + 15) / 16

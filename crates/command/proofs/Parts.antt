@@ -7,7 +7,7 @@ use native.Mathlib.Nat.{min-eq-left, min-eq-right}
 use native.Mathlib.Omega.{arith}
 use lib.ListN.{length, take, drop, length-drop, drop-of-length-le}
 use lib.Seq.{take-all, take-length, drop-length, drop-drop}
-use Rattle.command.specs.Read.{readCommand, parts, partsOf, readings}
+use Rattle.command.specs.Read.{readCommand, parts, partsOf, readings, commandIn, commandsIn}
 
 -- a function that is the same from m on is the same at n and at the smaller of n and m
 same-at-min : {B : Type 0} (f : ℕ → B) (n m : ℕ) → (m ≤ n → f m ≡ f n) → f (min n m) ≡ f n
@@ -38,9 +38,23 @@ readings-cons bytes h =
     let more : (length bytes + 15) / 16 ≡ suc ((length (drop 16 bytes) + 15) / 16) = rw length-drop (omega arith) in
     rw more
 
+-- and its commands begin with that part's
+pub commands-cons : (bytes : List ℕ) → 0 < length bytes → commandsIn bytes ≡ commandIn (take 16 bytes) ∷ commandsIn (drop 16 bytes)
+unfolding commandsIn partsOf parts
+commands-cons bytes h =
+    let more : (length bytes + 15) / 16 ≡ suc ((length (drop 16 bytes) + 15) / 16) = rw length-drop (omega arith) in
+    rw more
+
 -- the readings from a place on are that of the part there and those from the part's end on
 pub readings-from : (at : ℕ) (list : List ℕ) → at < length list →
     let end = min (at + 16) (length list) in readings (drop at list) ≡ readCommand (take (end - at) (drop at list)) ∷ readings (drop end list)
 readings-from at list h =
     let some : 0 < length (drop at list) = rw length-drop (omega arith) in
     rw (part-min, drop-min, ← drop-drop 16 at list) (readings-cons (drop at list) some)
+
+-- and so are the commands
+pub commands-from : (at : ℕ) (list : List ℕ) → at < length list →
+    let end = min (at + 16) (length list) in commandsIn (drop at list) ≡ commandIn (take (end - at) (drop at list)) ∷ commandsIn (drop end list)
+commands-from at list h =
+    let some : 0 < length (drop at list) = rw length-drop (omega arith) in
+    rw (part-min, drop-min, ← drop-drop 16 at list) (commands-cons (drop at list) some)

@@ -6,16 +6,10 @@ use mathlib.Core.Path.{_≡_, refl, ap, _∙_}
 use mathlib.Core.List.{List, [], _∷_, map}
 use lib.ListN.{drop}
 use lib.Seq.{drop-nil, drop-drop}
-use Rattle.command.specs.Read.{CommandOutcome, accepted, refused, parts, partsOf, readings, allAccepted, firstRefusal, commandFrom, commandsIn}
+use Rattle.command.specs.Read.{CommandOutcome, accepted, refused, parts, partsOf, readings, allAccepted, firstRefusal, commandsIn}
 use Rattle.command.specs.Laws.{AllAccepted}
-use Rattle.command.proofs.Parts.{readings-cons}
+use Rattle.command.proofs.Parts.{readings-cons, commands-cons}
 use Rattle.command.proofs.Laws.{no-refusal-is-all-accepted}
-
--- what is mapped of the rest is the rest of what is mapped
-map-drop : {A B : Type 0} (f : A → B) (n : ℕ) (l : List A) → map f (drop n l) ≡ drop n (map f l)
-map-drop f zero l = refl
-map-drop f (suc n) [] = refl
-map-drop f (suc n) (x ∷ l) = map-drop f n l
 
 -- no bytes, no readings
 readings-nil : readings [] ≡ []
@@ -30,10 +24,18 @@ readings-drop (suc n) (b ∷ bytes) =
     let from : 16 * suc n ≡ 16 + 16 * n = omega arith in
     rw (from, ← drop-drop (16 * n) 16 (b ∷ bytes), readings-cons (b ∷ bytes) (omega arith)) (readings-drop n (drop 16 (b ∷ bytes)))
 
+-- no bytes, no commands
+commands-nil : commandsIn [] ≡ []
+unfolding commandsIn partsOf parts
+commands-nil = refl
+
 -- and hold the commands after the first n
 pub commands-drop : (n : ℕ) (bytes : List ℕ) → commandsIn (drop (16 * n) bytes) ≡ drop n (commandsIn bytes)
-unfolding commandsIn
-commands-drop n bytes = ap (map commandFrom) (readings-drop n bytes) ∙ map-drop commandFrom n (readings bytes)
+commands-drop zero bytes = refl
+commands-drop (suc n) [] = rw (drop-nil, commands-nil)
+commands-drop (suc n) (b ∷ bytes) =
+    let from : 16 * suc n ≡ 16 + 16 * n = omega arith in
+    rw (from, ← drop-drop (16 * n) 16 (b ∷ bytes), commands-cons (b ∷ bytes) (omega arith)) (commands-drop n (drop 16 (b ∷ bytes)))
 
 -- where every reading is accepted, the rest are
 accepted-drop : (n : ℕ) (rs : List CommandOutcome) → AllAccepted rs → AllAccepted (drop n rs)

@@ -12,7 +12,7 @@ use Rattle.s10.specs.Outcome as Identifier
 use Rattle.command.specs.declared.Kind.{Kind}
 use Rattle.command.specs.declared.Kind.the-variants.{Read, Update, Workers, Checkpoint}
 use Rattle.command.specs.declared.Command.{Command}
-use Rattle.command.specs.Read.{CommandOutcome, accepted, refused, kindOf, kindNumber, chuteFits, readIdentifier, readCommand, readings, allAccepted, listRefused, firstRefusal}
+use Rattle.command.specs.Read.{CommandOutcome, accepted, refused, kindOf, kindNumber, chuteFits, readIdentifier, readCommand, readings, allAccepted, listRefused, firstRefusal, commandIn}
 use Rattle.command.specs.Dependent.{hasItem, isInsertOrDelete, areDependent}
 
 -- Of two commands each depends on the other, or neither does.
@@ -51,6 +51,10 @@ AcceptedChuteIsAtMostLast = (part : List ℕ) (command : Command) → readComman
 -- An accepted command's key is at most the largest.
 abbrev pub AcceptedKeyIsAtMostLargest : Type 0
 AcceptedKeyIsAtMostLargest = (part : List ℕ) (command : Command) → readCommand part ≡ accepted command → command .key ≤ largestKey
+
+-- An accepted command is the one that its part has untested.
+abbrev pub AcceptedAsUntested : Type 0
+AcceptedAsUntested = (part : List ℕ) (command : Command) → readCommand part ≡ accepted command → commandIn part ≡ command
 
 -- "0 with any refusal but 8, 9 and 13": a refusal that names a character is the identifier's own.
 abbrev pub CharacterIsTheIdentifiers : Type 0

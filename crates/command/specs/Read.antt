@@ -6,6 +6,7 @@ use mathlib.Core.Option.{Option, none, some}
 use lib.ListN.{length, getD, take, drop}
 use lib.Dec.{eqb, leb}
 use Rattle.s10.specs.Refusal.{Refusal, plain, atCharacter, atPlace}
+use Rattle.s10.specs.Text.{untestedKey}
 use Rattle.s10.specs.Outcome.{readText}
 use Rattle.s10.specs.Outcome as Identifier
 use Rattle.command.specs.declared.Kind.{Kind}
@@ -154,11 +155,21 @@ abbrev pub listOutcome : ListReading → ListOutcome
 listOutcome (AllRead largest) = allAccepted
 listOutcome (RefusedAt seq reason) = listRefused (atPlace (seq .0) (refusalFor reason))
 
--- the commands of a list. A list that was accepted has no refused command; in any other list a refused one reads as a read of key 0, so
--- that every list has a command at each place
-unfoldable pub commandFrom : CommandOutcome → Command
-commandFrom (accepted c) = c
-commandFrom (refused r) = record { kind = Read; key = 0; chute = 0 }
+-- the kind of a number that is not tested: one that is no kind's counts as a read's
+abbrev pub untestedKind : Option Kind → Kind
+untestedKind none = Read
+untestedKind (some kind) = kind
 
+-- the command of a part that is not tested: what its bytes say, key 0 where the kind names no item. A part that reads as a command is that one
+-- (`Laws.AcceptedAsUntested`); of any other part nothing is promised but that it is some command, so that every list has one at each place
+unfoldable pub commandIn : List ℕ → Command
+unfolding kindOf hasItem untestedKey chuteOf
+commandIn part =
+    let kind : Kind = untestedKind (kindOf (getD part 0 0)) in
+    cond (eqb (length part) 16) (record { kind = kind; key = cond (hasItem kind) (untestedKey (take 13 (drop 1 part))) 0; chute = chuteOf (drop 14 part) })
+    (record { kind = Read; key = 0; chute = 0 })
+
+-- the commands of a list
 unfoldable pub commandsIn : List ℕ → List Command
-commandsIn bytes = map commandFrom (readings bytes)
+unfolding partsOf commandIn
+commandsIn bytes = map commandIn (partsOf bytes)

@@ -1,11 +1,12 @@
 // A command of 16 bytes: kind, identifier and chute.
 ghost use mathlib.Core.Path.{_≡_};
 ghost use Prim.Native.Nat.{ℕ, _+_, _*_, _≤_, min, max};
-ghost use mathlib.Core.Bool.{_&&_};
+ghost use mathlib.Core.Bool.{cond, _&&_};
 ghost use lib.Dec.{leb};
+ghost use Rattle.s10.specs.Text.{untestedKey};
 ghost use Rattle.s10.specs.Outcome.{accepted};
 ghost use Rattle.command.specs.declared.ListReading.the-variants.{AllRead};
-ghost use Rattle.command.specs.Read.{refusalFor, commandOutcome, knownKind, kindOf, chuteFits, chuteRefusal, firstNotZero, readZeros, readIdentifier, identifierOutcome, withChute, readCommand, commandsIn, listOutcome, firstRefusal, readings, kindNumber};
+ghost use Rattle.command.specs.Read.{refusalFor, commandOutcome, knownKind, kindOf, chuteFits, chuteRefusal, firstNotZero, readZeros, readIdentifier, identifierOutcome, withChute, readCommand, untestedKind, commandIn, commandsIn, listOutcome, firstRefusal, readings, kindNumber};
 ghost use Rattle.command.specs.Dependent.{hasItem, isInsertOrDelete, isRead, isCheckpoint, areDependent};
 ghost use Rattle.command.specs.Count.{countAfter, largestCount};
 use s10::Character;
@@ -124,6 +125,24 @@ impl Command {
         }
     }
 
+    // The command of a part that is not tested, as one that was read before: what its bytes say. A number that is no kind's counts
+    // as a read's, and a part of another length as a read of key 0.
+    pub fn untested(part: &[u8]) -> Command
+        ensures { λ r. ⌜ r ≡ commandIn (now (part .entry)) ⌝ }
+    {
+        if part.len() != Command::LENGTH {
+            return Command {
+                kind: Kind::Read,
+                key: 0,
+                chute: 0,
+            };
+        }
+        let kind = Kind::untested(part[0]);
+        let key = kind.untested_key(&part[Command::IDENTIFIER..Command::CHUTE]);
+        let chute = number_of(part[Command::CHUTE], part[Command::CHUTE + 1]);
+        Command { kind, key, chute }
+    }
+
     // Whether two commands may not change places.
     pub fn depends_on(self, other: Command) -> bool
         ensures { λ r. ⌜ r ≡ areDependent self other ⌝ }
@@ -171,6 +190,26 @@ impl Kind {
             6 => AnyKind::Known(Kind::Checkpoint),
             _ => AnyKind::Unknown,
         }
+    }
+
+    // The kind of a number that is not tested: one that is no kind's counts as a read's.
+    fn untested(number: u8) -> Kind
+        ensures { λ r. ⌜ r ≡ untestedKind (kindOf number) ⌝ }
+    {
+        match Kind::of(number) {
+            AnyKind::Known(kind) => kind,
+            AnyKind::Unknown => Kind::Read,
+        }
+    }
+
+    // The key of an identifier that is not tested, of a command of the kind; 0 where the kind names no item.
+    fn untested_key(self, text: &[u8]) -> u64
+        ensures { λ r. ⌜ r ≡ cond (hasItem self) (untestedKey (now (text .entry))) 0 ⌝ }
+    {
+        if !self.has_item() {
+            return 0;
+        }
+        Identifier::untested(text)
     }
 
     // The number of a kind.

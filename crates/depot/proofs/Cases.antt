@@ -7,7 +7,7 @@ use mathlib.Core.Bool.{true}
 use mathlib.Core.List.{List}
 use Rattle.s10.specs.Text.{firstFault, checkDigit, keyOf, largestKey, digits}
 use Rattle.s10.specs.Outcome.{readText}
-use Rattle.command.specs.Read.{firstRefusal, readings, commandFrom, commandsIn}
+use Rattle.command.specs.Read.{firstRefusal, readings, commandIn, commandsIn}
 use Rattle.command.specs.Dependent.{areDependent}
 use Rattle.node_set.specs.Members.{noneBelow}
 use Rattle.model.specs.Upd.{upd}
@@ -33,11 +33,11 @@ abbrev Accepts : List ℕ → Type 0
 Accepts i = (opening i ≡ accepted (listsOf (inputSetup i) (opened (inputSetup i)))) × (allWithin (inputSetup i .largest) (scheduleOf i) ≡ true)
 
 accepts-19 : Accepts (stopped 19)
-unfolding input numberAt openOn openedWith firstRefusal readings readText firstFault checkDigit keyOf zeros emptyImage imageLength lengthsFit imageFits sourceLong sourceChained sourceFits stateLength allWithin largestCount commandsIn commandFrom
+unfolding input numberAt openOn openedWith firstRefusal readings readText firstFault checkDigit keyOf zeros emptyImage imageLength lengthsFit imageFits sourceLong sourceChained sourceFits stateLength allWithin largestCount commandsIn commandIn
 accepts-19 = (refl, refl)
 
 accepts-9 : Accepts (stopped 9)
-unfolding input numberAt openOn openedWith firstRefusal readings readText firstFault checkDigit keyOf zeros emptyImage imageLength lengthsFit imageFits sourceLong sourceChained sourceFits stateLength allWithin largestCount commandsIn commandFrom
+unfolding input numberAt openOn openedWith firstRefusal readings readText firstFault checkDigit keyOf zeros emptyImage imageLength lengthsFit imageFits sourceLong sourceChained sourceFits stateLength allWithin largestCount commandsIn commandIn
 accepts-9 = (refl, refl)
 
 -- and the others
@@ -50,7 +50,7 @@ unfolding input numberAt
 stopped-passes = record { short = omega arith; whole = omega arith; lists = _; opens = accepts-9 .0; named = accepts-9 .1 }
 
 pub marked : Marked
-unfolding firstEntries checkDigit digits readText firstFault keyOf largestKey areDependent command serve full corrected writtenInFull writeKind layOut input numberAt steps opened upd noneBelow lookUp insert readings commandsIn commandFrom tabulate fields commandLines commandLine decimal decimalWithin totals chainFrom
+unfolding firstEntries checkDigit digits readText firstFault keyOf largestKey areDependent command serve full corrected writtenInFull writeKind layOut input numberAt steps opened upd noneBelow lookUp insert readings commandsIn commandIn tabulate fields commandLines commandLine decimal decimalWithin totals chainFrom
 marked = record {
   a = refl;
   b = refl;

@@ -10,8 +10,8 @@ use lib.ListN.{length, take, drop, getElem?, length-map}
 use lib.Dec.{eqb}
 use lib.Seq.{drop-drop}
 use Rattle.command.specs.declared.Command.{Command}
-use Rattle.command.specs.Read.{readCommand, parts, partsOf, readings, commandFrom, commandsIn}
-use Rattle.command.proofs.Laws.{length-readings}
+use Rattle.command.specs.Read.{parts, partsOf, commandIn, commandsIn}
+use Rattle.command.proofs.Laws.{length-parts-of}
 use Rattle.model.specs.Upd.{upd}
 use Rattle.model.specs.Setup.{commandAt}
 use Rattle.model.specs.Proof.Upd.{upd-at, upd-other}
@@ -20,9 +20,8 @@ use Rattle.graph.specs.Arrays.{numbers}
 use Rattle.graph.specs.Items.{keptAt, Kept}
 use Rattle.graph.specs.Worker.{Placed}
 
--- the command of part i is read from byte 16 * i on
-part-command : (n i : ℕ) (bytes : List ℕ) → i < n
-    → getElem? (map commandFrom (map readCommand (parts n bytes))) i ≡ some (commandFrom (readCommand (take 16 (drop (16 * i) bytes))))
+-- the command of part i is that of the bytes from 16 * i on
+part-command : (n i : ℕ) (bytes : List ℕ) → i < n → getElem? (map commandIn (parts n bytes)) i ≡ some (commandIn (take 16 (drop (16 * i) bytes)))
 unfolding parts
 part-command zero i bytes h = absurd (omega arith)
 part-command (suc n) zero bytes h = refl
@@ -37,12 +36,12 @@ module _ (bytes : List ℕ) (count : ℕ) (whole : length bytes ≡ 16 * count) 
 
   pub commands-length : length (commandsIn bytes) ≡ count
   unfolding commandsIn
-  commands-length = rw (length-map, length-readings) parts-count
+  commands-length = rw (length-map, length-parts-of) parts-count
 
--- the command of a place is the one read from the sixteen bytes that end there
+-- the command of a place is that of the sixteen bytes that end there
 pub command-is : (bytes : List ℕ) (place : ℕ) → 1 ≤ place → 16 * place ≤ length bytes
-    → commandAt (commandsIn bytes) place ≡ some (commandFrom (readCommand (take 16 (drop (16 * place - 16) bytes))))
-unfolding commandAt commandsIn readings partsOf
+    → commandAt (commandsIn bytes) place ≡ some (commandIn (take 16 (drop (16 * place - 16) bytes)))
+unfolding commandAt commandsIn partsOf
 command-is bytes zero from to = absurd (omega arith)
 command-is bytes (suc i) from to =
     let start : 16 * suc i - 16 ≡ 16 * i = omega arith in

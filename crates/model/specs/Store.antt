@@ -30,19 +30,25 @@ unfoldable pub inUse : Store → ℕ
 unfolding room
 inUse st = min (st .used) (room st)
 
--- Where a key stands or belongs, between the places low and high, by n halvings: to the right of the middle where the middle's key
--- is smaller, else at the middle or to its left. Where low and high meet, nothing changes.
+-- The last of `size` places from `from` on whose key is smaller, by n halvings, or the first of them: from the middle on where the middle's key
+-- is smaller, else up to it. Where one place is left, nothing changes.
 unfoldable pub halve : ℕ → List ℕ → ℕ → ℕ → ℕ → ℕ
-halve zero keys key low high = low
-halve (suc n) keys key low high =
-    let middle : ℕ = (low + high) / 2 in
-    let right : Bool = ltb low high && ltb (getD keys middle 0) key in
-    halve n keys key (cond right (middle + 1) low) (cond right high middle)
+halve zero keys key from size = from
+halve (suc n) keys key from size =
+    let middle : ℕ = from + size / 2 in
+    halve n keys key (cond (ltb (getD keys middle 0) key) middle from) (size - size / 2)
 
--- where a key stands, or belongs where it is absent
+-- where a key stands among the first n of a list, or belongs where it is absent: behind that place, if its key is smaller
+unfoldable pub placeAmong : ℕ → List ℕ → ℕ → ℕ
+unfolding halve
+placeAmong n keys key =
+    let last : ℕ = halve n keys key 0 n in
+    cond (eqb n 0) 0 (cond (ltb (getD keys last 0) key) (last + 1) last)
+
+-- and in the store
 unfoldable pub keyPlace : ℕ → Store → ℕ
-unfolding halve inUse
-keyPlace key st = halve (inUse st) (st .keys) key 0 (inUse st)
+unfolding placeAmong inUse
+keyPlace key st = placeAmong (inUse st) (st .keys) key
 
 unfoldable pub holds : ℕ → Store → Bool
 unfolding keyPlace

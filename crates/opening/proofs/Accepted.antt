@@ -11,8 +11,8 @@ use borrow.Author.Tests.{leb-true, eqb-true}
 use Rattle.s10.specs.Refusal.{plain}
 use Rattle.s10.specs.Text.{largestKey}
 use Rattle.command.specs.declared.Command.{Command}
-use Rattle.command.specs.Read.{CommandOutcome, accepted, refused, chuteFits, readCommand, partsOf, readings, ListOutcome, allAccepted, listRefused, firstRefusal, commandFrom, commandsIn}
-use Rattle.command.proofs.Laws.{accepted-chute-fits, list-key-is-at-most-largest}
+use Rattle.command.specs.Read.{accepted, readCommand, partsOf, readings, ListOutcome, allAccepted, listRefused, firstRefusal, commandsIn}
+use Rattle.command.proofs.Laws.{accepted-chute-fits, accepted-key-is-at-most-largest, read-so}
 use Rattle.model.specs.Serial.{Stored}
 use Rattle.model.specs.Setup.{Setup, commandAt}
 use Rattle.model.specs.Step.{opened}
@@ -25,29 +25,12 @@ use Rattle.opening.specs.Calls.{Source, nothing, imageFrom, sourceLong, 
 
 -- ---- commands
 
--- where no reading is refused, each command was read so
-abbrev ChutesFit : List (List ℕ) → ℕ → Command → Type 0
-ChutesFit ps place command =
-    (i : ℕ) → firstRefusal place (map readCommand ps) ≡ allAccepted → getElem? (map commandFrom (map readCommand ps)) i ≡ some command
-    → chuteFits (command .kind) (command .chute) ≡ true
-
-chutes-fit : (ps : List (List ℕ)) (place : ℕ) (command : Command) → ChutesFit ps place command
-unfolding firstRefusal commandFrom
-chutes-fit [] place command i e at = let z : _≡_ {A = ℕ} 0 1 = cc in absurd (omega arith)
-chutes-fit (part ∷ ps) place command i e at = go (readCommand part) refl (chutes-fit ps (place + 1) command) i e at
-  where
-    go : (r : CommandOutcome) → readCommand part ≡ r → ChutesFit ps (place + 1) command → (i : ℕ) → firstRefusal place (r ∷ map readCommand ps) ≡ allAccepted
-        → getElem? (commandFrom r ∷ map commandFrom (map readCommand ps)) i ≡ some command → chuteFits (command .kind) (command .chute) ≡ true
-    go (accepted c) r rest zero e at = let same : c ≡ command = cc in accepted-chute-fits part command (r ∙ ap accepted same)
-    go (accepted c) r rest (suc i) e at = rest i e at
-    go (refused n) r rest i e at = let z : _≡_ {A = ℕ} 0 1 = cc in absurd (omega arith)
-
--- place by place
-commands-fit : (bytes : List ℕ) → firstRefusal 1 (readings bytes) ≡ allAccepted → (c : ℕ) (command : Command) → commandAt (commandsIn bytes) c ≡ some command
-    → chuteFits (command .kind) (command .chute) ≡ true
+-- place by place, where no reading is refused each command was read so
+command-read : (bytes : List ℕ) → firstRefusal 1 (readings bytes) ≡ allAccepted → (c : ℕ) (command : Command) → commandAt (commandsIn bytes) c ≡ some command
+    → (part : List ℕ) × (readCommand part ≡ accepted command)
 unfolding commandsIn readings commandAt
-commands-fit bytes e zero command at = let z : _≡_ {A = ℕ} 0 1 = cc in absurd (omega arith)
-commands-fit bytes e (suc i) command at = chutes-fit (partsOf bytes) 1 command i e at
+command-read bytes e zero command at = let z : _≡_ {A = ℕ} 0 1 = cc in absurd (omega arith)
+command-read bytes e (suc i) command at = read-so (partsOf bytes) 1 i command e at
 
 -- ---- the opening
 
@@ -74,12 +57,6 @@ pub record IsOpened (o : Setup) (commands : List ℕ) (l : Lists) : Type 0 where
   pub long : length commands ≡ 16 * length (o .commands)
   pub read : firstRefusal 1 (readings commands) ≡ allAccepted
   pub lists : l ≡ listsOf o (opened o)
-
--- place by place, each key is one of the table's
-keys-fit : (bytes : List ℕ) (c : ℕ) (command : Command) → commandAt (commandsIn bytes) c ≡ some command → command .key ≤ largestKey
-unfolding commandAt
-keys-fit bytes zero command at = let z : _≡_ {A = ℕ} 0 1 = cc in absurd (omega arith)
-keys-fit bytes (suc i) command at = list-key-is-at-most-largest bytes i command at
 
 -- the first entries are some that the store can hold
 first-stored : (capacity : ℕ) (source : Source) → sourceChained capacity source ≡ true → sourceFits capacity source ≡ true → Stored capacity (firstEntries capacity source)
@@ -111,8 +88,8 @@ accepted-opening size workers capacity commands source lent l e =
         capacity = range capacity 4096 (e3 .0);
         count = omega (arith, leb-true (length commands / 16) 4096 (e5 .0));
         entries = first-stored capacity source (e15 .0) (e16 .0);
-        chutes = commands-fit commands (left .0);
-        keys = keys-fit commands;
+        chutes = λ c command at. let r = command-read commands (left .0) c command at in accepted-chute-fits (r .0) command (r .1);
+        keys = λ c command at. let r = command-read commands (left .0) c command at in accepted-key-is-at-most-largest (r .0) command (r .1);
       };
       long = omega arith;
       read = left .0;

@@ -6,7 +6,7 @@ use mathlib.Core.Bool.{true, false}
 use mathlib.Core.List.{List}
 use lib.ListN.{length, getD}
 use Rattle.s10.specs.Refusal.{Refusal}
-use Rattle.s10.specs.Text.{isAllowed, largestKey, textOf}
+use Rattle.s10.specs.Text.{isAllowed, largestKey, textOf, untestedKey}
 use Rattle.s10.specs.Outcome.{accepted, refused, readText, refusalRead}
 
 -- Reading what was written gives the key.
@@ -28,6 +28,10 @@ KeyHasOneText = (text other : List ℕ) (key : ℕ) → readText text ≡ accept
 -- An accepted key is at most the largest.
 abbrev pub AcceptedIsAtMostLargest : Type 0
 AcceptedIsAtMostLargest = (text : List ℕ) (key : ℕ) → readText text ≡ accepted key → key ≤ largestKey
+
+-- An accepted text has its key also untested.
+abbrev pub AcceptedAsUntested : Type 0
+AcceptedAsUntested = (text : List ℕ) (key : ℕ) → readText text ≡ accepted key → untestedKey text ≡ key
 
 -- ---- the first faulty character
 

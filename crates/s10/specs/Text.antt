@@ -3,7 +3,7 @@
 use Prim.Native.Nat.{ℕ, zero, suc, _+_, _-_, _*_, _/_, _%_, _^_}
 use mathlib.Core.Bool.{Bool, cond, _&&_}
 use mathlib.Core.List.{List, [], _∷_, _++_, map}
-use lib.ListN.{getD, take, drop}
+use lib.ListN.{length, getD, take, drop}
 use lib.Dec.{eqb, leb}
 
 -- "letters A to Z"
@@ -64,6 +64,11 @@ unfoldable pub keyOf : List ℕ → ℕ
 unfolding pair decimalNumber serialDigits
 keyOf text =
     (pair (getD text 0 0) (getD text 1 0) * 100_000_000 + decimalNumber 0 (serialDigits text)) * 676 + pair (getD text 11 0) (getD text 12 0)
+
+-- the key of a text that is not tested, 0 where it is not thirteen characters long
+unfoldable pub untestedKey : List ℕ → ℕ
+unfolding keyOf
+untestedKey text = cond (eqb (length text) 13) (keyOf text) 0
 
 -- "at most 45,697,599,999,999"
 unfoldable pub largestKey : ℕ

@@ -4,7 +4,7 @@ ghost use Prim.Native.Nat.{_+_, _-_, _*_, _%_, _≤_, _<_};
 ghost use mathlib.Core.Bool.{_&&_};
 ghost use lib.Dec.{leb};
 ghost use lib.ListN.{length};
-ghost use Rattle.s10.specs.Text.{asksDigit, isAllowed, firstFault, weighted, weights, excepted, checkDigit, pair, decimalNumber, keyOf, letters, digits, largestKey, textOf};
+ghost use Rattle.s10.specs.Text.{asksDigit, isAllowed, firstFault, weighted, weights, excepted, checkDigit, pair, decimalNumber, keyOf, untestedKey, letters, digits, largestKey, textOf};
 ghost use Rattle.s10.specs.Parts.{Between, Serial, WellFormed, values, characters, serialText};
 ghost use Rattle.s10.specs.Outcome.{refusalFor, faultAt, textOutcome, readText, number, writeNumber, writeText};
 
@@ -98,6 +98,16 @@ impl Identifier {
             return Reading::Refused(Reason::WrongCheckDigit);
         }
         Reading::Key(key_of(text))
+    }
+
+    // The key of a text that is not tested, as one that was read before; 0 where it is not thirteen characters long.
+    pub fn untested(text: &[u8]) -> u64
+        ensures { λ r. ⌜ r ≡ untestedKey (now (text .entry)) ⌝ }
+    {
+        if text.len() != Identifier::LENGTH {
+            return 0;
+        }
+        key_of(text)
     }
 
     // Writes the text of a key. A refusal leaves the list as it was.
@@ -213,31 +223,37 @@ fn check_digit(digits: &[u8]) -> u8
     check_of(weighted_sum(digits)) as u8
 }
 
-// The number of a pair of letters.
-fn pair_number(first: u8, second: u8) -> u64
-    requires { ⌜ Between 65 90 first × Between 65 90 second ⌝ }
-    ensures { λ r. ⌜ (r ≡ pair first second) × (r < 676) ⌝ }
+// How far a character lies above another, 0 where it does not.
+fn above(c: u8, low: u8) -> u64
+    ensures { λ r. ⌜ (r ≡ c - low) × (r ≤ 255) ⌝ }
 {
-    Identifier::LETTERS * (first - b'A') as u64 + (second - b'A') as u64
+    if c < low { 0 } else { (c - low) as u64 }
 }
 
-// The number that decimal digits write.
+// The number of a pair of letters; of other characters too it is what the definition gives.
+fn pair_number(first: u8, second: u8) -> u64
+    ensures { λ r. ⌜ (r ≡ pair first second) × (r ≤ 6885) ⌝ }
+{
+    Identifier::LETTERS * above(first, b'A') + above(second, b'A')
+}
+
+// The number that eight decimal digits write; of other characters too it is what the definition gives.
 fn decimal_number(digits: &[u8]) -> u64
-    requires { ⌜ Serial (now digits) ⌝ }
-    ensures { λ r. ⌜ (r ≡ decimalNumber 0 (values (now (digits .entry)))) × (r < 100_000_000) ⌝ }
+    requires { ⌜ length (now digits) ≡ 8 ⌝ }
+    ensures { λ r. ⌜ (r ≡ decimalNumber 0 (values (now (digits .entry)))) × (r ≤ 2_900_000_000) ⌝ }
 {
     let mut n = 0;
     let mut k = 0;
     while k < digits.len() {
-        n = n * 10 + (digits[k] - b'0') as u64;
+        n = n * 10 + above(digits[k], b'0');
         k += 1;
     }
     n
 }
 
-// The key of a well-formed text.
+// The key of a text of thirteen characters, which are not tested.
 fn key_of(text: &[u8]) -> u64
-    requires { ⌜ WellFormed (now text) ⌝ }
+    requires { ⌜ length (now text) ≡ 13 ⌝ }
     ensures { λ r. ⌜ r ≡ keyOf (now (text .entry)) ⌝ }
 {
     let first = pair_number(text[0], text[1]);

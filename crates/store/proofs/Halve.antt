@@ -1,48 +1,65 @@
--- Binary search: what one turn of the search does, in terms of the definition `halve`, whose count of halvings may exceed what the
--- search needs. Assumes nothing.
-use Prim.Native.Nat.{ℕ, zero, suc, _+_, _/_, _≤_, _<_}
+-- Binary search: what one halving does, in terms of the definition `halve`, whose count of halvings may exceed what the search needs. Assumes
+-- nothing.
+use Prim.Native.Nat.{ℕ, zero, suc, _+_, _-_, _/_, _≤_, _<_}
 use native.Mathlib.Omega.{arith}
-use mathlib.Core.Bool.{Bool, true, false, cond, _&&_, and-eq-true-iff}
-use mathlib.Core.Path.{_≡_, refl, sym}
+use mathlib.Core.Bool.{Bool, true, false, cond}
+use mathlib.Core.Path.{_≡_, refl, sym, _∙_}
 use mathlib.Core.List.{List}
-use borrow.Author.Tests.{lt-ltb, le-ltb, ltb-true}
 use lib.ListN.{getD}
 use lib.Dec.{ltb}
 use Rattle.model.specs.Store.{halve}
-
--- A halving takes at least one place away: the right part starts after the middle, the left part ends at it.
-part-is-smaller : (n low high : ℕ) (right : Bool) → (right ≡ true → low < high) → high ≤ low + suc n
-    → cond right high ((low + high) / 2) ≤ cond right ((low + high) / 2 + 1) low + n
-part-is-smaller n low high true apart h = let p = apart refl in omega arith
-part-is-smaller n low high false apart h = omega arith
+use Rattle.store.specs.declared.Left.{Left}
+use Rattle.store.specs.Find.{Leads}
 
 module _ (keys : List ℕ) (key : ℕ) where
-  -- Where low and high have met the right part is never taken, so low stays.
-  pub halve-met : (n low high : ℕ) → high ≤ low → halve n keys key low high ≡ low
+  -- where one place is left, or none, it stays
+  pub halve-rest : (n from size : ℕ) → size ≤ 1 → halve n keys key from size ≡ from
   unfolding halve
-  halve-met zero low high met = refl
-  halve-met (suc n) low high met = rw (le-ltb low high met) (halve-met n low ((low + high) / 2) (omega arith))
+  halve-rest zero from size h = refl
+  halve-rest (suc n) from size h =
+      let none : size / 2 ≡ 0 = omega arith in
+      let same : from + 0 ≡ from = omega arith in
+      let all : size - 0 ≡ size = omega arith in
+      let rest = halve-rest n from size h in
+      rw (none, same, all) (go (ltb (getD keys from 0) key) rest)
+    where
+      go : (b : Bool) → halve n keys key from size ≡ from → halve n keys key (cond b from from) size ≡ from
+      go true e = e
+      go false e = e
 
-  -- Halvings past as many as there are places change nothing, since each takes a place away.
-  halve-once-more : (n low high : ℕ) → high ≤ low + n → halve (suc n) keys key low high ≡ halve n keys key low high
+  -- two numbers of halvings that are both enough end alike
+  halve-enough : (k n from size : ℕ) → size ≤ k + 1 → size ≤ n + 1 → halve k keys key from size ≡ halve n keys key from size
   unfolding halve
-  halve-once-more zero low high h = halve-met 1 low high (omega arith)
-  halve-once-more (suc n) low high h =
-      let middle : ℕ = (low + high) / 2 in
-      let right : Bool = ltb low high && ltb (getD keys middle 0) key in
-      let apart : (right ≡ true → low < high) = λ e. ltb-true low high (and-eq-true-iff (ltb low high) (ltb (getD keys middle 0) key) .0 e .0) in
-      halve-once-more n (cond right (middle + 1) low) (cond right high middle) (part-is-smaller n low high right apart h)
+  halve-enough zero n from size h g = sym (halve-rest n from size (omega arith))
+  halve-enough (suc k) zero from size h g = halve-rest (suc k) from size (omega arith)
+  halve-enough (suc k) (suc n) from size h g = halve-enough k n _ (size - size / 2) (omega arith) (omega arith)
 
-  -- A turn of the search whose middle key is smaller goes on to the right of the middle.
-  pub halve-right : (n low high : ℕ) → high ≤ low + n → low < high → getD keys ((low + high) / 2) 0 < key
-      → halve n keys key low high ≡ halve n keys key ((low + high) / 2 + 1) high
+  -- one more changes nothing where the number is enough: so a halving made by hand leads on to the same place
+  pub halve-once : (n from size : ℕ) → size ≤ n + 1
+      → halve n keys key from size ≡ halve n keys key (cond (ltb (getD keys (from + size / 2) 0) key) (from + size / 2) from) (size - size / 2)
   unfolding halve
-  halve-right n low high h apart below =
-      rw (lt-ltb low high apart, lt-ltb (getD keys ((low + high) / 2) 0) key below) at (sym (halve-once-more n low high h))
+  halve-once n from size h = halve-enough n (suc n) from size h (omega arith)
 
-  -- Any other turn goes on up to the middle.
-  pub halve-left : (n low high : ℕ) → high ≤ low + n → low < high → key ≤ getD keys ((low + high) / 2) 0
-      → halve n keys key low high ≡ halve n keys key low ((low + high) / 2)
-  unfolding halve
-  halve-left n low high h apart below =
-      rw (lt-ltb low high apart, le-ltb (getD keys ((low + high) / 2) 0) key below) at (sym (halve-once-more n low high h))
+  -- one halving
+  pub leads-once : (left : Left) (from : ℕ) → 1 ≤ left .size
+      → from ≡ cond (ltb (getD keys (left .from + left .size / 2) 0) key) (left .from + left .size / 2) (left .from)
+      → Leads keys key left (record { from = from; size = left .size - left .size / 2 })
+  leads-once left from some e = record {
+    same = λ n h. rw e (halve-once n (left .from) (left .size) h);
+    some = omega arith;
+    fewer = omega arith;
+    inside = rw e (chosen (ltb (getD keys (left .from + left .size / 2) 0) key));
+  }
+    where
+      chosen : (b : Bool) → cond b (left .from + left .size / 2) (left .from) + (left .size - left .size / 2) ≤ left .from + left .size
+      chosen true = omega arith
+      chosen false = omega arith
+
+  -- one halving after another
+  pub leads-trans : (a b c : Left) → Leads keys key a b → Leads keys key b c → Leads keys key a c
+  leads-trans a b c p q = record {
+    same = λ n h. p .same n h ∙ q .same n (omega (arith, p .fewer));
+    some = q .some;
+    fewer = omega (arith, p .fewer, q .fewer);
+    inside = omega (arith, p .inside, q .inside);
+  }

@@ -7,14 +7,14 @@ use mathlib.Core.List.{List}
 use borrow.Author.Tests.{le-leb, lt-leb}
 use lib.ListN.{length, getD, set}
 use lib.Dec.{ltb, eqb}
-use Rattle.model.specs.Store.{Store, room, inUse, halve, keyPlace, holds, lookUp, insert, remove, replace, shiftUp, shiftDown}
+use Rattle.model.specs.Store.{Store, room, inUse, placeAmong, keyPlace, holds, lookUp, insert, remove, replace, shiftUp, shiftDown}
 use Rattle.store.specs.declared.Found.{Found}
 use Rattle.store.specs.Lists.{storeOf}
 use Rattle.store.specs.Find.{Finds}
 use Rattle.model.specs.Proof.Formed.Store.{held-in-use}
 
 -- Steps that go as the definitions do find what the definitions say: each result is put for the one before.
-pub finds : (key : ℕ) (st : Store) (found : Found) → found .in_use ≡ inUse st → found .at ≡ halve (found .in_use) (st .keys) key 0 (found .in_use)
+pub finds : (key : ℕ) (st : Store) (found : Found) → found .in_use ≡ inUse st → found .at ≡ placeAmong (found .in_use) (st .keys) key
     → found .at ≤ found .in_use → found .held ≡ (ltb (found .at) (found .in_use) && eqb (getD (st .keys) (found .at) 0) key)
     → Finds key st found
 unfolding inUse keyPlace holds

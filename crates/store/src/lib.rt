@@ -1,14 +1,14 @@
 // The sorted store on two lists that the caller lends, with the count of places in use. Each function is defined for any
 // contents and any count.
 ghost use mathlib.Core.Path.{_≡_};
-ghost use mathlib.Core.Bool.{_&&_};
-ghost use Prim.Native.Nat.{min, _<_, _≤_};
+ghost use mathlib.Core.Bool.{cond, _&&_};
+ghost use Prim.Native.Nat.{min, _+_, _-_, _*_, _/_, _<_, _≤_};
 ghost use lib.ListN.{length, getD};
 ghost use lib.Dec.{ltb, eqb};
 ghost use Rattle.model.specs.Store.{inUse, lookUp, insert as inserted, remove as removed, replace as replaced};
-ghost use Rattle.model.specs.Store.{halve, shiftUp, shiftDown};
+ghost use Rattle.model.specs.Store.{placeAmong, shiftUp, shiftDown};
 ghost use Rattle.store.specs.Lists.{storeOf};
-ghost use Rattle.store.specs.Find.{Finds};
+ghost use Rattle.store.specs.Find.{Finds, Leads};
 
 // What the search for a key finds: how many places are in use, where the key stands, or belongs where it is absent, and
 // whether it stands there.
@@ -33,23 +33,80 @@ pub fn in_use(keys: &[u64], chutes: &[u16], used: usize) -> usize
     smaller(used, smaller(keys.len(), chutes.len()))
 }
 
+// The places left to a search: so many, from one on.
+struct Left {
+    from: usize,
+    size: usize,
+}
+
+// The first of two numbers, or the second.
+fn either(first: bool, a: usize, b: usize) -> usize
+    ensures { λ r. ⌜ r ≡ cond first a b ⌝ }
+{
+    if first { a } else { b }
+}
+
+// One halving of what is left.
+fn halved(keys: &[u64], left: Left, key: u64) -> Left
+    requires { ⌜ (1 ≤ left .size) × (left .from + left .size ≤ length (now keys)) ⌝ }
+    ensures { λ r. ⌜ Leads (now (keys .entry)) key left r × (r .size ≡ left .size - left .size / 2) ⌝ }
+{
+    let from = left.from;
+    let half = left.size / 2;
+    let middle = from + half;
+    Left {
+        from: either(keys[middle] < key, middle, from),
+        size: left.size - half,
+    }
+}
+
+// Three halvings. They are written out, and not a loop, so that each is compiled to a choice between two numbers and not to a jump: which way
+// a search goes cannot be foretold.
+fn thrice(keys: &[u64], left: Left, key: u64) -> Left
+    requires { ⌜ (1 ≤ left .size) × (left .from + left .size ≤ length (now keys)) ⌝ }
+    ensures { λ r. ⌜ Leads (now (keys .entry)) key left r × (8 * r .size ≤ left .size + 7) ⌝ }
+{
+    let once = halved(keys, left, key);
+    let twice = halved(keys, once, key);
+    halved(keys, twice, key)
+}
+
+// Three halvings where more than so many are left, an eighth of which is to be left then.
+fn narrowed(keys: &[u64], left: Left, most: usize, key: u64) -> Left
+    requires { ⌜ (1 ≤ left .size) × (left .from + left .size ≤ length (now keys)) × (left .size ≤ 8 * most) ⌝ }
+    ensures { λ r. ⌜ Leads (now (keys .entry)) key left r × (r .size ≤ most) ⌝ }
+{
+    if left.size <= most {
+        return left;
+    }
+    thrice(keys, left, key)
+}
+
+// A place, or the one behind it if its key is smaller.
+fn behind(keys: &[u64], at: usize, key: u64) -> usize
+    requires { ⌜ at < length (now keys) ⌝ }
+    ensures { λ r. ⌜ r ≡ cond (ltb (getD (now (keys .entry)) at 0) key) (at + 1) at ⌝ }
+{
+    either(keys[at] < key, at + 1, at)
+}
+
 // Where a key stands in the first n places, or belongs where it is absent: binary search.
 fn place(keys: &[u64], n: usize, key: u64) -> usize
     requires { ⌜ n ≤ length (now keys) ⌝ }
-    ensures found { λ r. ⌜ r ≡ halve n (now (keys .entry)) key 0 n ⌝ }
+    ensures found { λ r. ⌜ r ≡ placeAmong n (now (keys .entry)) key ⌝ }
     ensures within { λ r. ⌜ r ≤ n ⌝ }
 {
-    let mut low = 0;
-    let mut high = n;
-    while low < high {
-        let middle = (low + high) / 2;
-        if keys[middle] < key {
-            low = middle + 1;
-        } else {
-            high = middle;
-        }
+    if n == 0 {
+        return 0;
     }
-    low
+    let mut left = Left { from: 0, size: n };
+    while left.size > 512 {
+        left = halved(keys, left, key);
+    }
+    let few = narrowed(keys, left, 64, key);
+    let fewer = narrowed(keys, few, 8, key);
+    let last = thrice(keys, fewer, key);
+    behind(keys, last.from, key)
 }
 
 // Whether the key stands at the place, which must be one of the first n for that.

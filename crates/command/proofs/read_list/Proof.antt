@@ -2,13 +2,15 @@
 -- list's; and so is the largest count from there on, of `largest` and the commands. Assumes nothing.
 use Prim.Native.Nat.{ℕ, _+_, _-_, _≤_}
 use mathlib.Core.Path.{_≡_, refl, sym, ap, _∙_}
-use mathlib.Core.List.{List, _∷_, map}
+use mathlib.Core.List.{List, _∷_}
 use native.Mathlib.Omega.{arith}
 use borrow.Author.Needs.{needs}
-use lib.ListN.{length, drop, drop-of-length-le}
-use Rattle.command.specs.Read.{CommandOutcome, commandOutcome, parts, partsOf, readings, firstRefusal, commandFrom, commandsIn}
+use lib.ListN.{length, take, drop, drop-of-length-le}
+use Rattle.command.specs.Read.{commandOutcome, parts, partsOf, readings, firstRefusal, commandIn, commandsIn}
 use Rattle.command.specs.Count.{largestCount}
-use Rattle.command.proofs.Parts.{readings-from}
+use Rattle.command.specs.declared.Command.{Command}
+use Rattle.command.proofs.Laws.{accepted-as-untested}
+use Rattle.command.proofs.Parts.{readings-from, commands-from}
 use Rattle.command.proofs.read_list.Statement.{statement}
 use Rattle.command.proofs.read_list.Tie as tie
 
@@ -32,19 +34,18 @@ next c =
     let list = l .before .before .args .list .now in
     rw (c .read .ensures, e .smaller .ensures, ← readings-from (l .loop .at) list (e .before .loop-test .taken)) (l .loop .inv .1)
 
--- and its command, where it is accepted, before those from its end on
+-- and its command, as its bytes say it, before those from its end on
 counted : (c : tie.After-read Inv-loop μ-loop) →
     let e = c .before .before in
     let l = e .before .before in
     let list = l .before .before .args .list .now in
-    largestCount (l .loop .largest) (commandFrom (commandOutcome (c .read .result)) ∷ commandsIn (drop (e .smaller .result) list)) ≡ largestCount 0 (commandsIn list)
-unfolding commandsIn
+    largestCount (l .loop .largest) (commandIn (take (e .smaller .result - l .loop .at) (drop (l .loop .at) list)) ∷ commandsIn (drop (e .smaller .result) list)) ≡ largestCount 0 (commandsIn list)
 counted c =
     let e = c .before .before in
     let l = e .before .before in
     let list = l .before .before .args .list .now in
-    rw (c .read .ensures, e .smaller .ensures)
-    (ap (λ (rs : List CommandOutcome). largestCount (l .loop .largest) (map commandFrom rs)) (sym (readings-from (l .loop .at) list (e .before .loop-test .taken))) ∙ l .loop .inv .2)
+    rw (e .smaller .ensures)
+    (ap (λ (cs : List Command). largestCount (l .loop .largest) cs) (sym (commands-from (l .loop .at) list (e .before .loop-test .taken))) ∙ l .loop .inv .2)
 
 loop-holds : tie.Need-loop-holds Inv-loop μ-loop
 loop-holds c = (omega arith, refl, refl)
@@ -90,11 +91,15 @@ loop-less : tie.Need-loop-less Inv-loop μ-loop
 loop-less c = omega arith
 
 loop-again : tie.Need-loop-again Inv-loop μ-loop
-unfolding firstRefusal largestCount commandFrom
+unfolding firstRefusal largestCount
 loop-again c =
     let k = c .before .before .before in
     let r = k .before .before in
-    (omega arith, rw (k .reading .given .1) at (next r), rw (c .larger .ensures, c .before .count-after .ensures) (rw (k .reading .given .1) at (counted r)))
+    let e = r .before .before in
+    let l = e .before .before in
+    let part = take (e .smaller .result - l .loop .at) (drop (l .loop .at) (l .before .before .args .list .now)) in
+    let read = accepted-as-untested part _ (sym (r .read .ensures) ∙ ap commandOutcome (k .reading .given .1)) in
+    (omega arith, rw (k .reading .given .1) at (next r), rw (c .larger .ensures, c .before .count-after .ensures) (rw read at (counted r)))
 
 returns-2 : tie.Need-returns-2 Inv-loop μ-loop
 unfolding firstRefusal readings partsOf parts commandsIn largestCount

@@ -9,9 +9,9 @@ use mathlib.Core.List.{List, [], _∷_, _++_, map, append-assoc, map-append}
 use lib.ListN.{length, getD, set, replicate, length-append, length-map, length-replicate}
 use lib.Seq.{getD-append-add, take-append-seam, drop-append-seam, drop-append-add, take-at, drop-at, getD-at, set-at}
 use lib.Dec.{eqb, ltb}
-use borrow.Author.Tests.{ltb-true, ltb-false, lt-ltb, le-ltb, lt-leb, eq-eqb, ne-eqb}
+use borrow.Author.Tests.{ltb-true, ltb-false, lt-ltb, le-ltb, lt-leb, eq-eqb, ne-eqb, eqb-true, eqb-false}
 use Rattle.model.specs.Serial.{Entry, present, chuteAt, putIn, takeOut, setChute}
-use Rattle.model.specs.Store.{Store, layOut, room, inUse, halve, keyPlace, holds, lookUp, shiftUp, shiftDown, insert, remove, replace}
+use Rattle.model.specs.Store.{Store, layOut, room, inUse, halve, placeAmong, keyPlace, holds, lookUp, shiftUp, shiftDown, insert, remove, replace}
 use Rattle.model.specs.Proof.Serial.{all-map, chuteAt-absent}
 use Rattle.model.specs.Serial.{All, Ascending}
 
@@ -43,25 +43,47 @@ module _ (keys : List ℕ) (key p m : ℕ) (smaller : (i : ℕ) → i < p → ge
   pub not-left-of : (i : ℕ) → key ≤ getD keys i 0 → p ≤ i
   not-left-of i s = ⊎-elim (λ h. absurd (omega (arith, smaller i h))) (λ h. h) (lt-or-le i p)
 
-  -- Halving finds p: p stays between low and high, and each halving brings them nearer by one at least, until they meet.
-  pub halve-finds : (n low high : ℕ) → low ≤ p → p ≤ high → high ≤ m → high ≤ low + n → halve n keys key low high ≡ p
+  -- Halving finds the last of the first p, the first place where there is none: p stays at most one past the places left, and these begin with
+  -- one of the first p or with the first place.
+  record Last (at : ℕ) : Type 0 where
+    inside : at < m
+    near : p ≤ at + 1
+    smaller-or-first : (at < p) ⊎ (at ≡ 0)
+
+  halve-finds : (n from size : ℕ) → 1 ≤ size → size ≤ n + 1 → from + size ≤ m → p ≤ from + size → (from < p) ⊎ (from ≡ 0) → Last (halve n keys key from size)
   unfolding halve
-  halve-finds zero low high l h f d = omega arith
-  halve-finds (suc n) low high l h f d = step (ltb low high) _ refl refl (halve-finds n)
+  halve-finds zero from size s d f h l = record { inside = omega arith; near = omega arith; smaller-or-first = l }
+  halve-finds (suc n) from size s d f h l = step (ltb (getD keys middle 0) key) refl (halve-finds n)
     where
       middle : ℕ
-      middle = (low + high) / 2
+      middle = from + size / 2
 
-      step : (a b : Bool) → ltb low high ≡ a → ltb (getD keys middle 0) key ≡ b
-          → ((l h : ℕ) → l ≤ p → p ≤ h → h ≤ m → h ≤ l + n → halve n keys key l h ≡ p)
-          → halve n keys key (cond (a && b) (middle + 1) low) (cond (a && b) high middle) ≡ p
-      step true true s t go =
-          let r = ltb-true low high s in
-          go _ _ (omega (arith, left-of middle (omega arith) (ltb-true _ _ t))) h f (omega arith)
-      step true false s t go =
-          let r = ltb-true low high s in
-          go _ _ l (not-left-of middle (ltb-false _ _ t)) (omega arith) (omega arith)
-      step false b s t go = let r = ltb-false low high s in go _ _ l (omega arith) (omega arith) (omega arith)
+      step : (b : Bool) → ltb (getD keys middle 0) key ≡ b
+          → ((f z : ℕ) → 1 ≤ z → z ≤ n + 1 → f + z ≤ m → p ≤ f + z → (f < p) ⊎ (f ≡ 0) → Last (halve n keys key f z))
+          → Last (halve n keys key (cond b middle from) (size - size / 2))
+      step true t go =
+          go middle (size - size / 2) (omega arith) (omega arith) (omega arith) (omega arith) (inl (left-of middle (omega arith) (ltb-true _ _ t)))
+      step false t go =
+          let r = not-left-of middle (ltb-false _ _ t) in
+          go from (size - size / 2) (omega arith) (omega arith) (omega arith) (omega arith) l
+
+  -- So the place is p.
+  pub place-finds : p ≤ m → placeAmong m keys key ≡ p
+  unfolding placeAmong
+  place-finds h = by (eqb m 0) refl
+    where
+      last : ℕ
+      last = halve m keys key 0 m
+
+      chosen : (b : Bool) → ltb (getD keys last 0) key ≡ b → Last last → cond b (last + 1) last ≡ p
+      chosen true t l = omega (arith, l .near, left-of last (l .inside) (ltb-true _ _ t))
+      chosen false t l = let r = not-left-of last (ltb-false _ _ t) in ⊎-elim (λ q. absurd (omega arith)) (λ q. omega arith) (l .smaller-or-first)
+
+      by : (b : Bool) → eqb m 0 ≡ b → cond b 0 (cond (ltb (getD keys last 0) key) (last + 1) last) ≡ p
+      by true e = omega (arith, eqb-true m 0 e)
+      by false e =
+          let some = eqb-false m 0 e in
+          chosen _ refl (halve-finds m 0 m (omega arith) (omega arith) (omega arith) (omega arith) (inr refl))
 
 -- Shifting, on a list that is written as its parts: a before the place, b from there to the last place in use, z past them.
 module _ (a b z : List ℕ) (p n : ℕ) (here : length a ≡ p) where
@@ -257,7 +279,7 @@ placeOf-layOut capacity key front back fits s g =
     let n = length (front ++ back) in
     let long = length-append front back in
     rw (inUse-layOut capacity (front ++ back) fits)
-    (halve-finds (laid keyOf capacity (front ++ back)) key (length front) n smaller others n 0 n (omega arith) (omega arith) (omega arith) (omega arith))
+    (place-finds (laid keyOf capacity (front ++ back)) key (length front) n smaller others (omega arith))
   where
     smaller : (i : ℕ) → i < length front → getD (laid keyOf capacity (front ++ back)) i 0 < key
     smaller i l = rw (laid-parts keyOf capacity front back) (all-at keyOf (λ (k : ℕ). k < key) front _ s i l)

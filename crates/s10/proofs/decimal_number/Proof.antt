@@ -1,66 +1,57 @@
--- `s10::decimal_number` meets its contract. The loop's invariant: the number so far and the digits from `k` on write the whole number.
--- Assumes nothing.
-use Prim.Native.Nat.{ℕ, _+_, _*_, _-_, _≤_, _<_}
-use mathlib.Core.Path.{_≡_, refl}
-use mathlib.Core.List.{List}
+-- `s10::decimal_number` meets its contract. The loop's invariant: the number so far and the digits from `k` on write the whole number, and k
+-- digits, each at most 255, write less than 29 × 10 ^ k. Assumes nothing.
+use Prim.Native.Nat.{ℕ, _+_, _*_, _-_, _^_, _≤_, _<_}
+use mathlib.Core.Path.{_≡_, refl, sym, _∙_}
+use native.Mathlib.Nat.{pow-suc, pow-le-pow-right}
+use native.Mathlib.Numerals.{add-one}
 use native.Mathlib.Omega.{arith}
+use borrow.Author.Needs.{needs}
 use lib.ListN.{length, drop, getD, drop-of-length-le}
 use Rattle.s10.specs.Text.{decimalNumber}
-use Rattle.s10.specs.Parts.{Serial, Between, values}
-use Rattle.s10.proofs.Decimal.{decimal-step, decimal-ge}
-use Rattle.s10.proofs.Values.{length-values, getD-values, serial-number-below}
+use Rattle.s10.specs.Parts.{values}
+use Rattle.s10.proofs.Decimal.{decimal-step}
+use Rattle.s10.proofs.Values.{length-values, getD-values}
 use Rattle.s10.proofs.decimal_number.Statement.{statement}
 use Rattle.s10.proofs.decimal_number.Tie as tie
 
 abbrev Inv-loop : tie.InvT-loop
-Inv-loop digits n₀ k₀ n k = (k ≤ length digits) × (decimalNumber n (drop k (values digits)) ≡ decimalNumber 0 (values digits))
+Inv-loop digits n₀ k₀ n k =
+    (k ≤ length digits) × (decimalNumber n (drop k (values digits)) ≡ decimalNumber 0 (values digits)) × (n + 29 ≤ 29 * 10 ^ k)
 
 abbrev μ-loop : tie.MeasureT-loop
 μ-loop digits n₀ k₀ n k = length digits - k
 
--- one more digit in the number
-abbrev Step : List ℕ → ℕ → ℕ → Type 0
-Step text n k =
-    (decimalNumber (n * 10 + (getD text k 0 - 48)) (drop (k + 1) (values text)) ≡ decimalNumber 0 (values text))
-    × (n * 10 + (getD text k 0 - 48) < 100_000_000)
-
--- the k-th digit goes over to the number, which stays under its bound
-number-step : (text : List ℕ) (n k : ℕ) → Serial text → k < length text → decimalNumber n (drop k (values text)) ≡ decimalNumber 0 (values text) →
-    Step text n k
-number-step text n k s h inv =
-    let long = length-values text in
-    let bound = serial-number-below text s in
-    let step = rw (getD-values text k) at (decimal-step n (values text) k (omega arith)) in
-    let grown = decimal-ge (n * 10 + (getD text k 0 - 48)) (drop (k + 1) (values text)) in
+-- so many digits write at most this
+below : (k n : ℕ) → k ≤ 8 → n + 29 ≤ 29 * 10 ^ k → n ≤ 2_900_000_000
+below k n h b =
+    let p : 10 ^ k ≤ 10 ^ 8 = pow-le-pow-right (omega arith) h in
+    let q : 10 ^ 8 ≡ 100_000_000 = refl in
     omega arith
 
--- the character at k is a digit
-digit : (c : tie.In-loop Inv-loop μ-loop) →
-    Between 48 57 (getD (c .before .before .args .digits .now) (c .before .loop .k) 0)
-digit c = c .before .before .pre .digit (c .before .loop .k) (c .loop-test .taken)
-
-next : (c : tie.In-loop Inv-loop μ-loop) → Step (c .before .before .args .digits .now) (c .before .loop .n) (c .before .loop .k)
-next c =
-    let s = c .before .before in
-    number-step (s .args .digits .now) _ _ (s .pre) (c .loop-test .taken) (c .before .loop .inv .1)
+-- one more
+grown : (k n d : ℕ) → n + 29 ≤ 29 * 10 ^ k → d ≤ 255 → n * 10 + d + 29 ≤ 29 * 10 ^ (k + 1)
+grown k n d b h = let p : 10 ^ (k + 1) ≡ 10 ^ k * 10 = rw (add-one, pow-suc) in omega arith
 
 loop-holds : tie.Need-loop-holds Inv-loop μ-loop
-loop-holds c = (omega arith, refl)
+loop-holds c = (omega arith, refl, omega arith)
 
 mul-n : tie.Need-mul-n Inv-loop μ-loop
-mul-n c = omega (arith, next c .1)
+mul-n c =
+    let i = c .before .loop .inv in
+    let b = below (c .before .loop .k) (c .before .loop .n) (omega (arith, c .before .before .before .pre, i .0)) (i .2) in
+    omega arith
 
-shared-slice-read-n : tie.Need-shared-slice-read-n Inv-loop μ-loop
-shared-slice-read-n c = omega arith
+shared-slice-read-above : tie.Need-shared-slice-read-above Inv-loop μ-loop
+shared-slice-read-above c = c .before .loop-test .taken
 
-sub-n : tie.Need-sub-n Inv-loop μ-loop
-sub-n c = digit (c .before) .0
-
-cast-n : tie.Need-cast-n Inv-loop μ-loop
-cast-n c = omega (arith, digit (c .before))
+above-requires : tie.Need-above-requires Inv-loop μ-loop
+above-requires c κs = search needs
 
 add-n : tie.Need-add-n Inv-loop μ-loop
-add-n c = omega (arith, next (c .before) .1)
+add-n c =
+    let l = c .before .before .before in
+    let b = below (l .loop .k) (l .loop .n) (omega (arith, l .before .before .pre, l .loop .inv .0)) (l .loop .inv .2) in
+    omega (arith, c .above .ensures .1)
 
 add-k : tie.Need-add-k Inv-loop μ-loop
 add-k c = omega arith
@@ -69,17 +60,23 @@ loop-less : tie.Need-loop-less Inv-loop μ-loop
 loop-less c = omega arith
 
 loop-again : tie.Need-loop-again Inv-loop μ-loop
-loop-again c = (omega arith, next (c .before) .0)
+loop-again c =
+    let l = c .before .before .before in
+    let digits = l .before .before .args .digits .now in
+    let inside = c .before .before .loop-test .taken in
+    let long = length-values digits in
+    let step = rw (getD-values digits (l .loop .k)) at (decimal-step (l .loop .n) (values digits) (l .loop .k) (omega arith)) in
+    (omega arith, rw (c .above .ensures .0) (sym step ∙ l .loop .inv .1), grown (l .loop .k) (l .loop .n) (c .above .result) (l .loop .inv .2) (c .above .ensures .1))
 
 returns : tie.Need-returns Inv-loop μ-loop
 unfolding decimalNumber
 returns c =
-    let s = c .before .before in
-    let long = length-values (s .args .digits .now) in
-    let bound = serial-number-below (s .args .digits .now) (s .pre) in
-    let none = drop-of-length-le (values (s .args .digits .now)) {i = c .before .loop .k} (omega arith) in
-    let whole = rw none at (c .before .loop .inv .1) in
-    (whole, omega arith)
+    let i = c .before .loop .inv in
+    let digits = c .before .before .before .args .digits .now in
+    let long = length-values digits in
+    let none = drop-of-length-le (values digits) {i = c .before .loop .k} (omega arith) in
+    let whole = rw none at (i .1) in
+    (whole, below (c .before .loop .k) (c .before .loop .n) (omega arith) (i .2))
 
 pub decimal-number-spec : {M : Type 1} → statement M
 decimal-number-spec =
@@ -89,9 +86,8 @@ decimal-number-spec =
     μ-loop
     loop-holds
     mul-n
-    shared-slice-read-n
-    sub-n
-    cast-n
+    shared-slice-read-above
+    above-requires
     add-n
     add-k
     loop-less

@@ -1,36 +1,30 @@
--- `s10::pair_number` meets its contract: letters from A to Z count 0 to 25. Assumes nothing.
-use mathlib.Core.Path.{refl}
+-- `s10::pair_number` meets its contract: each letter counts from A on. Assumes nothing.
 use native.Mathlib.Omega.{arith}
 use borrow.Author.Needs.{needs}
 use Rattle.s10.specs.Text.{pair}
 use Rattle.s10.proofs.pair_number.Statement.{statement}
 use Rattle.s10.proofs.pair_number.Tie as tie
-use Rattle.s10.proofs.pair_number.Reads as reads
-use Rattle.s10.proofs.pair_number.Lts as lts
 
-sub-result : tie.Need-sub-result
-sub-result c = search needs
-
-cast-result : tie.Need-cast-result
-cast-result c = search needs
+above-requires : tie.Need-above-requires
+above-requires c κs = search needs
 
 mul-result : tie.Need-mul-result
-mul-result c = search needs
+mul-result c = omega (arith, c .above .ensures .1)
 
-sub-result-2 : tie.Need-sub-result-2
-sub-result-2 c = search needs
-
-cast-result-2 : tie.Need-cast-result-2
-cast-result-2 c = search needs
+above-requires-2 : tie.Need-above-requires-2
+above-requires-2 c κs = search needs
 
 add-result : tie.Need-add-result
-add-result c = search needs
+add-result c = omega (arith, c .before .above .ensures .1, c .above2 .ensures .1)
 
 returns : tie.Need-returns
 unfolding pair
-returns c = (refl, omega arith)
+returns c =
+    let a = c .before .above .ensures in
+    let b = c .above2 .ensures in
+    (rw (a .0, b .0), omega (arith, a .1, b .1))
 
 pub pair-number-spec : {M : Type 1} → statement M
 pair-number-spec =
     tie.close
-    (tie.spec sub-result cast-result mul-result sub-result-2 cast-result-2 add-result returns)
+    (tie.spec above-requires mul-result above-requires-2 add-result returns)

@@ -8,11 +8,11 @@ use mathlib.Core.List.{List, [], _∷_, _++_, map}
 use lib.ListN.{length, getD, take, drop, set, replicate, length-append, length-take, length-drop, length-set}
 use lib.Seq.{getD-drop}
 use lib.Dec.{eqb, leb, ltb}
-use borrow.Author.Tests.{ltb-true, leb-false}
+use borrow.Author.Tests.{ltb-true, leb-false, eqb-false}
 use Rattle.command.specs.declared.Kind.{Kind}
 use Rattle.command.specs.declared.Kind.the-variants.{Insert, Delete, Read, Update, Workers, Checkpoint}
 use Rattle.model.specs.Serial.{Entry, All, Stored}
-use Rattle.model.specs.Store.{Store, layOut, room, inUse, halve, keyPlace, holds, lookUp, shiftUp, shiftDown, insert, remove, replace}
+use Rattle.model.specs.Store.{Store, layOut, room, inUse, halve, placeAmong, keyPlace, holds, lookUp, shiftUp, shiftDown, insert, remove, replace}
 use Rattle.model.specs.Service.{Write, writeKind}
 use Rattle.model.specs.Proof.Tests.{cond-cases}
 use Rattle.model.specs.Proof.Store.{keyOf, chuteOf, length-laid}
@@ -55,24 +55,31 @@ set-fit (x ∷ l) (suc p) v f h i = cons-fit x (set l p v) (h 0) (set-fit l p v 
 
 -- ---- the search and the shifts
 
--- halving ends no higher than it begins, since the middle lies between low and high
-pub halve-within : (keys : List ℕ) (key n low high : ℕ) → low ≤ high → halve n keys key low high ≤ high
+-- halving ends among the places that it begins with, since the middle is one of them
+pub halve-within : (keys : List ℕ) (key n from size : ℕ) → 1 ≤ size → halve n keys key from size < from + size
 unfolding halve
-halve-within keys key zero low high h = h
-halve-within keys key (suc n) low high h = by (ltb low high) _ refl (halve-within keys key n)
+halve-within keys key zero from size h = omega arith
+halve-within keys key (suc n) from size h = by (ltb (getD keys (from + size / 2) 0) key) (halve-within keys key n)
   where
-    middle : ℕ
-    middle = (low + high) / 2
+    by : (b : Bool) → ((f s : ℕ) → 1 ≤ s → halve n keys key f s < f + s) → halve n keys key (cond b (from + size / 2) from) (size - size / 2) < from + size
+    by true go = omega (arith, go (from + size / 2) (size - size / 2) (omega arith))
+    by false go = omega (arith, go from (size - size / 2) (omega arith))
 
-    by : (a b : Bool) → ltb low high ≡ a → ((l m : ℕ) → l ≤ m → halve n keys key l m ≤ m)
-        → halve n keys key (cond (a && b) (middle + 1) low) (cond (a && b) high middle) ≤ high
-    by true true e go = let r = ltb-true low high e in go (middle + 1) high (omega arith)
-    by true false e go = omega (arith, go low middle (omega arith))
-    by false b e go = omega (arith, go low middle (omega arith))
+pub place-within : (n : ℕ) (keys : List ℕ) (key : ℕ) → placeAmong n keys key ≤ n
+unfolding placeAmong
+place-within n keys key = by (eqb n 0) refl (ltb (getD keys last 0) key)
+  where
+    last : ℕ
+    last = halve n keys key 0 n
+
+    by : (e : Bool) → eqb n 0 ≡ e → (b : Bool) → cond e 0 (cond b (last + 1) last) ≤ n
+    by true q b = omega arith
+    by false q true = let some = eqb-false n 0 q in omega (arith, halve-within keys key n 0 n (omega arith))
+    by false q false = let some = eqb-false n 0 q in omega (arith, halve-within keys key n 0 n (omega arith))
 
 pub placeOf-within : (key : ℕ) (st : Store) → keyPlace key st ≤ inUse st
 unfolding keyPlace
-placeOf-within key st = halve-within (st .keys) key (inUse st) 0 (inUse st) (omega arith)
+placeOf-within key st = place-within (inUse st) (st .keys) key
 
 -- a key that is held has a place in use
 pub held-in-use : (key : ℕ) (st : Store) → holds key st ≡ true → keyPlace key st < inUse st

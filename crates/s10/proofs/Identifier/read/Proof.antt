@@ -80,7 +80,7 @@ returns-3 c =
     rw (passed e .0, passed e .1, ne-eqb (getD text 10 0 - 48) (checkDigit (serialDigits text)) (omega arith))
 
 key-of-requires : tie.Need-key-of-requires
-key-of-requires c κs = parts (tested (c .before))
+key-of-requires c κs = parts (tested (c .before)) .long
 
 returns-4 : tie.Need-returns-4
 unfolding readText serialDigits
