@@ -1,5 +1,5 @@
 -- Decimal digits and the number that they write: each is got back from the other, whatever stands before it. Assumes nothing.
-use Prim.Native.Nat.{ℕ, zero, suc, _+_, _*_, _/_, _%_, _^_, _≤_, _<_, suc-le-suc}
+use Prim.Native.Nat.{ℕ, zero, suc, _+_, _*_, _/_, _%_, _^_, _<_, suc-le-suc}
 use mathlib.Core.Path.{_≡_, refl, ap}
 use mathlib.Core.List.{List, [], _∷_}
 use native.Mathlib.Nat.{one-le-pow, pow-suc, pow-succ', div-one, div-div-eq-div-mul, div-lt-iff-lt-mul, mod-lt, not-suc-le-zero}
@@ -59,12 +59,6 @@ decimal-from n (d ∷ ds) =
 pub decimal-step : (n : ℕ) (ds : List ℕ) (k : ℕ) → k < length ds → decimalNumber n (drop k ds) ≡ decimalNumber (n * 10 + getD ds k 0) (drop (k + 1) ds)
 unfolding decimalNumber
 decimal-step n ds k h = rw (add-one, drop-cons ds k 0 h)
-
--- a number grows by the digits that follow
-pub decimal-ge : (n : ℕ) (ds : List ℕ) → n ≤ decimalNumber n ds
-unfolding decimalNumber
-decimal-ge n [] = omega arith
-decimal-ge n (d ∷ ds) = let later = decimal-ge (n * 10 + d) ds in omega arith
 
 -- the last digits of what digits write are these digits
 pub digits-decimal : (n : ℕ) (ds : List ℕ) → AllBelow 10 ds → digits (length ds) (decimalNumber n ds) ≡ ds

@@ -1,13 +1,13 @@
 -- A well-formed text from its key: each part of the text is a part of the key. Assumes nothing.
-use Prim.Native.Nat.{ℕ, _+_, _-_, _*_, _/_, _%_, _≤_, _<_}
+use Prim.Native.Nat.{ℕ, zero, suc, _+_, _-_, _*_, _/_, _%_, _≤_, _<_, suc-le-suc}
 use mathlib.Core.Path.{_≡_, refl, sym, _∙_}
 use mathlib.Core.List.{List, [], _∷_, _++_, append-assoc}
 use native.Mathlib.Nat.{div-div-eq-div-mul}
 use native.Mathlib.Omega.{arith}
 use lib.ListN.{length, getD, take, drop, take-append-drop, drop-of-length-le}
 use lib.Seq.{drop-cons, drop-drop}
-use Rattle.s10.specs.Text.{serialDigits, checkDigit, pair, decimalNumber, keyOf, letters, digits, textOf, largestKey}
-use Rattle.s10.specs.Parts.{Between, WellFormed, characters, serialText}
+use Rattle.s10.specs.Text.{serialDigits, checkDigit, pair, decimalNumber, keyOf, characterSum, leastSum, letters, digits, textOf, largestKey}
+use Rattle.s10.specs.Parts.{Between, WellFormed, values, characters, serialText}
 use Rattle.s10.proofs.Decimal.{AllBelow, decimal-div, decimal-from, digits-decimal}
 use Rattle.s10.proofs.Values.{length-values, values-below, serial-number-below, characters-values}
 use Rattle.s10.proofs.TextOf.{text-of-parts}
@@ -20,6 +20,22 @@ text-split text long =
     let tail : drop 8 (drop 2 text) ≡ getD text 10 0 ∷ getD text 11 0 ∷ getD text 12 0 ∷ [] =
     drop-drop 8 2 text ∙ rw (drop-cons text 10 0 (omega arith), drop-cons text 11 0 (omega arith), drop-cons text 12 0 (omega arith), end) in
     rw (← tail, take-append-drop, ← drop-cons text 1 0 (omega arith), ← drop-cons text 0 0 (omega arith))
+
+-- k digits 0, behind n
+digitsZero : ℕ → ℕ → ℕ
+digitsZero zero n = n
+digitsZero (suc k) n = digitsZero k (n * 10 + 48)
+
+-- digits as characters write what they write as numbers, and what as many digits 0 write
+sum-of-digits : (n m : ℕ) (cs : List ℕ) → ((k : ℕ) → k < length cs → Between 48 57 (getD cs k 0)) →
+    decimalNumber (n + m) cs ≡ decimalNumber n (values cs) + digitsZero (length cs) m
+unfolding decimalNumber digitsZero
+sum-of-digits n m [] all = refl
+sum-of-digits n m (c ∷ cs) all =
+    let digit : Between 48 57 c = all 0 (omega arith) in
+    let rest = sum-of-digits (n * 10 + (c - 48)) (m * 10 + 48) cs (λ k h. all (suc k) (suc-le-suc h)) in
+    let same : (n + m) * 10 + c ≡ n * 10 + (c - 48) + (m * 10 + 48) = omega arith in
+    rw same rest
 
 -- the letters of a pair's number are the pair
 letters-pair : (a b : ℕ) → Between 65 90 a → Between 65 90 b → letters (pair a b) ≡ a ∷ b ∷ []
@@ -76,6 +92,13 @@ module _ (text : List ℕ) (w : WellFormed text) where
       let s = serial-below in
       let l = last-below in
       rw key-of-parts (omega arith)
+
+  -- the characters' sum is the key and what A and 0 add to it
+  pub sum-of-key : characterSum text - leastSum ≡ keyOf text
+  unfolding characterSum leastSum serialDigits pair digitsZero
+  sum-of-key =
+      let serial = rw (w .serial .long) at (sum-of-digits 0 0 (take 8 (drop 2 text)) (w .serial .digit)) in
+      rw key-of-parts (omega (arith, w .first, w .last))
 
   -- without its last pair the key is the first pair with the serial digits written after it
   without-last : keyOf text / 676 ≡ decimalNumber (first-pair text) (serialDigits text)

@@ -14,7 +14,7 @@ use Rattle.s10.specs.Refusal.{Refusal, plain, atCharacter}
 use Rattle.s10.specs.Outcome.{TextOutcome, accepted, refused, faultAt, readText, refusalRead}
 use Rattle.s10.specs.Laws.{WrittenReadsBack, ReadWritesBack, EveryKeyHasText, KeyHasOneText, AcceptedIsAtMostLargest, AcceptedAsUntested, CharacterZero, BeforeIsInOrder, NamedIsFaulty, LaterChangesNothing}
 use Rattle.s10.proofs.Fault.{fault-within, fault-well-formed, allowed-before, fault-at, fault-agrees}
-use Rattle.s10.proofs.KeyOf.{text-of-key, key-at-most-largest}
+use Rattle.s10.proofs.KeyOf.{sum-of-key, text-of-key, key-at-most-largest}
 use Rattle.s10.proofs.TextOf.{length-text, well-formed-written, serial-digits-written, check-written, key-written}
 use Rattle.s10.proofs.WellFormed.{well-formed}
 
@@ -64,20 +64,13 @@ accepted-passed text key e = cases (readText text) (read-by text) e
     cases _ (wrong-check long none) e = let z : _≡_ {A = ℕ} 0 1 = cc in absurd (omega arith)
     cases _ (read long none check) e = record { formed = fault-well-formed text long ∙ eq-eqb _ _ none; check = check; read = cc }
 
--- thirteen characters have the key of the definition
-untested-long : (text : List ℕ) → length text ≡ 13 → untestedKey text ≡ keyOf text
-unfolding untestedKey
-untested-long text long = rw (eq-eqb (length text) 13 long)
-
--- an accepted text's key is the one that it has untested
+-- an accepted text is well-formed, so its sum is its key's
 pub accepted-as-untested : AcceptedAsUntested
-accepted-as-untested text key e = cases (readText text) (read-by text) e
-  where
-    cases : (o : TextOutcome) → Read text o → o ≡ accepted key → untestedKey text ≡ key
-    cases _ (wrong-length short) e = let z : _≡_ {A = ℕ} 0 1 = cc in absurd (omega arith)
-    cases _ (faulty long at) e = let z : _≡_ {A = ℕ} 0 1 = cc in absurd (omega arith)
-    cases _ (wrong-check long none) e = let z : _≡_ {A = ℕ} 0 1 = cc in absurd (omega arith)
-    cases _ (read long none check) e = let same : keyOf text ≡ key = cc in untested-long text long ∙ same
+unfolding untestedKey
+accepted-as-untested text key e =
+    let a = accepted-passed text key e in
+    let w = well-formed text (a .formed) in
+    rw (eq-eqb (length text) 13 (w .long)) (sum-of-key text w ∙ a .read)
 
 -- the parts that were written are allowed, have their check digit, and give the key back
 pub written-reads-back : WrittenReadsBack

@@ -65,10 +65,21 @@ unfolding pair decimalNumber serialDigits
 keyOf text =
     (pair (getD text 0 0) (getD text 1 0) * 100_000_000 + decimalNumber 0 (serialDigits text)) * 676 + pair (getD text 11 0) (getD text 12 0)
 
--- the key of a text that is not tested, 0 where it is not thirteen characters long
+-- the same sum with the characters themselves for their letters and digits
+unfoldable pub characterSum : List ℕ → ℕ
+unfolding decimalNumber
+characterSum text =
+    ((26 * getD text 0 0 + getD text 1 0) * 100_000_000 + decimalNumber 0 (take 8 (drop 2 text))) * 676 + (26 * getD text 11 0 + getD text 12 0)
+
+-- it is this where each letter is A and each digit 0, whose key is 0
+unfoldable pub leastSum : ℕ
+leastSum = 118_998_533_331_483
+
+-- the key of a text that is not tested: what its sum is above the least, 0 where it is not thirteen characters long. An accepted text has its key
+-- (`Laws.AcceptedAsUntested`)
 unfoldable pub untestedKey : List ℕ → ℕ
-unfolding keyOf
-untestedKey text = cond (eqb (length text) 13) (keyOf text) 0
+unfolding characterSum leastSum
+untestedKey text = cond (eqb (length text) 13) (characterSum text - leastSum) 0
 
 -- "at most 45,697,599,999,999"
 unfoldable pub largestKey : ℕ

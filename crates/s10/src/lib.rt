@@ -4,8 +4,8 @@ ghost use Prim.Native.Nat.{_+_, _-_, _*_, _%_, _≤_, _<_};
 ghost use mathlib.Core.Bool.{_&&_};
 ghost use lib.Dec.{leb};
 ghost use lib.ListN.{length};
-ghost use Rattle.s10.specs.Text.{asksDigit, isAllowed, firstFault, weighted, weights, excepted, checkDigit, pair, decimalNumber, keyOf, untestedKey, letters, digits, largestKey, textOf};
-ghost use Rattle.s10.specs.Parts.{Between, Serial, WellFormed, values, characters, serialText};
+ghost use Rattle.s10.specs.Text.{asksDigit, isAllowed, firstFault, weighted, weights, excepted, checkDigit, decimalNumber, characterSum, leastSum, untestedKey, letters, digits, largestKey, textOf};
+ghost use Rattle.s10.specs.Parts.{Serial, values, characters, serialText};
 ghost use Rattle.s10.specs.Outcome.{refusalFor, faultAt, textOutcome, readText, number, writeNumber, writeText};
 
 // An identifier, by its key.
@@ -81,6 +81,9 @@ impl Identifier {
     const PAIRS: u64 = 676;
 
     const SERIALS: u64 = 100_000_000;
+
+    // What the characters of the text with key 0 add up to.
+    const LEAST_SUM: u64 = 118_998_533_331_483;
 
     // The key of a text.
     pub fn read(text: &[u8]) -> Reading
@@ -223,43 +226,46 @@ fn check_digit(digits: &[u8]) -> u8
     check_of(weighted_sum(digits)) as u8
 }
 
-// How far a character lies above another, 0 where it does not.
-fn above(c: u8, low: u8) -> u64
-    ensures { λ r. ⌜ (r ≡ c - low) × (r ≤ 255) ⌝ }
+// A pair of letters in a key, as characters.
+fn pair_sum(first: u8, second: u8) -> u64
+    ensures { λ r. ⌜ (r ≡ 26 * first + second) × (r ≤ 6885) ⌝ }
 {
-    if c < low { 0 } else { (c - low) as u64 }
+    Identifier::LETTERS * first as u64 + second as u64
 }
 
-// The number of a pair of letters; of other characters too it is what the definition gives.
-fn pair_number(first: u8, second: u8) -> u64
-    ensures { λ r. ⌜ (r ≡ pair first second) × (r ≤ 6885) ⌝ }
-{
-    Identifier::LETTERS * above(first, b'A') + above(second, b'A')
-}
-
-// The number that eight decimal digits write; of other characters too it is what the definition gives.
-fn decimal_number(digits: &[u8]) -> u64
+// Eight digits in a key, as characters.
+fn serial_sum(digits: &[u8]) -> u64
     requires { ⌜ length (now digits) ≡ 8 ⌝ }
-    ensures { λ r. ⌜ (r ≡ decimalNumber 0 (values (now (digits .entry)))) × (r ≤ 2_900_000_000) ⌝ }
+    ensures { λ r. ⌜ (r ≡ decimalNumber 0 (now (digits .entry))) × (r ≤ 2_900_000_000) ⌝ }
 {
     let mut n = 0;
     let mut k = 0;
     while k < digits.len() {
-        n = n * 10 + above(digits[k], b'0');
+        n = n * 10 + digits[k] as u64;
         k += 1;
     }
     n
 }
 
+// A sum of characters less what it is where each letter is A and each digit 0.
+fn above_least(sum: u64) -> u64
+    ensures { λ r. ⌜ r ≡ sum - leastSum ⌝ }
+{
+    if sum < Identifier::LEAST_SUM {
+        return 0;
+    }
+    sum - Identifier::LEAST_SUM
+}
+
 // The key of a text of thirteen characters, which are not tested.
 fn key_of(text: &[u8]) -> u64
     requires { ⌜ length (now text) ≡ 13 ⌝ }
-    ensures { λ r. ⌜ r ≡ keyOf (now (text .entry)) ⌝ }
+    ensures { λ r. ⌜ r ≡ characterSum (now (text .entry)) - leastSum ⌝ }
 {
-    let first = pair_number(text[0], text[1]);
-    let serial = decimal_number(&text[Identifier::SERIAL..Identifier::CHECK]);
-    let last = pair_number(text[Identifier::LAST], text[Identifier::LAST + 1]);
-    (first * Identifier::SERIALS + serial) * Identifier::PAIRS + last
+    let first = pair_sum(text[0], text[1]);
+    let serial = serial_sum(&text[Identifier::SERIAL..Identifier::CHECK]);
+    let last = pair_sum(text[Identifier::LAST], text[Identifier::LAST + 1]);
+    above_least((first * Identifier::SERIALS + serial) * Identifier::PAIRS + last)
 }
 
 // Writes the two letters of a pair.

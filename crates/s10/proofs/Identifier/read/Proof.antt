@@ -11,6 +11,7 @@ use Rattle.s10.specs.Text.{firstFault, serialDigits, checkDigit}
 use Rattle.s10.specs.Parts.{WellFormed}
 use Rattle.s10.specs.Outcome.{readText}
 use Rattle.s10.proofs.Fault.{fault-within, fault-well-formed}
+use Rattle.s10.proofs.KeyOf.{sum-of-key}
 use Rattle.s10.proofs.WellFormed.{well-formed}
 use Rattle.s10.proofs.Identifier.read.Statement.{statement}
 use Rattle.s10.proofs.Identifier.read.Tie as tie
@@ -87,7 +88,7 @@ unfolding readText serialDigits
 returns-4 c =
     let e = tested (c .before .before) in
     let text = entry (e .before) .args .text .now in
-    rw (passed e .0, passed e .1, eq-eqb (getD text 10 0 - 48) (checkDigit (serialDigits text)) (omega arith), c .key-of .ensures)
+    rw (passed e .0, passed e .1, eq-eqb (getD text 10 0 - 48) (checkDigit (serialDigits text)) (omega arith), c .key-of .ensures, sum-of-key text (parts e))
 
 pub read-spec : {M : Type 1} → statement M
 read-spec =

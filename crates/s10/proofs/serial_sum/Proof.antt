@@ -1,22 +1,19 @@
--- `s10::decimal_number` meets its contract. The loop's invariant: the number so far and the digits from `k` on write the whole number, and k
+-- `s10::serial_sum` meets its contract. The loop's invariant: the number so far and the digits from `k` on write the whole number, and k
 -- digits, each at most 255, write less than 29 × 10 ^ k. Assumes nothing.
 use Prim.Native.Nat.{ℕ, _+_, _*_, _-_, _^_, _≤_, _<_}
 use mathlib.Core.Path.{_≡_, refl, sym, _∙_}
 use native.Mathlib.Nat.{pow-suc, pow-le-pow-right}
 use native.Mathlib.Numerals.{add-one}
 use native.Mathlib.Omega.{arith}
-use borrow.Author.Needs.{needs}
 use lib.ListN.{length, drop, getD, drop-of-length-le}
 use Rattle.s10.specs.Text.{decimalNumber}
-use Rattle.s10.specs.Parts.{values}
 use Rattle.s10.proofs.Decimal.{decimal-step}
-use Rattle.s10.proofs.Values.{length-values, getD-values}
-use Rattle.s10.proofs.decimal_number.Statement.{statement}
-use Rattle.s10.proofs.decimal_number.Tie as tie
+use Rattle.s10.proofs.serial_sum.Statement.{statement}
+use Rattle.s10.proofs.serial_sum.Tie as tie
 
 abbrev Inv-loop : tie.InvT-loop
 Inv-loop digits n₀ k₀ n k =
-    (k ≤ length digits) × (decimalNumber n (drop k (values digits)) ≡ decimalNumber 0 (values digits)) × (n + 29 ≤ 29 * 10 ^ k)
+    (k ≤ length digits) × (decimalNumber n (drop k digits) ≡ decimalNumber 0 digits) × (n + 29 ≤ 29 * 10 ^ k)
 
 abbrev μ-loop : tie.MeasureT-loop
 μ-loop digits n₀ k₀ n k = length digits - k
@@ -38,20 +35,26 @@ loop-holds c = (omega arith, refl, omega arith)
 mul-n : tie.Need-mul-n Inv-loop μ-loop
 mul-n c =
     let i = c .before .loop .inv in
-    let b = below (c .before .loop .k) (c .before .loop .n) (omega (arith, c .before .before .before .pre, i .0)) (i .2) in
+    let b = below (c .before .loop .k) (c .before .loop .n) (omega (arith, c .before .before .pre, i .0)) (i .2) in
     omega arith
 
-shared-slice-read-above : tie.Need-shared-slice-read-above Inv-loop μ-loop
-shared-slice-read-above c = c .before .loop-test .taken
+shared-slice-read-n : tie.Need-shared-slice-read-n Inv-loop μ-loop
+shared-slice-read-n c = omega arith
 
-above-requires : tie.Need-above-requires Inv-loop μ-loop
-above-requires c κs = search needs
+-- the character that is read is a byte
+byte : (c : tie.After-shared-slice-known Inv-loop μ-loop) →
+    let l = c .before .before in
+    getD (l .before .args .digits .now) (l .loop .k) 0 ≤ 255
+byte c = omega (arith, c .shared-slice-known .given (c .before .before .loop .k))
+
+cast-n : tie.Need-cast-n Inv-loop μ-loop
+cast-n c = omega (arith, byte c)
 
 add-n : tie.Need-add-n Inv-loop μ-loop
 add-n c =
-    let l = c .before .before .before in
-    let b = below (l .loop .k) (l .loop .n) (omega (arith, l .before .before .pre, l .loop .inv .0)) (l .loop .inv .2) in
-    omega (arith, c .above .ensures .1)
+    let l = c .before .before in
+    let b = below (l .loop .k) (l .loop .n) (omega (arith, l .before .pre, l .loop .inv .0)) (l .loop .inv .2) in
+    omega (arith, byte c)
 
 add-k : tie.Need-add-k Inv-loop μ-loop
 add-k c = omega arith
@@ -61,33 +64,30 @@ loop-less c = omega arith
 
 loop-again : tie.Need-loop-again Inv-loop μ-loop
 loop-again c =
-    let l = c .before .before .before in
-    let digits = l .before .before .args .digits .now in
-    let inside = c .before .before .loop-test .taken in
-    let long = length-values digits in
-    let step = rw (getD-values digits (l .loop .k)) at (decimal-step (l .loop .n) (values digits) (l .loop .k) (omega arith)) in
-    (omega arith, rw (c .above .ensures .0) (sym step ∙ l .loop .inv .1), grown (l .loop .k) (l .loop .n) (c .above .result) (l .loop .inv .2) (c .above .ensures .1))
+    let l = c .before .before in
+    let digits = l .before .args .digits .now in
+    let step = decimal-step (l .loop .n) digits (l .loop .k) (omega arith) in
+    (omega arith, sym step ∙ l .loop .inv .1, grown (l .loop .k) (l .loop .n) _ (l .loop .inv .2) (byte c))
 
 returns : tie.Need-returns Inv-loop μ-loop
 unfolding decimalNumber
 returns c =
     let i = c .before .loop .inv in
-    let digits = c .before .before .before .args .digits .now in
-    let long = length-values digits in
-    let none = drop-of-length-le (values digits) {i = c .before .loop .k} (omega arith) in
+    let digits = c .before .before .args .digits .now in
+    let none = drop-of-length-le digits {i = c .before .loop .k} (omega arith) in
     let whole = rw none at (i .1) in
     (whole, below (c .before .loop .k) (c .before .loop .n) (omega arith) (i .2))
 
-pub decimal-number-spec : {M : Type 1} → statement M
-decimal-number-spec =
+pub serial-sum-spec : {M : Type 1} → statement M
+serial-sum-spec =
     tie.close
     (tie.spec
     Inv-loop
     μ-loop
     loop-holds
     mul-n
-    shared-slice-read-above
-    above-requires
+    shared-slice-read-n
+    cast-n
     add-n
     add-k
     loop-less
