@@ -46,6 +46,8 @@ pub struct StepTimes {
     pub calls: Times,
     /// The proved calls, and the plain turns alone on a run that is kept as arrays.
     pub turns: Times,
+    /// Opening and calls, beside plain Rust that reads each command once and keeps its arrays.
+    pub whole: Times,
 }
 
 pub struct Bench {
@@ -59,13 +61,12 @@ impl Bench {
     /// The whole schedule in parts, each given to one side after the other.
     pub fn steps(&self, input: &Input) -> Result<StepTimes, String> {
         let once = |times: &mut _| self.steps_once(input, times);
-        let [proved, plain, turns] = self.medians(input.schedule.len(), once)?;
+        let [open, plain_open, proved, plain, turns] = self.medians(input.schedule.len(), once)?;
+        let times = |proved, plain| Times { proved, plain };
         Ok(StepTimes {
-            calls: Times { proved, plain },
-            turns: Times {
-                proved,
-                plain: turns,
-            },
+            calls: times(proved, plain),
+            turns: times(proved, turns),
+            whole: times(open + proved, plain_open + turns),
         })
     }
 
@@ -89,20 +90,25 @@ impl Bench {
         Ok(times.map(median))
     }
 
-    /// Adds the times of the proved calls, the plain calls and the plain turns.
-    fn steps_once(&self, input: &Input, times: &mut [Duration; 3]) -> Result<(), String> {
-        let mut proved = Lists::opened(&self.proved, input)?;
+    /// Adds the times of the proved opening, the plain one, the proved calls, the plain calls and the
+    /// plain turns, and compares what they leave.
+    fn steps_once(&self, input: &Input, times: &mut [Duration; 5]) -> Result<(), String> {
         let mut plain = Lists::opened(&Second, input)?;
-        let mut run = input.opened();
+        let mut proved = plain.clone();
+        let (time, answer) = timed(|| proved.open(&self.proved, input));
+        accepted("open, proved", answer)?;
+        times[0] += time;
+        let (time, mut run) = timed(|| open_plainly(black_box(input)));
+        times[1] += time;
         for part in input.schedule.chunks(CALL_STEPS) {
             let (time, answer) = timed(|| proved.advance(&self.proved, input, part));
             accepted("advance, proved", answer)?;
-            times[0] += time;
+            times[2] += time;
             let (time, answer) = timed(|| plain.advance(&Second, input, part));
             accepted("advance, plain", answer)?;
-            times[1] += time;
+            times[3] += time;
             let (time, ()) = timed(|| plain_turns(&mut run, black_box(part)));
-            times[2] += time;
+            times[4] += time;
         }
         same(&proved, &plain)?;
         plain.same_as(&run)
@@ -150,9 +156,15 @@ impl Bench {
     }
 }
 
+/// Reads each command once, and lays the arrays out; under a name of its own for callgrind.
+#[inline(never)]
+fn open_plainly(input: &Input) -> Run {
+    input.opened()
+}
+
 /// The plain turns alone, under a name of their own for callgrind.
 #[inline(never)]
-pub fn plain_turns(run: &mut Run, schedule: &[u8]) {
+fn plain_turns(run: &mut Run, schedule: &[u8]) {
     run.advance(schedule);
 }
 

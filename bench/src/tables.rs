@@ -45,14 +45,17 @@ pub fn print(bench: &Bench, part: Option<&str>) -> Result<(), String> {
              dispatch and belt"
         ));
     }
-    println!("Medians of {} runs, processor time.", bench.runs);
+    println!(
+        "Medians of {} runs, processor time. After every run the lists of both sides are compared; a \
+         difference ends this with status 1.",
+        bench.runs
+    );
     for (name, print) in parts {
         if part.is_none_or(|part| part == name) {
             println!();
             print(bench)?;
         }
     }
-    println!("\nBoth sides left the same state, keys, chutes, answers and image after every run.");
     Ok(())
 }
 
@@ -77,7 +80,7 @@ fn mailing(bench: &Bench) -> Result<(), String> {
     table_of_steps(bench, Kinds::Mailing)
 }
 
-const STEPS: [&str; 9] = [
+const STEPS: [&str; 10] = [
     "Size, workers, room",
     "Schedule",
     "Steps",
@@ -87,6 +90,7 @@ const STEPS: [&str; 9] = [
     "Ratio of times",
     "Plain turns alone, steps/s",
     "Ratio",
+    "Ratio, both with opening",
 ];
 
 fn table_of_steps(bench: &Bench, kinds: Kinds) -> Result<(), String> {
@@ -129,6 +133,7 @@ fn row_of_steps(name: &str, input: &Input, times: &StepTimes) -> Vec<String> {
         format!("{:.2}", times.calls.ratio()),
         rate(steps, times.turns.plain),
         format!("{:.2}", times.turns.ratio()),
+        format!("{:.2}", times.whole.ratio()),
     ]
 }
 
@@ -262,10 +267,16 @@ fn belt(bench: &Bench) -> Result<(), String> {
     println!("|---|---|---|---|");
     println!(
         "| open and advance; plain reads each command once and keeps its arrays | {} |",
-        cells(it.whole)
+        cells(it.dealt.whole)
     );
-    println!("| advance; plain keeps its arrays | {} |", cells(it.kept));
-    println!("| advance, calls on the same bytes | {} |", cells(it.calls));
+    println!(
+        "| advance; plain keeps its arrays | {} |",
+        cells(it.dealt.turns)
+    );
+    println!(
+        "| advance, calls on the same bytes | {} |",
+        cells(it.dealt.calls)
+    );
     Ok(())
 }
 
