@@ -2,6 +2,7 @@
 //! lists that go with it.
 
 use crate::command::{self, Command, Kind};
+use crate::identifier;
 use crate::image;
 use crate::refusal::Refusal;
 use crate::run::{PARTIES, Party, RECORDS, Records, Run, Set, Settings};
@@ -87,7 +88,8 @@ pub fn read_with_image(lists: Lists, image: &[u8]) -> Result<Run, Refusal> {
     read(lists)
 }
 
-/// Lays a run's state out; the list has its length.
+/// Lays a run's state out; the list has its length. Of a count in force above 255, which no opening
+/// accepts, the low byte is left.
 pub fn write_state(run: &Run, state: &mut [u8]) {
     let records = &run.records;
     state[CHAIN] = LOCK_COUPLED;
@@ -102,7 +104,7 @@ pub fn write_state(run: &Run, state: &mut [u8]) {
     ];
     write_numbers(&numbers, &mut state[ROOM..FREE]);
     state[FREE] = records.free;
-    state[IN_FORCE] = run.in_force;
+    state[IN_FORCE] = run.in_force as u8;
     state[NEXT..PLACE].copy_from_slice(&records.next);
     write_numbers(&records.place, &mut state[PLACE..EXECUTING]);
     write_bools(&records.executing, &mut state[EXECUTING..LOCKED]);
@@ -170,7 +172,7 @@ fn read_whole(lists: Lists) -> Option<Run> {
     Some(Run {
         settings,
         largest,
-        in_force,
+        in_force: in_force.into(),
         loaded,
         records: read_records(state, settings.size, count)?,
         parties: read_parties(&state[PARTY..], settings.size)?,
@@ -257,14 +259,18 @@ pub fn party_bytes(party: Party) -> [u8; PARTY_BYTES] {
     [state, at, own, high, low]
 }
 
-/// A command of a handed-back list; a refused one, which opening accepts nowhere, counts as a
-/// read of key 0 and is done in one turn as every read.
+/// A command of a handed-back list, which opening may not have tested. It "counts as its bytes say,
+/// untested" (docs/DECISIONS.md, 26): a kind that is none is a read, the key is 0 where the kind names
+/// no item, and the chute or count is whatever it is, 0 to 65,535.
 fn read_command(part: &[u8; command::LENGTH]) -> Command {
-    command::read(part).unwrap_or(Command {
-        kind: Kind::Read,
-        key: 0,
-        chute: 0,
-    })
+    let [kind, text @ .., high, low] = part;
+    let kind = Kind::from_number(*kind).unwrap_or(Kind::Read);
+    let key = match kind {
+        Kind::Insert | Kind::Delete | Kind::Read | Kind::Update => identifier::untested(text),
+        Kind::Workers | Kind::Checkpoint => 0,
+    };
+    let chute = u16::from_be_bytes([*high, *low]);
+    Command { kind, key, chute }
 }
 
 /// Whether a set has no member above the graph size.
@@ -318,4 +324,76 @@ fn array<T: Copy + Default, const N: usize>(items: impl Iterator<Item = T>) -> [
         *place = item;
     }
     array
+}
+
+#[cfg(test)]
+mod tests {
+    use super::*;
+    use crate::command::encode;
+    use crate::random::Random;
+
+    fn untested(kind: u8, text: &[u8], chute: u16) -> Command {
+        let part = encode(kind, text, chute);
+        read_command(part.as_slice().try_into().expect("16 bytes"))
+    }
+
+    const FIRST: &[u8] = b"AA000000014AA";
+
+    /// Decision 26: "On an accepted command this is that command".
+    #[test]
+    fn an_accepted_command_is_what_opening_reads() {
+        let random = &mut Random::new(26);
+        for _ in 0..20_000 {
+            let kind = random.pick(&Kind::ALL);
+            let text = match kind.names_item() {
+                true => identifier::text(random.below(identifier::LARGEST_KEY + 1)).unwrap(),
+                false => identifier::NONE,
+            };
+            let part = encode(kind.number(), &text, random.pick(&[0, 1, 7, 64, 256, 512]));
+            let part = part.as_slice().try_into().expect("16 bytes");
+            if let Ok(command) = command::read(part) {
+                assert_eq!(read_command(part), command);
+            }
+        }
+    }
+
+    /// Decision 26: "a number that is no kind's counts as a read's", with its own key and chute.
+    #[test]
+    fn a_kind_that_is_none_is_a_read() {
+        for kind in (0..=u8::MAX).filter(|kind| !(1..=6).contains(kind)) {
+            let read = Command {
+                kind: Kind::Read,
+                key: 676,
+                chute: 513,
+            };
+            assert_eq!(untested(kind, FIRST, 513), read);
+        }
+    }
+
+    /// Decision 26: the last two bytes are the chute or count, high byte first, "whatever they are";
+    /// the key is 0 where the kind names no item, whatever stands there.
+    #[test]
+    fn every_number_counts_as_it_stands() {
+        for kind in Kind::ALL {
+            let key = if kind.names_item() { 676 } else { 0 };
+            for chute in 0..=u16::MAX {
+                let command = Command { kind, key, chute };
+                assert_eq!(untested(kind.number(), FIRST, chute), command);
+            }
+        }
+        let count = untested(5, &[0xff; 13], 0x0102);
+        assert_eq!((count.key, count.count()), (0, Some(258)));
+    }
+
+    /// Letters and digits out of their ranges carry over to the characters before them.
+    #[test]
+    fn a_text_out_of_range_has_the_key_of_another() {
+        let key = |text: &[u8]| untested(3, text, 0).key;
+        assert_eq!(key(b"AA000000014AA"), 676);
+        assert_eq!(key(b"AA000000005A["), 26);
+        assert_eq!(key(b"AA000000005@["), 0);
+        assert_eq!(key(b"AA0000000:5AA"), key(b"AA000000100AA"));
+        assert_eq!(key(b"A[000000005AA"), key(b"BA000000005AA"));
+        assert_eq!(key(b"ZZ999999995Z["), identifier::LARGEST_KEY + 1);
+    }
 }

@@ -607,6 +607,60 @@ mod tests {
         }
     }
 
+    /// Decision 26: a count that no opening accepted is in force whole up to the end of its call, in
+    /// which worker 3 may begin a search or not. The state then has its low byte, and the next call
+    /// goes by that.
+    #[test]
+    fn a_count_that_no_opening_accepted_is_in_force_whole() {
+        let cases = [
+            (0, 0, 12),
+            (2, 2, 0),
+            (3, 3, 0),
+            (65, 65, 12),
+            (255, 255, 12),
+            (256, 0, 12),
+            (257, 1, 0),
+            (259, 3, 0),
+            (512, 0, 12),
+            (u16::MAX, 255, 12),
+        ];
+        for (count, left, answer) in cases {
+            let mut caller = changing();
+            assert_eq!(caller.open(4, 2, 4), 0);
+            caller.commands.rotate_left(16);
+            caller.commands[14..16].copy_from_slice(&count.to_be_bytes());
+            assert_eq!(caller.advance(&[0, 0, 1, 1, 1, 1, 3]), 0);
+            let searching = caller.state[4393 + 15] == 2;
+            assert_eq!(searching, count >= 3, "{count}");
+            assert_eq!(caller.answers[..2], [3, 232]);
+            assert_eq!(caller.state[13], left);
+            assert_eq!(caller.advance(&[2]), answer, "{count}");
+        }
+    }
+
+    /// Decision 26: key and chute of a command that no opening accepted, seen in the store. An insert
+    /// with chute 0 leaves its item as an absent one (decision 9).
+    #[test]
+    fn a_refused_command_is_served_as_its_bytes_say() {
+        let cases: [(&[u8; 13], u16, u64, u16); 5] = [
+            (b"AA000000009AA", 513, 0, 513),
+            (b"AA0000000:xAA", 7, 6760, 7),
+            (b"@A000000005AA", 65_535, 0, 65_535),
+            (&[0xff; 13], 512, 348_342_799_989_582, 512),
+            (b"AA000000014AA", 0, 676, 1002),
+        ];
+        for (text, chute, key, answer) in cases {
+            let mut caller = Caller::opened();
+            let commands = [command::encode(1, text, chute), command::encode(7, text, 9)];
+            caller.commands = commands.concat();
+            assert_eq!(caller.advance(&[[0; 5].as_slice(), &[1; 14]].concat()), 0);
+            assert_eq!(caller.keys[..8], key.to_be_bytes());
+            assert_eq!(caller.chutes[..2], chute.to_be_bytes());
+            let answers = [[3, 232], answer.to_be_bytes()];
+            assert_eq!(caller.answers, answers.concat());
+        }
+    }
+
     /// docs/STATE-LAYOUT.md: a largest count that is not the list's is not seen until a count above
     /// it is written; and who is past it is idle in the report.
     #[test]

@@ -83,18 +83,18 @@ impl Command {
     };
 
     /// A command that sets the worker count.
-    pub fn workers(count: u8) -> Command {
+    pub fn workers(count: u16) -> Command {
         Command {
             kind: Kind::Workers,
             key: 0,
-            chute: count.into(),
+            chute: count,
         }
     }
 
-    /// The count that a worker change sets.
-    pub fn count(&self) -> Option<u8> {
+    /// The count that a worker change sets: 1 to 64 where opening accepted it.
+    pub fn count(&self) -> Option<u16> {
         match self.kind {
-            Kind::Workers => Some(self.chute as u8),
+            Kind::Workers => Some(self.chute),
             Kind::Insert | Kind::Delete | Kind::Read | Kind::Update | Kind::Checkpoint => None,
         }
     }
@@ -257,8 +257,8 @@ mod tests {
         for count in 1..=64 {
             let part = encode(5, &identifier::NONE, count);
             let commands = read_list(&part).expect("a right command");
-            assert_eq!(commands, [Command::workers(count as u8)]);
-            assert_eq!(commands[0].count(), Some(count as u8));
+            assert_eq!(commands, [Command::workers(count)]);
+            assert_eq!(commands[0].count(), Some(count));
         }
         for kind in (0..=u8::MAX).filter(|kind| !(1..=6).contains(kind)) {
             let part = encode(kind, &identifier::NONE, 1);

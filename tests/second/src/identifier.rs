@@ -20,6 +20,11 @@ pub const NONE: [u8; LENGTH] = [b'0'; LENGTH];
 pub const PAIRS: u64 = 676;
 /// How many serials there are.
 pub const SERIALS: u64 = 100_000_000;
+/// What `sum` gives of AA000000005AA, whose key is 0.
+pub const SUM_OF_KEY_0: u64 = 118_998_533_331_483;
+/// How many times what the character behind it counts for a character counts in `sum`, by the later
+/// of the two; the check digit is left out.
+const TIMES: [u64; LENGTH - 1] = [26, 26, 10, 10, 10, 10, 10, 10, 10, 10, 26, 26];
 
 /// The key of an identifier, or refusal 8, 13 or 9 with the first faulty character: 8 or 13 is
 /// tested first, and the character is 0 where the length is wrong.
@@ -43,6 +48,23 @@ pub fn read_none(text: &[u8]) -> Result<(), Fault> {
         Some(position) => Err(fault_at(position, Refusal::Identifier)),
         None => Ok(()),
     }
+}
+
+/// The key of a text that nobody tested, as docs/DECISIONS.md, 26, has it: "a sum less
+/// 118,998,533,331,483, or 0 where the sum is smaller". On an accepted text it is that text's key; on
+/// others it may be any up to 348,342,799,989,582.
+pub fn untested(text: &[u8; LENGTH]) -> u64 {
+    sum(text).saturating_sub(SUM_OF_KEY_0)
+}
+
+/// The sum that is the key of a text, "with the codes of the characters where that has letters from 0
+/// and digits", so that it is at most 467,341,333,321,065. "The check digit is not looked at."
+pub fn sum(text: &[u8; LENGTH]) -> u64 {
+    let (before, from_check_digit) = text.split_at(CHECK_DIGIT);
+    let characters = before.iter().chain(&from_check_digit[1..]);
+    characters
+        .zip(TIMES)
+        .fold(0, |sum, (code, times)| sum * times + u64::from(*code))
 }
 
 /// Writes the identifier of a key into `out`, or refuses with 6 or 12 and leaves it as it was.
@@ -350,6 +372,109 @@ mod tests {
         let mut right = [7; LENGTH];
         assert_eq!(write(LARGEST_KEY + 1, &mut right), Err(Refusal::OutOfRange));
         assert_eq!(right, [7; LENGTH]);
+    }
+
+    /// Decision 26, word for word, with numbers that no text is too large for.
+    fn as_decided(text: &[u8; LENGTH]) -> u64 {
+        let [c1, c2, c3, c4, c5, c6, c7, c8, c9, c10, _, c12, c13] = text.map(u128::from);
+        let serial = c3 * 10_000_000
+            + c4 * 1_000_000
+            + c5 * 100_000
+            + c6 * 10_000
+            + c7 * 1_000
+            + c8 * 100
+            + c9 * 10
+            + c10;
+        let sum = ((26 * c1 + c2) * 100_000_000 + serial) * 676 + 26 * c12 + c13;
+        let key = sum.saturating_sub(118_998_533_331_483);
+        u64::try_from(key).expect("no text has such a key")
+    }
+
+    /// Decision 26: "On an accepted command this is that command".
+    #[test]
+    fn an_accepted_text_has_the_same_key_untested() {
+        let random = &mut Random::new(26);
+        for _ in 0..100_000 {
+            let key = random.below(LARGEST_KEY + 1);
+            assert_eq!(untested(&text(key).unwrap()), key);
+        }
+        for key in [0, 1, 25, 26, 675, 676, LARGEST_KEY - 1, LARGEST_KEY] {
+            assert_eq!(untested(&text(key).unwrap()), key);
+        }
+        for text in texts() {
+            if let (Ok(key), Ok(text)) = (read(&text), text.as_slice().try_into()) {
+                assert_eq!(untested(text), key);
+            }
+        }
+    }
+
+    /// Decision 26: "the number taken off is the sum of the identifier whose key is 0".
+    #[test]
+    fn what_is_taken_off_is_the_sum_of_key_0() {
+        assert_eq!(sum(&text(0).unwrap()), SUM_OF_KEY_0);
+    }
+
+    /// Decision 26: "The check digit is not looked at."
+    #[test]
+    fn the_check_digit_is_not_looked_at() {
+        let random = &mut Random::new(11);
+        for check in 0..=u8::MAX {
+            let mut first = *b"AA000000005AA";
+            first[CHECK_DIGIT] = check;
+            assert_eq!(untested(&first), 0);
+            let key = random.below(LARGEST_KEY + 1);
+            let mut text = text(key).unwrap();
+            text[CHECK_DIGIT] = check;
+            assert_eq!(untested(&text), key);
+        }
+    }
+
+    /// Decision 26: "or 0 where the sum is smaller".
+    #[test]
+    fn smaller_characters_have_key_0() {
+        assert_eq!(untested(&[0; LENGTH]), 0);
+        assert_eq!(untested(&NONE), 0);
+        let random = &mut Random::new(0);
+        let first = text(0).unwrap();
+        for _ in 0..10_000 {
+            let smaller = first.map(|code| random.below(u64::from(code) + 1) as u8);
+            assert_eq!(untested(&smaller), 0);
+        }
+        for position in (0..LENGTH).filter(|it| *it != CHECK_DIGIT) {
+            let mut one_less = first;
+            one_less[position] -= 1;
+            assert_eq!(untested(&one_less), 0);
+            assert!(sum(&one_less) < SUM_OF_KEY_0);
+        }
+    }
+
+    #[test]
+    fn the_largest_characters_have_the_key_of_the_sum() {
+        let largest = [u8::MAX; LENGTH];
+        assert_eq!(sum(&largest), 467_341_333_321_065);
+        assert_eq!(untested(&largest), 348_342_799_989_582);
+        assert_eq!(as_decided(&largest), 348_342_799_989_582);
+        for position in 0..LENGTH {
+            let mut text = text(0).unwrap();
+            text[position] = u8::MAX;
+            assert_eq!(untested(&text), as_decided(&text), "{position}");
+            assert_eq!(untested(&text) == 0, position == CHECK_DIGIT);
+        }
+    }
+
+    /// Any bytes, and texts that are right but for some characters.
+    #[test]
+    fn any_text_has_the_key_of_the_sum() {
+        let random = &mut Random::new(14);
+        for _ in 0..100_000 {
+            let any: [u8; LENGTH] = std::array::from_fn(|_| random.byte());
+            assert_eq!(untested(&any), as_decided(&any), "{any:?}");
+        }
+        for text in texts() {
+            if let Ok(text) = text.as_slice().try_into() {
+                assert_eq!(untested(text), as_decided(text), "{text:?}");
+            }
+        }
     }
 
     /// Document 00, demand 2: text and key turn into each other without loss.

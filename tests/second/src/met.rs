@@ -277,7 +277,7 @@ impl Met {
 
     /// Deals a turn and notes it.
     fn note_turn(&mut self, run: &mut Run, party: u8) {
-        let above = party > run.in_force;
+        let above = !run.allows(party);
         let before = run.parties[usize::from(party)];
         let head_locked = run.records.locked[usize::from(HEAD)];
         let ready = next_is_ready(run, before);
@@ -306,7 +306,10 @@ impl Met {
             }
             (Party::LookedUp { found, .. }, _) => {
                 self.note(Event::WrittenWithAFinding, count.is_some() && found != 0);
-                self.note(Event::HolderAbove, count.is_some_and(|count| party > count));
+                self.note(
+                    Event::HolderAbove,
+                    count.is_some_and(|count| u16::from(party) > count),
+                );
                 self.note_written(run, count, in_force);
             }
             (Party::Clearing { .. }, Party::Idle) => {
@@ -317,14 +320,14 @@ impl Met {
     }
 
     /// Notes the count that a writing turn sets, if it does, where another was in force.
-    fn note_written(&mut self, run: &Run, count: Option<u8>, in_force: u8) {
+    fn note_written(&mut self, run: &Run, count: Option<u16>, in_force: u16) {
         let Some(count) = count else { return };
         self.note(Event::WrittenUp, count > in_force);
         self.note(Event::WrittenDown, count < in_force);
         self.note(Event::WrittenSame, count == in_force);
         self.note(Event::WrittenTo1, count == 1);
         self.note(Event::WrittenTo64, count == 64);
-        self.note(Event::WrittenAboveLargest, count > run.largest);
+        self.note(Event::WrittenAboveLargest, count > run.largest.into());
     }
 }
 

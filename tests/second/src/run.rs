@@ -122,8 +122,10 @@ pub struct Run {
     pub settings: Settings,
     /// The largest worker count of the opening and of the list: the last party that may be named.
     pub largest: u8,
-    /// The count in force: the last worker that may begin a search or take a record.
-    pub in_force: u8,
+    /// The count in force: the last worker that may begin a search or take a record. It is 1 up to
+    /// the largest count at the beginning of a call, and any number behind a worker change that no
+    /// opening accepted.
+    pub in_force: u16,
     pub commands: Vec<Command>,
     /// How many commands are loaded.
     pub loaded: u16,
@@ -143,7 +145,7 @@ impl Run {
         Run {
             settings,
             largest: largest_count(settings.workers, &commands),
-            in_force: settings.workers,
+            in_force: settings.workers.into(),
             loaded: 0,
             records: Records::new(settings.size),
             parties: [Party::Idle; PARTIES],
@@ -176,10 +178,10 @@ impl Run {
         let now = self.parties[usize::from(party)];
         let after = match now {
             Party::Idle if party == 0 => self.load(),
-            Party::Idle if party > self.in_force => None,
+            Party::Idle if !self.allows(party) => None,
             Party::Idle => self.lock_head().map(|at| Party::Searching { at }),
             Party::Loading { at, own } => self.walk_loading(at, own),
-            Party::Searching { at } => self.search(at, party <= self.in_force),
+            Party::Searching { at } => self.search(at, self.allows(party)),
             Party::Holding { own } => Some(self.look_up(own)),
             Party::LookedUp { own, found } => Some(self.write(own, found)),
             Party::Written { own } => self.lock_head().map(|at| Party::Walking { at, own }),
@@ -190,6 +192,11 @@ impl Run {
             self.parties[usize::from(party)] = after;
         }
         after.is_some()
+    }
+
+    /// Whether a worker is not above the count in force.
+    pub fn allows(&self, worker: u8) -> bool {
+        u16::from(worker) <= self.in_force
     }
 
     /// Whether every command is removed and every party idle.
@@ -307,7 +314,7 @@ impl Run {
                     DONE
                 }
                 (Kind::Workers, _) => {
-                    self.in_force = chute as u8;
+                    self.in_force = chute;
                     DONE
                 }
                 (Kind::Checkpoint, _) => {
@@ -369,10 +376,11 @@ impl Run {
     }
 }
 
-/// The largest of the opening's worker count and those that a list sets, loaded or not.
+/// The largest of the opening's worker count and those that an accepted list sets, loaded or not; these
+/// are at most 64.
 pub fn largest_count(workers: u8, commands: &[Command]) -> u8 {
     let counts = commands.iter().filter_map(Command::count);
-    counts.fold(workers, u8::max)
+    counts.fold(workers.into(), u16::max) as u8
 }
 
 impl Records {
@@ -759,7 +767,7 @@ mod tests {
             let mut commands = vec![command(Kind::Insert, 5, 512)];
             commands.extend(counts.iter().map(|count| Command::workers(*count)));
             let run = Run::open(settings(1, workers, 1), commands);
-            assert_eq!((run.largest, run.in_force), (largest, workers));
+            assert_eq!((run.largest, run.in_force), (largest, workers.into()));
         }
     }
 
@@ -874,8 +882,9 @@ mod tests {
                 let mut run = with_three_workers();
                 run.in_force = in_force;
                 let before = run.clone();
-                assert_eq!(run.turn(worker), worker <= in_force);
-                if worker > in_force {
+                let allowed = u16::from(worker) <= in_force;
+                assert_eq!(run.turn(worker), allowed);
+                if !allowed {
                     assert_eq!(run, before);
                     run.records.locked[0] = true;
                     assert!(!run.turn(worker));

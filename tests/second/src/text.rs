@@ -196,14 +196,14 @@ fn read_chute(kind: Kind, words: &[&str]) -> Result<u16, String> {
     }
 }
 
-fn read_count(words: &[&str]) -> Result<u8, String> {
+fn read_count(words: &[&str]) -> Result<u16, String> {
     match words {
         [] => Err(format!("workers without a count, 1 to {LARGEST_COUNT}")),
         [_, word, ..] => Err(format!(
             "`{word}` behind the count, where the line should end"
         )),
         [word] => match read_number(word) {
-            Some(count) if (1..=LARGEST_COUNT.into()).contains(&count) => Ok(count as u8),
+            Some(count) if (1..=LARGEST_COUNT.into()).contains(&count) => Ok(count as u16),
             _ => Err(format!(
                 "count `{word}` is not 1 to {LARGEST_COUNT} (refusal 14)"
             )),
@@ -460,7 +460,7 @@ workers 64 # from here on
     fn random_command(random: &mut Random) -> Command {
         let kind = random.pick(&Kind::ALL);
         match kind {
-            Kind::Workers => return Command::workers(1 + random.below(64) as u8),
+            Kind::Workers => return Command::workers(1 + random.below(64) as u16),
             Kind::Checkpoint => return Command::CHECKPOINT,
             Kind::Insert | Kind::Delete | Kind::Read | Kind::Update => {}
         }

@@ -112,7 +112,7 @@ fn round_robin_by_the_largest_count_finishes() {
                 2 => command(Kind::Read, random.below(keys), 0),
                 3 => command(Kind::Update, random.below(keys), 9),
                 4 => Command::CHECKPOINT,
-                _ => Command::workers(1 + random.below(most) as u8),
+                _ => Command::workers(1 + random.below(most) as u16),
             })
             .collect();
         let largest = largest_count(workers, &commands);

@@ -116,7 +116,7 @@ impl Page<'_> {
 
     /// The turns after which a worker is above the count in force, behind all else in its row.
     fn draw_above(&self, svg: &mut Svg, party: u8, y: f64) {
-        for span in self.trace.spans(|frame| party > frame.in_force) {
+        for span in self.trace.spans(|frame| u16::from(party) > frame.in_force) {
             if span.value {
                 self.draw_bar(svg, "above", &span, y + 1.0, PARTY - 4.0);
             }
@@ -316,8 +316,9 @@ impl Page<'_> {
     fn told(&self, number: usize) -> String {
         let turn = self.trace.turn(number);
         let frame = self.trace.frame(number);
+        let above = u16::from(turn.party) > frame.in_force;
         match turn.outcome {
-            Outcome::Step => match (state(frame, turn.party).0[0], turn.party > frame.in_force) {
+            Outcome::Step => match (state(frame, turn.party).0[0], above) {
                 ("", _) => "becomes idle".to_string(),
                 ("searching", true) => "searching, may take nothing".to_string(),
                 (name, _) => name.to_string(),

@@ -239,7 +239,7 @@ fn each_wait_above_the_count_is_a_pale_dot() {
         let [mut rests, mut waits] = [0, 0];
         for party in &input.schedule {
             let idle = run.parties[usize::from(*party)] == Party::Idle;
-            let rest = *party > run.in_force && idle;
+            let rest = !run.allows(*party) && idle;
             let moved = run.turn(*party);
             rests += usize::from(rest);
             waits += usize::from(!moved && !rest);

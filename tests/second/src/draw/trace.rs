@@ -9,7 +9,7 @@ use crate::text::input::Input;
 pub struct Frame {
     pub loaded: u16,
     /// The worker count in force.
-    pub in_force: u8,
+    pub in_force: u16,
     /// How many entries the store has.
     pub used: u16,
     pub records: Records,
@@ -284,7 +284,7 @@ fn reason(run: &Run, party: u8) -> Reason {
     let now = run.parties[usize::from(party)];
     match stands_on(now) {
         Some(at) => Reason::Locked(run.records.next[usize::from(at)]),
-        None if party > run.in_force && now == Party::Idle => Reason::NotAllowed,
+        None if !run.allows(party) && now == Party::Idle => Reason::NotAllowed,
         None if party > 0 => Reason::Locked(HEAD),
         None if usize::from(run.loaded) == run.commands.len() => Reason::EveryCommandLoaded,
         None if run.records.free == 0 => Reason::NoRecordFree,
@@ -485,7 +485,7 @@ mod tests {
     fn a_worker_above_the_count_in_force_waits_when_idle() {
         let commands = vec![command(Kind::Workers, 1)];
         let trace = trace(1, 2, commands, &[0, 0, 1, 1, 1, 1, 2, 1, 2, 1, 1, 2]);
-        let counts: Vec<u8> = trace.frames.iter().map(|frame| frame.in_force).collect();
+        let counts: Vec<u16> = trace.frames.iter().map(|frame| frame.in_force).collect();
         assert_eq!(counts[..6], [2; 6]);
         assert_eq!(counts[6..], [1; 7]);
         let not_allowed = |turn: &Turn| turn.outcome == Outcome::Wait(Reason::NotAllowed);

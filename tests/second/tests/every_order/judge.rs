@@ -112,16 +112,16 @@ fn has(set: usize, place: usize) -> bool {
 
 /// Document 02, A.2: the count of the last worker change that is written, else the opening's. These
 /// are written in their order, as each depends on those before it.
-pub fn in_force(run: &Run) -> u8 {
+pub fn in_force(run: &Run) -> u16 {
     let written = |place: &u16| is_written(run, *place);
     let count = run.commands.len() as u16;
     last_count(run, (1..=count).filter(written))
 }
 
 /// The count of the last worker change among these places, else the opening's.
-fn last_count(run: &Run, places: impl Iterator<Item = u16>) -> u8 {
+fn last_count(run: &Run, places: impl Iterator<Item = u16>) -> u16 {
     let counts = places.filter_map(|place| run.commands[usize::from(place) - 1].count());
-    counts.last().unwrap_or(run.settings.workers)
+    counts.last().unwrap_or(run.settings.workers.into())
 }
 
 /// Document 02, A.2, for a worker that was given a turn: idle and above the count it waits, idle and
@@ -129,7 +129,7 @@ fn last_count(run: &Run, places: impl Iterator<Item = u16>) -> u8 {
 /// above the count in force nor above that of the last worker change delivered before it.
 pub fn hold_count(run: &Run, worker: u8, after: &Run) {
     let [before, now] = [run, after].map(|run| run.parties[usize::from(worker)]);
-    let above = worker > in_force(run);
+    let above = u16::from(worker) > in_force(run);
     match (before, now) {
         (Party::Idle, _) => {
             let waits = above || run.records.locked[usize::from(HEAD)];
@@ -138,7 +138,10 @@ pub fn hold_count(run: &Run, worker: u8, after: &Run) {
         (Party::Searching { .. }, Party::Holding { own }) => {
             let place = run.records.place[usize::from(own)];
             let most = last_count(run, 1..place);
-            assert!(!above && worker <= most, "{worker} takes {place}, {most}");
+            assert!(
+                !above && u16::from(worker) <= most,
+                "{worker} takes {place}, {most}"
+            );
         }
         _ => {}
     }

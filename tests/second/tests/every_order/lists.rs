@@ -59,7 +59,7 @@ fn choices(place: u16, keys: u64) -> impl Iterator<Item = Command> {
 
 /// All lists of so many commands on one item, and on key 1 beside it where it is read, in which a
 /// worker change to a count up to `most` stands.
-pub fn changing(count: usize, most: u8) -> Vec<Vec<Command>> {
+pub fn changing(count: usize, most: u16) -> Vec<Vec<Command>> {
     let mut lists = vec![Vec::new()];
     for place in 1..=count as u16 {
         let other = Command {

@@ -76,7 +76,7 @@ impl Counted {
     /// What a worker's turn is, if it is one of these.
     fn of(run: &Run, worker: u8, after: &Run) -> Option<Counted> {
         let [before, now] = [run, after].map(|run| run.parties[usize::from(worker)]);
-        let above = worker > run.in_force;
+        let above = !run.allows(worker);
         let change = before.own().and_then(|own| run.command(own)?.count());
         match (before, now, change) {
             (Party::Idle, ..) if above => {

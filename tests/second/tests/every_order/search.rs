@@ -136,7 +136,7 @@ fn short(run: &Run) -> Vec<u8> {
     let records = &run.records;
     let mut bytes = Vec::with_capacity(128);
     bytes.extend([run.loaded as u8, records.free, run.store.used as u8]);
-    bytes.push(run.in_force);
+    bytes.push(run.in_force as u8);
     for record in 0..=usize::from(run.settings.size) {
         bytes.push(records.next[record]);
         bytes.push(records.place[record] as u8);

@@ -132,7 +132,8 @@ fn near(random: &mut Random, run: &Run) -> u8 {
         0 => any_party(random, run.largest),
         1..=7 if !busy.is_empty() => random.pick(&busy),
         _ => {
-            let few = [0, 0, 1, 2, run.in_force, run.in_force + 1];
+            let count = run.in_force.min(run.largest.into()) as u8;
+            let few = [0, 0, 1, 2, count, count + 1];
             random.pick(&few).min(run.largest)
         }
     }

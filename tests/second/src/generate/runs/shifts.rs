@@ -162,7 +162,7 @@ fn seen(run: &Run, party: u8) -> Option<Seen> {
         place: run.records.place[usize::from(own)].into(),
         size: run.settings.size,
         largest: run.largest,
-        in_force: run.in_force,
+        in_force: run.in_force as u8, // 1 to 64, as the list was accepted
         first: run.records.next[usize::from(HEAD)],
     })
 }
@@ -322,15 +322,15 @@ mod tests {
     }
 
     /// The count of the last worker change delivered before a place, else the opening's.
-    fn most(run: &Run, place: usize) -> u8 {
+    fn most(run: &Run, place: usize) -> u16 {
         let earlier = run.commands[..place - 1].iter();
         let mut counts = earlier.filter_map(Command::count);
-        counts.next_back().unwrap_or(run.settings.workers)
+        counts.next_back().unwrap_or(run.settings.workers.into())
     }
 
     /// Deals a turn; if it takes a command where a dealing leads, the worker and the most that the
     /// manager may rely on.
-    fn taken(run: &mut Run, worker: u8, apart: bool) -> Option<(u8, u8, u8)> {
+    fn taken(run: &mut Run, worker: u8, apart: bool) -> Option<(u8, u16, u16)> {
         let searching = matches!(run.parties[usize::from(worker)], Party::Searching { .. });
         run.turn(worker);
         match run.parties[usize::from(worker)] {
@@ -346,12 +346,12 @@ mod tests {
     /// taken by a worker above its count. Workers up to the largest count of all take some.
     #[test]
     fn no_command_is_taken_above_the_count_before_it() {
-        let taken: Vec<(u8, u8, u8)> = PLAYED
+        let taken: Vec<(u8, u16, u16)> = PLAYED
             .iter()
             .flat_map(|done| noted(&done.steps, taken))
             .collect();
         for (worker, most, in_force) in &taken {
-            assert!(worker <= most, "{worker} of {most}");
+            assert!(u16::from(*worker) <= *most, "{worker} of {most}");
             assert_eq!(most, in_force);
         }
         let workers: BTreeSet<u8> = taken.iter().map(|it| it.0).collect();
