@@ -194,7 +194,7 @@ fn with_another_command(worker: u8, held: Held, random: &mut Random, play: &mut 
     deal_each(&[worker, worker], random, play)
 }
 
-/// The command is one that opening refuses.
+/// The command is one that opening refuses, and counts as its bytes say.
 fn with_a_refused_command(worker: u8, held: Held, random: &mut Random, play: &mut Play) -> Played {
     let fault = random.pick(&FAULTS);
     set_command(play, held.place, &with_faults(random, fault))?;
@@ -346,8 +346,7 @@ mod tests {
     }
 
     /// What a change makes of the first turn of a worker that holds a command of a kind.
-    fn first_turn(kind: Kind, change: Change<Held>) -> Service {
-        let random = &mut Random::new(1);
+    fn first_turn(kind: Kind, change: Change<Held>, random: &mut Random) -> Service {
         let mut play = Play::new(&Second);
         let opening = Opening {
             size: 1,
@@ -364,24 +363,42 @@ mod tests {
         noted(&play.steps, service).remove(0)
     }
 
-    /// A refused command counts as a read of key 0, which has one turn; where there is no command
-    /// there are two; and a looked-up worker has one.
+    /// Where there is no command there are two turns, and a looked-up worker has one.
     #[test]
     fn a_changed_command_is_served_as_it_stands() {
+        let random = &mut Random::new(1);
         let written = Party::Written { own: 1 };
         for kind in Kind::ALL {
-            let refused = first_turn(kind, with_a_refused_command);
-            assert_eq!((refused.kind, refused.after), (Some(Read), written));
-            assert_eq!(refused.answer, 1002);
-            let none = first_turn(kind, without_a_command);
+            let none = first_turn(kind, without_a_command, random);
             let looked_up = Party::LookedUp { own: 1, found: 0 };
             assert_eq!((none.kind, none.after), (None, looked_up));
             for change in &CHANGES[..3] {
-                let it = first_turn(kind, *change);
+                let it = first_turn(kind, *change, random);
                 assert_eq!((it.kind, it.after), (Some(kind), written));
             }
         }
         assert!(services(None, true).count() >= 1000);
+    }
+
+    /// A refused command counts as its bytes say: a read, or one whose kind is none, has one turn,
+    /// and each other kind two. None of them finds anything in the empty store.
+    #[test]
+    fn a_refused_command_is_served_as_its_kind_is() {
+        let random = &mut Random::new(1);
+        let met = (0..300).map(|_| {
+            let kind = random.pick(&Kind::ALL);
+            let it = first_turn(kind, with_a_refused_command, random);
+            let (after, answer) = match it.kind {
+                Some(Read) => (Party::Written { own: 1 }, 1002),
+                _ => (Party::LookedUp { own: 1, found: 0 }, 0),
+            };
+            assert_eq!((it.after, it.answer), (after, answer));
+            it.kind.map_or(0, Kind::number)
+        });
+        let counts = counts(met);
+        assert!(counts.keys().eq(&Kind::OF_ITEMS.map(Kind::number)));
+        assert!(counts.values().all(|count| *count >= 40), "{counts:?}");
+        assert!(counts[&Read.number()] >= 80, "{counts:?}");
     }
 
     #[test]
