@@ -392,7 +392,7 @@ mod tests {
         assert_eq!(key(b"AA000000014AA"), 676);
         assert_eq!(key(b"AA000000005A["), 26);
         assert_eq!(key(b"AA000000005@["), 0);
-        assert_eq!(key(b"AA0000000:5AA"), key(b"AA000000100AA"));
+        assert_eq!(key(b"AA0000000:5AA"), key(b"AA000000102AA"));
         assert_eq!(key(b"A[000000005AA"), key(b"BA000000005AA"));
         assert_eq!(key(b"ZZ999999995Z["), identifier::LARGEST_KEY + 1);
     }

@@ -53,12 +53,14 @@ pub enum Sort {
     Swaps,
     /// Runs that are dispatched.
     Dispatches,
+    /// Runs whose lists are handed back with commands that opening refuses.
+    Untested,
     /// An input of the program.
     Programs,
 }
 
 impl Sort {
-    pub const ALL: [Sort; 15] = [
+    pub const ALL: [Sort; 16] = [
         Sort::Identifiers,
         Sort::Keys,
         Sort::Commands,
@@ -73,6 +75,7 @@ impl Sort {
         Sort::Checkpoints,
         Sort::Swaps,
         Sort::Dispatches,
+        Sort::Untested,
         Sort::Programs,
     ];
 
@@ -92,6 +95,7 @@ impl Sort {
             Sort::Checkpoints => "checkpoints",
             Sort::Swaps => "swaps",
             Sort::Dispatches => "dispatches",
+            Sort::Untested => "untested",
             Sort::Programs => "programs",
         }
     }

@@ -1,6 +1,6 @@
 //! How often the compared inputs meet what document 02's A.2 brings: its refusals, and the turns at
-//! which the worker count decides; in `images`, what A.3 does; in `moments`, what A.10 does; and in
-//! `dispatches`, what A.6 does.
+//! which the worker count decides; in `images`, what A.3 does; in `moments`, what A.10 does; in
+//! `dispatches`, what A.6 does; and in `untested`, commands of lists that no opening accepted.
 //! One that no input met would leave the comparison blind there.
 
 /// An enum of what is counted, with the words for each.
@@ -27,6 +27,7 @@ macro_rules! named {
 pub mod dispatches;
 pub mod images;
 pub mod moments;
+pub mod untested;
 
 use std::ops::AddAssign;
 
@@ -37,6 +38,7 @@ use crate::identifier;
 use crate::met::dispatches::Dispatches;
 use crate::met::images::Images;
 use crate::met::moments::Moments;
+use crate::met::untested::Untested;
 use crate::run::{HEAD, Party, Run};
 use crate::script::{List, Step};
 
@@ -154,6 +156,7 @@ pub struct Met {
     pub images: Images,
     pub moments: Moments,
     pub dispatches: Dispatches,
+    pub untested: Untested,
 }
 
 impl Default for Met {
@@ -164,6 +167,7 @@ impl Default for Met {
             images: Images::default(),
             moments: Moments::default(),
             dispatches: Dispatches::default(),
+            untested: Untested::default(),
         }
     }
 }
@@ -178,6 +182,7 @@ impl AddAssign<&Met> for Met {
         self.images.add(&other.images);
         self.moments.add(&other.moments);
         self.dispatches.add(&other.dispatches);
+        self.untested.add(&other.untested);
     }
 }
 
@@ -195,6 +200,7 @@ impl Met {
             .chain(self.images.lines())
             .chain(self.moments.lines())
             .chain(self.dispatches.lines())
+            .chain(self.untested.lines())
             .collect()
     }
 
@@ -202,7 +208,7 @@ impl Met {
     pub fn lacks_any(&self) -> bool {
         let changes = self.events.contains(&0) || self.characters.contains(&0);
         let images = self.images.lacks_any() || self.moments.lacks_any();
-        changes || images || self.dispatches.lacks_any()
+        changes || images || self.dispatches.lacks_any() || self.untested.lacks_any()
     }
 
     pub fn count(&self, event: Event) -> u64 {
@@ -238,6 +244,9 @@ impl Met {
 
     fn note_dealing(&mut self, host: &Host, schedule: &[u8], answer: u64) {
         let state = host.list(List::State);
+        if answer == 0 {
+            self.untested.note_dealing(host, schedule);
+        }
         match answer {
             12 => self.note_refused_state(state),
             0 | 11 if changed(host) => {
@@ -306,10 +315,7 @@ impl Met {
             }
             (Party::LookedUp { found, .. }, _) => {
                 self.note(Event::WrittenWithAFinding, count.is_some() && found != 0);
-                self.note(
-                    Event::HolderAbove,
-                    count.is_some_and(|count| u16::from(party) > count),
-                );
+                self.note(Event::HolderAbove, count.is_some() && !run.allows(party));
                 self.note_written(run, count, in_force);
             }
             (Party::Clearing { .. }, Party::Idle) => {
@@ -374,6 +380,8 @@ mod tests {
         met.moments = Moments::met(2);
         assert!(met.lacks_any(), "no dispatch is met");
         met.dispatches = Dispatches::met(2);
+        assert!(met.lacks_any(), "no refused command is met");
+        met.untested = Untested::met(2);
         assert!(!met.lacks_any());
         for index in 0..Event::ALL.len() {
             assert_eq!(Event::ALL[index] as usize, index);
@@ -391,7 +399,7 @@ mod tests {
         assert_eq!(sum.count(Event::Opened), 4);
         let lines = sum.lines();
         let images = sum.images.lines().count() + sum.moments.lines().count();
-        let others = images + sum.dispatches.lines().count();
+        let others = images + sum.dispatches.lines().count() + sum.untested.lines().count();
         let counts = Event::ALL.len() + identifier::LENGTH;
         assert_eq!(lines.len(), counts + others);
         assert_eq!(lines[1], "counts refused 14: 4");

@@ -100,8 +100,12 @@ impl<'a> Play<'a> {
         let answer = self.expected.take(self.second, step);
         match (step, before) {
             (Step::Dispatch(lent), Some(before)) => {
+                let after = &self.expected;
                 let dispatches = &mut self.met.dispatches;
-                dispatches.note_dispatch(&before, &self.expected, *lent, answer);
+                dispatches.note_dispatch(&before, after, *lent, answer);
+                if answer == 0 {
+                    self.met.untested.note_dispatch(&before, after);
+                }
             }
             (_, Some(before)) => self.met.note_step(&before, step, answer),
             (Step::Serial | Step::StepsNeeded(_), None) => {

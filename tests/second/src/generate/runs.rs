@@ -2,7 +2,7 @@
 //! and in pieces, with judgements by the serial run and refused calls between them, items announced
 //! again, reads beside other commands, commands that pass inserts and deletes, worker counts that
 //! change, checkpoints, runs that are opened from the images of others, dispatches, handed-back lists
-//! that were changed, and the program.
+//! that were changed, those with commands that opening refuses among them, and the program.
 
 mod announcements;
 mod changes;
@@ -25,6 +25,7 @@ mod shifts;
 mod swaps;
 #[cfg(test)]
 mod tables;
+mod untested;
 
 use super::Sort;
 use crate::calls::{COUNTS, STATUSES};
@@ -34,10 +35,11 @@ use crate::script::{List, Step};
 use openings::Opening;
 
 /// How many runs are always compared, whatever the seed adds to them.
-pub const FIXED: u64 = DISPATCHES + dispatches::COUNT;
+pub const FIXED: u64 = UNTESTED + untested::COUNT;
 /// Where those with items announced again begin, those with reads beside other commands, those with
 /// commands that pass inserts and deletes, those with worker counts that change, those with
-/// checkpoints, those that are swapped for another and those that are dispatched.
+/// checkpoints, those that are swapped for another, those that are dispatched and those with lists that
+/// no opening accepted.
 const ANNOUNCEMENTS: u64 = limits::COUNT + LONG;
 const READS: u64 = ANNOUNCEMENTS + announcements::COUNT;
 const PASSES: u64 = READS + reads::COUNT;
@@ -45,6 +47,7 @@ const SHIFTS: u64 = PASSES + passes::COUNT;
 const CHECKPOINTS: u64 = SHIFTS + shifts::COUNT;
 const SWAPS: u64 = CHECKPOINTS + checkpoints::COUNT;
 const DISPATCHES: u64 = SWAPS + swaps::COUNT;
+const UNTESTED: u64 = DISPATCHES + dispatches::COUNT;
 /// Long runs among them.
 const LONG: u64 = 14;
 /// Random runs come in rounds of this many kinds.
@@ -60,6 +63,7 @@ const MOMENTS: u64 = 3;
 pub fn sort(index: u64) -> Sort {
     match index.checked_sub(FIXED) {
         Some(index) if index % ROUND == PROGRAM => Sort::Programs,
+        None if index >= UNTESTED => Sort::Untested,
         None if index >= DISPATCHES => Sort::Dispatches,
         None if index >= SWAPS => Sort::Swaps,
         None if index >= CHECKPOINTS => Sort::Checkpoints,
@@ -98,8 +102,11 @@ pub fn play(seed: u64, index: u64, play: &mut Play) -> Result<(), Difference> {
     if index < DISPATCHES {
         return swaps::play(index - SWAPS, random, play);
     }
-    if index < FIXED {
+    if index < UNTESTED {
         return dispatches::play(index - DISPATCHES, random, play);
+    }
+    if index < FIXED {
+        return untested::play(index - UNTESTED, random, play);
     }
     let index = index - FIXED;
     match index % ROUND {
@@ -343,7 +350,7 @@ mod tests {
     #[test]
     fn every_call_meets_each_of_its_refusals() {
         let depot = Counting::default();
-        let dispatches = DISPATCHES + dispatches::MANY..FIXED;
+        let dispatches = DISPATCHES + dispatches::MANY..UNTESTED;
         let indexes = (0..limits::COUNT).chain(dispatches);
         for index in indexes.chain(FIXED..FIXED + 4000) {
             play(1, index, &mut Play::new(&depot)).expect("the second program is itself");

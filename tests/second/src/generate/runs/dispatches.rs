@@ -305,8 +305,8 @@ fn take(random: &mut Random, play: &mut Play, length: usize, count: usize) -> Pl
 
 #[cfg(test)]
 mod tests {
+    use super::super::DISPATCHES;
     use super::super::dealings::testing::{assert_made_from_the_seed, met, played};
-    use super::super::{DISPATCHES, FIXED};
     use super::*;
     use crate::met::dispatches::Sort;
 
@@ -330,6 +330,6 @@ mod tests {
 
     #[test]
     fn runs_are_made_from_the_seed() {
-        assert_made_from_the_seed(DISPATCHES + MANY, FIXED - DISPATCHES - MANY);
+        assert_made_from_the_seed(DISPATCHES + MANY, COUNT - MANY);
     }
 }
