@@ -69,7 +69,7 @@ extern "C" {
 
 /* The version of this header: 10000 × major + 100 × minor + patch. The archive cannot be asked for its own, so keep the two of one
  * package together; `pkg-config --modversion depot` is the package's. */
-#define DEPOT_VERSION 10000
+#define DEPOT_VERSION 10001
 
 enum {
     DEPOT_STATE_LENGTH = 4718,

@@ -2,7 +2,7 @@
 use Prim.Native.Nat.{ℕ, _+_, _-_, _≤_, _<_, min}
 use native.Mathlib.Omega.{arith}
 use mathlib.Core.Bool.{Bool, true, false, cond, _&&_}
-use mathlib.Core.Path.{_≡_, sym, ap, _∙_}
+use mathlib.Core.Path.{_≡_, refl, sym, ap, _∙_}
 use mathlib.Core.List.{List}
 use borrow.Author.Tests.{le-leb, lt-leb}
 use lib.ListN.{length, getD, set}
@@ -46,6 +46,34 @@ module _ {key : ℕ} {st : Store} {found : Found} (f : Finds key st found) where
   pub looked-up-none : found .held ≡ false → 0 ≡ lookUp key st
   unfolding lookUp
   looked-up-none absent = picked _ _ (sym (f .held) ∙ absent)
+
+  -- By a choice between two numbers: of a store with entries in use, the chute at the place found, if the key is held, and else that of the first, for
+  -- which 0 is chosen then.
+  abbrev pub chosen : ℕ
+  chosen = cond (found .held) (found .at) 0
+
+  pub chosen-within : (found .in_use ≡ 0 → ⊥) → chosen < length (st .chutes)
+  unfolding inUse
+  chosen-within some = by (found .held) refl
+    where
+      by : (b : Bool) → found .held ≡ b → cond b (found .at) 0 < length (st .chutes)
+      by true held = omega (arith, held-within held)
+      by false absent = omega (arith, f .in-use)
+
+  pub chosen-chute : cond (found .held) (getD (st .chutes) chosen 0) 0 ≡ lookUp key st
+  chosen-chute = by (found .held) refl
+    where
+      by : (b : Bool) → found .held ≡ b → cond b (getD (st .chutes) (cond b (found .at) 0) 0) 0 ≡ lookUp key st
+      by true held = looked-up held
+      by false absent = looked-up-none absent
+
+  -- An empty store holds nothing.
+  pub none-held : found .in_use ≡ 0 → 0 ≡ lookUp key st
+  none-held none = by (found .held) refl
+    where
+      by : (b : Bool) → found .held ≡ b → _≡_ {A = ℕ} 0 (lookUp key st)
+      by true held = absurd (omega (arith, held-within held))
+      by false absent = looked-up-none absent
 
   module _ {both : ℕ} (b : both ≡ min (length (st .keys)) (length (st .chutes))) where
     -- Where a place is left, both lists have one more place than are in use.

@@ -189,13 +189,23 @@ fn shift_down_chutes(chutes: &mut [u16], p: usize, n: usize)
     chutes[last] = 0;
 }
 
+// A chute, or 0 for none.
+fn chute_if(held: bool, chute: u16) -> u16
+    ensures { λ r. ⌜ r ≡ cond held chute 0 ⌝ }
+{
+    if held { chute } else { 0 }
+}
+
 // The chute of a key, 0 where the store does not hold it.
 pub fn look_up(keys: &[u64], chutes: &[u16], used: usize, key: u64) -> u16
     ensures { λ r. ⌜ r ≡ lookUp key (storeOf (now (keys .entry)) (now (chutes .entry)) used) ⌝ }
 {
     let found = find(keys, chutes, used, key);
-    let at = found.at;
-    if found.held { chutes[at] } else { 0 }
+    if found.in_use == 0 {
+        return 0;
+    }
+    let at = either(found.held, found.at, 0);
+    chute_if(found.held, chutes[at])
 }
 
 // Puts a key and its chute in where the key belongs, with later entries shifted up, and returns the count in use. A key
