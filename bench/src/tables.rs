@@ -251,7 +251,10 @@ fn belt(bench: &Bench) -> Result<(), String> {
     );
     println!("| | Commands a second |");
     println!("|---|---|");
-    let commands = |time: Duration| rate(MOST_COMMANDS, time);
+    let commands = |time: Duration| {
+        let millions = MOST_COMMANDS as f64 / time.as_secs_f64() / 1e6;
+        format!("{millions:.2} million")
+    };
     println!(
         "| open and dispatch, proved, one core | {} |",
         commands(it.dispatched)
