@@ -165,6 +165,9 @@ pub fn same(proved: &Lists, plain: &Lists) -> Result<(), String> {
 #[cfg(test)]
 mod tests {
     use super::*;
+    use crate::input::{Kinds, Order};
+    use second::depot::Second;
+    use second::run::Settings;
 
     fn lists() -> Lists {
         Lists {
@@ -195,6 +198,30 @@ mod tests {
             change(&mut other);
             assert!(same(&lists(), &other).is_err());
             assert!(same(&other, &lists()).is_err());
+        }
+    }
+
+    /// Of a plain run kept as arrays: its turns, store and answers.
+    #[test]
+    fn a_plain_run_that_differs_is_found() {
+        let settings = Settings {
+            size: 2,
+            workers: 1,
+            room: 3,
+        };
+        let input = Input::new(settings, Kinds::InsertsAndReads, 4, Order::Random, 0);
+        let lists = Lists::opened(&Second, &input).expect("the list is accepted");
+        assert_eq!(lists.same_as(&input.opened()), Ok(()));
+        let changes: [fn(&mut Run); 4] = [
+            |run| run.advance(&[0]),
+            |run| run.store.keys[2] = 1,
+            |run| run.store.chutes[2] = 1,
+            |run| run.answers[3] = 1,
+        ];
+        for change in changes {
+            let mut run = input.opened();
+            change(&mut run);
+            assert!(lists.same_as(&run).is_err());
         }
     }
 
