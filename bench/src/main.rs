@@ -2,8 +2,8 @@
 //! one process, and their lists are compared at the end; a difference ends with status 1.
 //!
 //! `bench [runs [part [turns]]]`: 11 runs, all parts and whole lists unless said. The parts are
-//! `steps`, `calls`, `growth`, `reads`, `mailing`, `checkpoint`, `dispatch` and `belt`; `turns` is the
-//! most that is dealt of a list, but for `dispatch` and `belt`, which make their own.
+//! `steps`, `calls`, `growth`, `reads`, `mailing`, `checkpoint`, `dispatch` and `full`; `turns` is the
+//! most that is dealt of a list, but for `dispatch` and `full`, which make their own.
 
 use std::env;
 use std::path::PathBuf;
@@ -15,10 +15,10 @@ use measure::Bench;
 // The proved calls through C, as the comparisons of the second program make them.
 #[path = "../../tests/second/src/bin/compare_depot/archive.rs"]
 mod archive;
-mod belt;
 mod checkpoint;
 mod clock;
 mod dispatch;
+mod full;
 mod input;
 mod lists;
 mod measure;

@@ -35,14 +35,14 @@ pub fn print(bench: &Bench, part: Option<&str>) -> Result<(), String> {
         ("mailing", mailing),
         ("checkpoint", checkpoint),
         ("dispatch", dispatch),
-        ("belt", belt),
+        ("full", full),
     ];
     if let Some(part) = part
         && parts.iter().all(|(name, _)| *name != part)
     {
         return Err(format!(
             "no part `{part}`; the parts are steps, calls, growth, reads, mailing, checkpoint, \
-             dispatch and belt"
+             dispatch and full"
         ));
     }
     println!(
@@ -233,9 +233,9 @@ fn dispatch(bench: &Bench) -> Result<(), String> {
     Ok(())
 }
 
-/// Document 02, A.14: a full belt's dealing by the dispatcher, beside plain Rust and beside threads. The
+/// Document 02, A.14: a full list's schedule by the dispatcher, beside plain Rust and beside threads. The
 /// ratio that the request names is printed last.
-fn belt(bench: &Bench) -> Result<(), String> {
+fn full(bench: &Bench) -> Result<(), String> {
     let input = Input::new(
         LARGEST,
         Kinds::InsertsAndReads,
@@ -243,9 +243,9 @@ fn belt(bench: &Bench) -> Result<(), String> {
         Order::Random,
         0,
     );
-    let it = bench.belt(&input)?;
+    let it = bench.full(&input)?;
     println!(
-        "Full belt: size 150, 64 workers, room 4096, {MOST_COMMANDS} commands, the dispatcher's {} \
+        "Full list: size 150, 64 workers, room 4096, {MOST_COMMANDS} commands, the dispatcher's {} \
          steps from opening.\n",
         it.steps
     );

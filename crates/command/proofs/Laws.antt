@@ -17,7 +17,7 @@ use Rattle.s10.proofs.Laws.{accepted-is-at-most-largest, accepted-as-untested a
 use Rattle.command.specs.declared.Kind.{Kind}
 use Rattle.command.specs.declared.Kind.the-variants.{Insert, Delete, Read, Update, Workers, Checkpoint}
 use Rattle.command.specs.declared.Command.{Command}
-use Rattle.command.specs.Read.{CommandOutcome, accepted, refused, kindOf, chuteFits, chuteRefusal, chuteOf, firstNotZero, readZeros, readIdentifier, withKind, withChute, readCommand, parts, partsOf, readings, allAccepted, listRefused, firstRefusal, commandIn, commandsIn}
+use Rattle.command.specs.Read.{CommandOutcome, accepted, refused, kindOf, chuteFits, chuteRefusal, chuteOf, firstNotZero, readZeros, readIdentifier, withKind, withChute, readCommand, parts, partsOf, readings, allAccepted, listRefused, firstRefusal, commandIn}
 use Rattle.command.specs.Dependent.{hasItem, isInsertOrDelete, isRead, isCheckpoint, areDependent}
 use Rattle.command.specs.Laws.{DependenceIsSymmetric, DependentPairs, KindOfItsNumber, AcceptedChuteFits, AcceptedChuteIsAtMostLast, AcceptedKeyIsAtMostLargest, AcceptedAsUntested, CharacterIsTheIdentifiers, AllAccepted, NoRefusalIsAllAccepted, RefusedBeginsInside}
 

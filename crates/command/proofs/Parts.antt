@@ -1,7 +1,7 @@
 -- Parts of a list that end where the list ends, at the latest. Assumes nothing.
 use Prim.Native.Nat.{ℕ, suc, _+_, _-_, _/_, _≤_, _<_, min}
-use mathlib.Core.Path.{_≡_}
-use mathlib.Core.List.{List, _∷_}
+use mathlib.Core.Path.{_≡_, ap}
+use mathlib.Core.List.{List, _∷_, map}
 use native.Mathlib.Decide.{decLe}
 use native.Mathlib.Nat.{min-eq-left, min-eq-right}
 use native.Mathlib.Omega.{arith}
@@ -32,29 +32,27 @@ part-min at n l =
     rw (count, take-min)
 
 -- a list that is not empty begins with a part
-pub readings-cons : (bytes : List ℕ) → 0 < length bytes → readings bytes ≡ readCommand (take 16 bytes) ∷ readings (drop 16 bytes)
-unfolding readings partsOf parts
-readings-cons bytes h =
+pub parts-cons : (bytes : List ℕ) → 0 < length bytes → partsOf bytes ≡ take 16 bytes ∷ partsOf (drop 16 bytes)
+unfolding partsOf parts
+parts-cons bytes h =
     let more : (length bytes + 15) / 16 ≡ suc ((length (drop 16 bytes) + 15) / 16) = rw length-drop (omega arith) in
     rw more
 
--- and its commands begin with that part's
-pub commands-cons : (bytes : List ℕ) → 0 < length bytes → commandsIn bytes ≡ commandIn (take 16 bytes) ∷ commandsIn (drop 16 bytes)
-unfolding commandsIn partsOf parts
-commands-cons bytes h =
-    let more : (length bytes + 15) / 16 ≡ suc ((length (drop 16 bytes) + 15) / 16) = rw length-drop (omega arith) in
-    rw more
+-- the parts from a place on are the part there and those from its end on
+parts-from : (at : ℕ) (list : List ℕ) → at < length list →
+    let end = min (at + 16) (length list) in partsOf (drop at list) ≡ take (end - at) (drop at list) ∷ partsOf (drop end list)
+parts-from at list h =
+    let some : 0 < length (drop at list) = rw length-drop (omega arith) in
+    rw (part-min, drop-min, ← drop-drop 16 at list) (parts-cons (drop at list) some)
 
--- the readings from a place on are that of the part there and those from the part's end on
+-- and so are the readings
 pub readings-from : (at : ℕ) (list : List ℕ) → at < length list →
     let end = min (at + 16) (length list) in readings (drop at list) ≡ readCommand (take (end - at) (drop at list)) ∷ readings (drop end list)
-readings-from at list h =
-    let some : 0 < length (drop at list) = rw length-drop (omega arith) in
-    rw (part-min, drop-min, ← drop-drop 16 at list) (readings-cons (drop at list) some)
+unfolding readings
+readings-from at list h = ap (map readCommand) (parts-from at list h)
 
--- and so are the commands
+-- and the commands
 pub commands-from : (at : ℕ) (list : List ℕ) → at < length list →
     let end = min (at + 16) (length list) in commandsIn (drop at list) ≡ commandIn (take (end - at) (drop at list)) ∷ commandsIn (drop end list)
-commands-from at list h =
-    let some : 0 < length (drop at list) = rw length-drop (omega arith) in
-    rw (part-min, drop-min, ← drop-drop 16 at list) (commands-cons (drop at list) some)
+unfolding commandsIn
+commands-from at list h = ap (map commandIn) (parts-from at list h)

@@ -6,36 +6,39 @@ use mathlib.Core.Path.{_≡_, refl, ap, _∙_}
 use mathlib.Core.List.{List, [], _∷_, map}
 use lib.ListN.{drop}
 use lib.Seq.{drop-nil, drop-drop}
-use Rattle.command.specs.Read.{CommandOutcome, accepted, refused, parts, partsOf, readings, allAccepted, firstRefusal, commandsIn}
+use Rattle.command.specs.Read.{CommandOutcome, accepted, refused, readCommand, parts, partsOf, readings, allAccepted, firstRefusal, commandIn, commandsIn}
 use Rattle.command.specs.Laws.{AllAccepted}
-use Rattle.command.proofs.Parts.{readings-cons, commands-cons}
+use Rattle.command.proofs.Parts.{parts-cons}
 use Rattle.command.proofs.Laws.{no-refusal-is-all-accepted}
 
--- no bytes, no readings
-readings-nil : readings [] ≡ []
-unfolding readings partsOf parts
-readings-nil = refl
+-- what is mapped of the rest is the rest of what is mapped
+map-drop : {A B : Type 0} (f : A → B) (n : ℕ) (l : List A) → map f (drop n l) ≡ drop n (map f l)
+map-drop f zero l = refl
+map-drop f (suc n) [] = refl
+map-drop f (suc n) (x ∷ l) = map-drop f n l
 
--- the bytes after n commands are read as what follows n readings
-pub readings-drop : (n : ℕ) (bytes : List ℕ) → readings (drop (16 * n) bytes) ≡ drop n (readings bytes)
-readings-drop zero bytes = refl
-readings-drop (suc n) [] = rw (drop-nil, readings-nil)
-readings-drop (suc n) (b ∷ bytes) =
+-- no bytes, no parts
+parts-nil : partsOf [] ≡ []
+unfolding partsOf parts
+parts-nil = refl
+
+-- the bytes after n commands have the parts after the first n
+parts-drop : (n : ℕ) (bytes : List ℕ) → partsOf (drop (16 * n) bytes) ≡ drop n (partsOf bytes)
+parts-drop zero bytes = refl
+parts-drop (suc n) [] = rw (drop-nil, parts-nil)
+parts-drop (suc n) (b ∷ bytes) =
     let from : 16 * suc n ≡ 16 + 16 * n = omega arith in
-    rw (from, ← drop-drop (16 * n) 16 (b ∷ bytes), readings-cons (b ∷ bytes) (omega arith)) (readings-drop n (drop 16 (b ∷ bytes)))
+    rw (from, ← drop-drop (16 * n) 16 (b ∷ bytes), parts-cons (b ∷ bytes) (omega arith)) (parts-drop n (drop 16 (b ∷ bytes)))
 
--- no bytes, no commands
-commands-nil : commandsIn [] ≡ []
-unfolding commandsIn partsOf parts
-commands-nil = refl
+-- so they are read as what follows n readings
+pub readings-drop : (n : ℕ) (bytes : List ℕ) → readings (drop (16 * n) bytes) ≡ drop n (readings bytes)
+unfolding readings
+readings-drop n bytes = ap (map readCommand) (parts-drop n bytes) ∙ map-drop readCommand n (partsOf bytes)
 
 -- and hold the commands after the first n
 pub commands-drop : (n : ℕ) (bytes : List ℕ) → commandsIn (drop (16 * n) bytes) ≡ drop n (commandsIn bytes)
-commands-drop zero bytes = refl
-commands-drop (suc n) [] = rw (drop-nil, commands-nil)
-commands-drop (suc n) (b ∷ bytes) =
-    let from : 16 * suc n ≡ 16 + 16 * n = omega arith in
-    rw (from, ← drop-drop (16 * n) 16 (b ∷ bytes), commands-cons (b ∷ bytes) (omega arith)) (commands-drop n (drop 16 (b ∷ bytes)))
+unfolding commandsIn
+commands-drop n bytes = ap (map commandIn) (parts-drop n bytes) ∙ map-drop commandIn n (partsOf bytes)
 
 -- where every reading is accepted, the rest are
 accepted-drop : (n : ℕ) (rs : List CommandOutcome) → AllAccepted rs → AllAccepted (drop n rs)

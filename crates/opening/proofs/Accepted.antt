@@ -1,15 +1,14 @@
 -- What an accepted opening has been tested for, and the lists that it leaves. Assumes nothing.
-use Prim.Native.Nat.{ℕ, zero, suc, _+_, _*_, _/_, _%_, _≤_}
+use Prim.Native.Nat.{ℕ, zero, suc, _*_, _/_, _%_, _≤_}
 use native.Mathlib.Omega.{arith}
-use mathlib.Core.Path.{_≡_, refl, ap, _∙_}
+use mathlib.Core.Path.{_≡_, refl}
 use mathlib.Core.Bool.{Bool, true, false, cond, _&&_, and-eq-true-iff}
-use mathlib.Core.List.{List, [], _∷_, map}
+use mathlib.Core.List.{List}
 use mathlib.Core.Option.{some}
-use lib.ListN.{length, getElem?}
+use lib.ListN.{length}
 use lib.Dec.{eqb, leb}
 use borrow.Author.Tests.{leb-true, eqb-true}
 use Rattle.s10.specs.Refusal.{plain}
-use Rattle.s10.specs.Text.{largestKey}
 use Rattle.command.specs.declared.Command.{Command}
 use Rattle.command.specs.Read.{accepted, readCommand, partsOf, readings, ListOutcome, allAccepted, listRefused, firstRefusal, commandsIn}
 use Rattle.command.proofs.Laws.{accepted-chute-fits, accepted-key-is-at-most-largest, read-so}

@@ -1,6 +1,6 @@
 -- `s10::serial_sum` meets its contract. The loop's invariant: the number so far and the digits from `k` on write the whole number, and k
 -- digits, each at most 255, write less than 29 × 10 ^ k. Assumes nothing.
-use Prim.Native.Nat.{ℕ, _+_, _*_, _-_, _^_, _≤_, _<_}
+use Prim.Native.Nat.{ℕ, _+_, _*_, _-_, _^_, _≤_}
 use mathlib.Core.Path.{_≡_, refl, sym, _∙_}
 use native.Mathlib.Nat.{pow-suc, pow-le-pow-right}
 use native.Mathlib.Numerals.{add-one}

@@ -1,4 +1,4 @@
-//! Document 02, A.14: the dispatcher's dealing of a full belt, performed from opening, beside plain
+//! Document 02, A.14: the dispatcher's schedule of a full list, performed from opening, beside plain
 //! Rust "with the same records, turns and store" on the same bytes; and beside threads.
 
 use std::time::{Duration, Instant};
@@ -11,24 +11,24 @@ use crate::lists::{Lists, accepted};
 use crate::measure::{Bench, StepTimes, median};
 use crate::threads;
 
-/// Median times of a full belt.
-pub struct Belt {
+/// Median times of a full list.
+pub struct Full {
     pub steps: usize,
-    /// Performing the dealing.
+    /// Performing the schedule.
     pub dealt: StepTimes,
     /// Opening and dispatching, on the wall's clock.
     pub dispatched: Duration,
 }
 
 impl Bench {
-    /// The dispatcher's dealing from opening.
-    pub fn belt(&self, input: &Input) -> Result<Belt, String> {
+    /// The dispatcher's schedule from opening.
+    pub fn full(&self, input: &Input) -> Result<Full, String> {
         let mut lists = Lists::opened(&self.proved, input)?;
         let mut lent = vec![0; lists.steps_needed(&self.proved, input)?];
         let steps = lists.dispatch(&self.proved, input, &mut lent)?;
         lent.truncate(steps);
         let dealt = Input::given(input.settings, input.commands.clone(), lent);
-        Ok(Belt {
+        Ok(Full {
             steps,
             dealt: self.steps(&dealt)?,
             dispatched: self.dispatched(input, steps)?,
