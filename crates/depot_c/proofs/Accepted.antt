@@ -11,7 +11,7 @@ use Rattle.command.specs.Read.{firstRefusal, readings}
 use Rattle.command.specs.Read as Command
 use Rattle.model.specs.Setup.{Setup}
 use Rattle.model.specs.Statement.{allWithin}
-use Rattle.model.specs.Proof.Tests.{cond-cases}
+use Rattle.command.proofs.Tests.{cond-cases}
 use Rattle.state_bytes.specs.Layout.{Lists, setupIn, lengthsFit, stateFits, handedBackFit, imageFits}
 use Rattle.state_bytes.specs.Outcome.{CallOutcome, accepted, refused, refusalIn}
 use Rattle.opening.specs.Calls.{Source, sourceLong, sourceChained, sourceFits, openedWith, openOn, setupOf}

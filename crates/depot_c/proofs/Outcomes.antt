@@ -13,7 +13,7 @@ use Rattle.command.specs.Read.{firstRefusal, readings}
 use Rattle.command.specs.Read as Command
 use Rattle.command.proofs.Laws.{length-readings}
 use Rattle.model.specs.Setup.{Setup}
-use Rattle.model.specs.Proof.Tests.{fails}
+use Rattle.command.proofs.Tests.{fails, cond-cases, cond-same}
 use Rattle.byte_fields.specs.Bytes.{numberAt}
 use Rattle.state_bytes.specs.Layout.{Lists, allLists, lists, stateLength, setupIn, countIn, stateFits, lengthsFit, handedBackFit, imageFits}
 use Rattle.state_bytes.specs.Outcome.{CallOutcome, accepted, refused, refusalIn, kept}
@@ -27,18 +27,6 @@ use Rattle.byte_fields.proofs.Bytes.{Bytes}
 use Rattle.state_bytes.proofs.Tested.{each-passed}
 use Rattle.state_bytes.proofs.Passed.{InRange, state-passed}
 use Rattle.depot_c.proofs.Entries.{numbers-length, numbers-read-back}
-
--- ---- tests
-
--- what holds of either choice, each under its test, holds of the chosen one
-chosen : (P : CallOutcome → Type 0) (t : Bool) {a b : CallOutcome} → (t ≡ true → P a) → (t ≡ false → P b) → P (cond t a b)
-chosen P true p q = p refl
-chosen P false p q = q refl
-
--- choices that agree where the test is true are the same
-under : (t : Bool) (n : ℕ) {a a′ : CallOutcome} → (t ≡ true → a ≡ a′) → cond t a (refused (plain n)) ≡ cond t a′ (refused (plain n))
-under true n same = same refl
-under false n same = refl
 
 -- ---- places
 
@@ -55,14 +43,14 @@ unfolding openOn refusalIn
 opening-place-below size workers capacity commands source l =
     let P : CallOutcome → Type 0 = λ o. refusalIn o .place ≤ 4096 in
     let none : (n : ℕ) → P (refused (plain n)) = λ n. omega arith in
-    chosen P (leb 1 size && leb size 150) (λ _.
-    chosen P (leb 1 workers && leb workers 64) (λ _.
-    chosen P (leb 1 capacity && leb capacity 4096) (λ _.
-    chosen P (eqb (length commands % 16) 0) (λ whole.
-    chosen P (leb (length commands / 16) 4096) (λ few.
-    chosen P (lengthsFit capacity (length commands / 16) l && imageFits capacity l && sourceLong capacity source) (λ _.
-    chosen P (sourceChained capacity source) (λ _.
-    chosen P (sourceFits capacity source)
+    cond-cases P (leb 1 size && leb size 150) (λ _.
+    cond-cases P (leb 1 workers && leb workers 64) (λ _.
+    cond-cases P (leb 1 capacity && leb capacity 4096) (λ _.
+    cond-cases P (eqb (length commands % 16) 0) (λ whole.
+    cond-cases P (leb (length commands / 16) 4096) (λ few.
+    cond-cases P (lengthsFit capacity (length commands / 16) l && imageFits capacity l && sourceLong capacity source) (λ _.
+    cond-cases P (sourceChained capacity source) (λ _.
+    cond-cases P (sourceFits capacity source)
     (λ _. omega (arith, place-below 1 (readings commands) (setupOf size workers capacity commands source) (omega arith), length-readings commands, eqb-true (length commands % 16) 0 whole, leb-true (length commands / 16) 4096 few))
     (λ _. none 16)) (λ _. none 15)) (λ _. none 6)) (λ _. none 5)) (λ _. none 4)) (λ _. none 3)) (λ _. none 2)) (λ _. none 1)
 
@@ -74,11 +62,11 @@ pub short-opened : (size workers capacity : ℕ) (commands : List ℕ) (source o
     → openOn size workers capacity commands source l ≡ openOn size workers capacity commands other (lists [] [] [] [])
 unfolding openOn lengthsFit stateLength
 short-opened size workers capacity commands source other l short =
-    under (leb 1 size && leb size 150) 1 (λ _.
-    under (leb 1 workers && leb workers 64) 2 (λ _.
-    under (leb 1 capacity && leb capacity 4096) 3 (λ small.
-    under (eqb (length commands % 16) 0) 4 (λ _.
-    under (leb (length commands / 16) 4096) 5 (λ few.
+    cond-same (leb 1 size && leb size 150) (refused (plain 1)) (λ _.
+    cond-same (leb 1 workers && leb workers 64) (refused (plain 2)) (λ _.
+    cond-same (leb 1 capacity && leb capacity 4096) (refused (plain 3)) (λ small.
+    cond-same (eqb (length commands % 16) 0) (refused (plain 4)) (λ _.
+    cond-same (leb (length commands / 16) 4096) (refused (plain 5)) (λ few.
     rw (short (leb-true capacity 4096 (and-eq-true-iff (leb 1 capacity) (leb capacity 4096) .0 small .1)) (leb-true (length commands / 16) 4096 few)))))))
 
 -- with no lists it does not matter what image
@@ -92,11 +80,11 @@ pub nothing-opened : (size workers capacity : ℕ) (commands : List ℕ) (source
 unfolding openOn lengthsFit stateLength left
 nothing-opened size workers capacity commands source b =
     let P : CallOutcome → Type 0 = λ o. left o b ≡ b in
-    chosen P (leb 1 size && leb size 150) (λ _.
-    chosen P (leb 1 workers && leb workers 64) (λ _.
-    chosen P (leb 1 capacity && leb capacity 4096) (λ _.
-    chosen P (eqb (length commands % 16) 0) (λ _.
-    chosen P (leb (length commands / 16) 4096) (λ _. refl) (λ _. refl)) (λ _. refl)) (λ _. refl)) (λ _. refl)) (λ _. refl)
+    cond-cases P (leb 1 size && leb size 150) (λ _.
+    cond-cases P (leb 1 workers && leb workers 64) (λ _.
+    cond-cases P (leb 1 capacity && leb capacity 4096) (λ _.
+    cond-cases P (eqb (length commands % 16) 0) (λ _.
+    cond-cases P (leb (length commands / 16) 4096) (λ _. refl) (λ _. refl)) (λ _. refl)) (λ _. refl)) (λ _. refl)) (λ _. refl)
 
 -- each list has at most 4,096 entries
 abbrev pub room : Lists → Bool
@@ -147,7 +135,7 @@ pub long-advanced : (b : Lists) (commands schedule : List ℕ) → room b ≡ fa
     → advanceOn (numberLists b) commands schedule ≡ cond (allFit (numberLists b) commands) (refused (plain 12)) (refused (plain 6))
 unfolding advanceOn
 long-advanced b commands schedule long =
-    under (allFit (numberLists b) commands) 6 (λ fit. rw (long-unfit b commands long (and-eq-true-iff (handedBackFit (numberLists b) commands) _ .0 fit .0)))
+    cond-same (allFit (numberLists b) commands) (refused (plain 6)) (λ fit. rw (long-unfit b commands long (and-eq-true-iff (handedBackFit (numberLists b) commands) _ .0 fit .0)))
 
 -- an advance names no command
 pub advance-packed : (r : Advancing) → advanceRefusal r .number ≡ packed (advanceRefusal r)

@@ -11,7 +11,7 @@ use Rattle.node_set.specs.Members.{member}
 use Rattle.model.specs.Upd.{upd}
 use Rattle.model.specs.Graph.{noNode}
 use Rattle.model.specs.Proof.Upd.{upd-at, upd-other, upd-cases, upd-map}
-use Rattle.model.specs.Proof.Tests.{eqb-cases}
+use Rattle.command.proofs.Tests.{eqb-cases}
 use Rattle.graph.specs.Arrays.{numbers, sets, Nodes}
 
 -- Equal functions have equal values.

@@ -15,7 +15,7 @@ use Rattle.command.proofs.Laws.{length-parts-of}
 use Rattle.model.specs.Upd.{upd}
 use Rattle.model.specs.Setup.{commandAt}
 use Rattle.model.specs.Proof.Upd.{upd-at, upd-other}
-use Rattle.model.specs.Proof.Tests.{eqb-cases}
+use Rattle.command.proofs.Tests.{eqb-cases}
 use Rattle.graph.specs.Arrays.{numbers}
 use Rattle.graph.specs.Items.{keptAt, Kept}
 use Rattle.graph.specs.Worker.{Placed}

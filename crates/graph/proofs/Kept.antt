@@ -8,7 +8,7 @@ use mathlib.Core.Logic.{⊎-elim}
 use lib.ListN.{length, set}
 use lib.Dec.{eqb}
 use lib.Seq.{getD-set-same, getD-set-other}
-use Rattle.model.specs.Proof.Tests.{eqb-cases}
+use Rattle.command.proofs.Tests.{eqb-cases}
 use Rattle.command.specs.declared.Command.{Command}
 use Rattle.command.specs.Read.{kindOf, kindNumber}
 use Rattle.command.proofs.Laws.{kind-of-its-number}

@@ -14,7 +14,7 @@ use Rattle.model.specs.Setup.{bothDependent}
 use Rattle.model.specs.Graph.{Graph, graphOf, setLocked, setExecuting, setNext, setWaits}
 use Rattle.model.specs.Step.{node, commandOf, moveTo, stepOn, link, addDependence, loaderWalk}
 use Rattle.model.specs.Proof.Upd.{upd-at, upd-other, upd-id}
-use Rattle.model.specs.Proof.Tests.{eqb-cases}
+use Rattle.command.proofs.Tests.{eqb-cases}
 use Rattle.graph.specs.Arrays.{numbers, flags, sets, Linked}
 use Rattle.graph.specs.Items.{keptAt}
 use Rattle.graph.specs.Memory.{LoaderWalks}

@@ -16,7 +16,7 @@ use Rattle.model.specs.Upd.{upd}
 use Rattle.model.specs.Store.{Store}
 use Rattle.model.specs.Image.{imageOf}
 use Rattle.model.specs.Service.{inOneStep, write, writeKind, imageAfter, writeFor}
-use Rattle.model.specs.Proof.Tests.{true-false}
+use Rattle.command.proofs.Tests.{true-false}
 use Rattle.store.specs.Lists.{storeOf}
 use Rattle.graph.specs.Memory.{answersOf, limitAfter, imageFor, Writes}
 use Rattle.graph.proofs.Bridge.{set-is-upd}

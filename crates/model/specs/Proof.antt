@@ -1,4 +1,3 @@
-pub mod Tests
 pub mod Upd
 pub mod Trace
 pub mod Places

@@ -20,7 +20,7 @@ use Rattle.model.specs.Setup.{Setup}
 use Rattle.model.specs.Graph.{noNode, firstNext, openedGraph}
 use Rattle.model.specs.Service.{openedService}
 use Rattle.model.specs.Step.{node, opened}
-use Rattle.model.specs.Proof.Tests.{eqb-cases}
+use Rattle.command.proofs.Tests.{eqb-cases}
 use Rattle.model.specs.declared.Counters.{Counters}
 use Rattle.store.specs.Lists.{storeOf}
 use Rattle.byte_fields.specs.Bytes.{tabulate}

@@ -17,7 +17,7 @@ use Rattle.model.specs.Setup.{Setup}
 use Rattle.model.specs.Step.{State, step, steps}
 use Rattle.model.specs.Dispatch.{Next, stepOf, fresh, following, goesOn, stepsFrom}
 use Rattle.model.specs.Statement.{allWithin}
-use Rattle.model.specs.Proof.Tests.{true-false, eqb-cases}
+use Rattle.command.proofs.Tests.{true-false, eqb-cases}
 use Rattle.model.specs.Proof.Upd.{upd-at, upd-other}
 use Rattle.model.specs.Proof.Finish.Schedule.{steps-append}
 use Rattle.model.specs.Proof.Finish.Ends.{steps-none}

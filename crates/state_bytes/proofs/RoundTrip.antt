@@ -9,7 +9,7 @@ use lib.Dec.{eqb, leb, ltb, leb·zero, eqb·suc-zero}
 use borrow.Author.Tests.{lt-ltb, le-ltb, le-leb, eq-eqb}
 use Rattle.node_set.specs.Members.{member, wordOf}
 use Rattle.node_set.proofs.Laws.{word-of-is-word-of}
-use Rattle.model.specs.Proof.Tests.{fails}
+use Rattle.command.proofs.Tests.{fails}
 use Rattle.model.specs.declared.Thread.{Thread}
 use Rattle.model.specs.declared.Thread.the-variants.{Idle, Loading, Searching, Holding, LookedUp, Written, Walking, Clearing}
 use Rattle.model.specs.Setup.{Setup, withoutEntries}

@@ -21,7 +21,7 @@ use Rattle.model.specs.Setup.{Setup}
 use Rattle.model.specs.Graph.{setSeq, setFree, setNext, setExecuting, setLocked, setWaits}
 use Rattle.model.specs.Service.{foundFor, inOneStep}
 use Rattle.model.specs.Step.{State, node, isAllowed, idle, step, workerStep, moveTo, serveTo, enter, commandOf, holding, lookedUp, return, clearing, stepOn}
-use Rattle.model.specs.Proof.Tests.{true-false}
+use Rattle.command.proofs.Tests.{true-false}
 use Rattle.model.specs.Proof.Upd.{upd-id, upd-same}
 use Rattle.store.specs.Lists.{storeOf}
 use Rattle.graph.specs.Arrays.{numbers, flags, Nodes, NodesWithin, Shows, Entered, Searches, Walks, ClearsOn}

@@ -5,7 +5,7 @@ use mathlib.Core.Logic.{⊎-elim}
 use borrow.Author.Needs.{needs}
 use borrow.Author.Tests.{not-true}
 use Rattle.model.specs.declared.Thread.{Thread}
-use Rattle.model.specs.Proof.Tests.{true-false}
+use Rattle.command.proofs.Tests.{true-false}
 use Rattle.choice.specs.declared.Plan.{Plan}
 use Rattle.choice.specs.Chosen.{staysWith, looksAt}
 use Rattle.choice.proofs.next_plan.Statement.{statement}

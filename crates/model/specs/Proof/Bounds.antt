@@ -16,7 +16,7 @@ use Rattle.model.specs.Store.{layOut}
 use Rattle.model.specs.Setup.{Setup, commandAt}
 use Rattle.model.specs.Step.{opened, steps}
 use Rattle.model.specs.Statement.{Accepted, allWithin, wrote, EachCommand, serialAnswer}
-use Rattle.model.specs.Proof.Tests.{cond-cases}
+use Rattle.command.proofs.Tests.{cond-cases}
 use Rattle.model.specs.Proof.Serial.{all-map, all-putIn, all-takeOut, all-setChute, serve-keeps}
 use Rattle.model.specs.Serial.{All}
 use Rattle.model.specs.Proof.Service.{entriesOf, entries-keep}

@@ -17,7 +17,7 @@ use Rattle.command.specs.Count.{countAfter}
 use Rattle.command.proofs.Laws.{dependence-is-symmetric}
 use Rattle.command.proofs.Count.{item-keeps-count}
 use Rattle.model.specs.Serial.{Entry, present, chuteAt, putIn, takeOut, setChute, Served, served, serveKind, serve}
-use Rattle.model.specs.Proof.Tests.{true-false, neither, not-both, passes-or-fails, eqb-cases, cond-cases}
+use Rattle.command.proofs.Tests.{true-false, neither, not-both, passes-or-fails, eqb-cases, cond-cases}
 use Rattle.model.specs.Proof.Serial.{length-setChute, serve-keeps}
 use Rattle.model.specs.Proof.Trace.{Commuting}
 

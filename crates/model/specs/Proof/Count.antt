@@ -20,7 +20,7 @@ use Rattle.model.specs.Service.{inOneStep}
 use Rattle.model.specs.Step.{State, node, opened, commandOf, loaderStep, loaderIdle, load, loaderWalk, link, addDependence, stepOn, moveTo, serveTo, isAllowed, ready, idle, enter, searching, leave, examine, holding, lookedUp, walking, bypass, clearing, return, workerStep, step, steps}
 use Rattle.model.specs.Statement.{Accepted, allWithin}
 use Rattle.model.specs.Count.{countBefore, nodeOf, withLimit, CountIsKept}
-use Rattle.model.specs.Proof.Tests.{neither, true-false, none-some, cond-cases}
+use Rattle.command.proofs.Tests.{neither, true-false, none-some, cond-cases}
 use Rattle.model.specs.Proof.Upd.{upd-same, upd-other, upd-cases}
 use Rattle.model.specs.Proof.Service.{count-agree, count-found}
 use Rattle.model.specs.Proof.Chain.Invariant.{Ghost, Inv, executes, clears, done}

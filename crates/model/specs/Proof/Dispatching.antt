@@ -12,7 +12,7 @@ use Rattle.model.specs.Step.{State, step, opened, steps}
 use Rattle.model.specs.Statement.{allWithin}
 use Rattle.model.specs.Dispatch.{rank, chosen, Next, stop, stepOf, served, fresh, goesOn, following, stepsFrom, dispatched, stepsNeeded}
 use Rattle.model.specs.Dispatching.{DispatcherFinishes}
-use Rattle.model.specs.Proof.Tests.{cond-cases}
+use Rattle.command.proofs.Tests.{cond-cases}
 use Rattle.model.specs.Proof.Finish.Foremost.{foremost-within}
 use Rattle.model.specs.Proof.Chain.Opening.{openedGhost, opened-meets}
 use Rattle.model.specs.Proof.Finish.{schedule-finishes, left-unremoved, counts-same}

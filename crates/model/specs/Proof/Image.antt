@@ -8,7 +8,7 @@ use Rattle.byte_fields.specs.Bytes.{bytesOf}
 use Rattle.byte_fields.proofs.Bytes.{fields-length}
 use Rattle.model.specs.Store.{Store, inUse}
 use Rattle.model.specs.Image.{imageLength, slotBytes, nextIndex, slotOf, imageOf, emptyImage}
-use Rattle.model.specs.Proof.Tests.{cond-cases}
+use Rattle.command.proofs.Tests.{cond-cases}
 
 pub slot-bytes-length : (next chute key : ℕ) → length (slotBytes next chute key) ≡ 16
 unfolding slotBytes bytesOf

@@ -11,7 +11,7 @@ use borrow.Author.Tests.{ltb-true, leb-true, lt-ltb, le-ltb, eqb-false, ne-eqb}
 use Rattle.byte_fields.specs.Bytes.{tabulate}
 use Rattle.model.specs.Serial.{Entry, Ascending}
 use Rattle.model.specs.Image.{nextIndex, nextIn, keyIn, chainFrom, chainIn, all, strictlyAscend, chainFits}
-use Rattle.model.specs.Proof.Tests.{cond-cases}
+use Rattle.command.proofs.Tests.{cond-cases}
 use Rattle.model.specs.Proof.Few.{Each, each-map, each-both, Different, few}
 
 -- ---- tests of every number of a list

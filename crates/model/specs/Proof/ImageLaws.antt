@@ -15,7 +15,7 @@ use Rattle.model.specs.Serial.{Entry, All, Ascending, Stored}
 use Rattle.model.specs.Store.{layOut}
 use Rattle.model.specs.Image.{nextIndex, slotOf, imageOf, imageLength, emptyImage, nextIn, chuteIn, keyIn, restIn, chainFrom, chainIn, all, strictlyAscend, chainFits, headFits, slotFits, slotsFit, entriesIn, seqIn}
 use Rattle.model.specs.ImageLaws.{ReadsAs, WrittenReadsBack, ZerosReadAsEmpty, AcceptedIsStored, ChainEnds}
-use Rattle.model.specs.Proof.Tests.{cond-cases}
+use Rattle.command.proofs.Tests.{cond-cases}
 use Rattle.model.specs.Proof.Store.{laid, entry, keyOf, chuteOf, inUse-layOut}
 use Rattle.model.specs.Proof.Few.{Each, each-map}
 use Rattle.model.specs.Proof.Image.{slot-length, image-length, empty-length}

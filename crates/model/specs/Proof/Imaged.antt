@@ -19,7 +19,7 @@ use Rattle.model.specs.Store.{layOut}
 use Rattle.model.specs.Image.{emptyImage, imageOf}
 use Rattle.model.specs.Statement.{EachCommand}
 use Rattle.model.specs.Moment.{lastCheckpoint, entriesBefore, imageAt}
-use Rattle.model.specs.Proof.Tests.{fails, true-false, le-cases, eqb-cases}
+use Rattle.command.proofs.Tests.{fails, true-false, le-cases, eqb-cases}
 use Rattle.model.specs.Proof.Upd.{upd-same, upd-other}
 use Rattle.model.specs.Proof.Trace.{runOnly, runOnly-before}
 use Rattle.model.specs.Proof.Places.{some-command, command-place, command-within}

@@ -13,7 +13,7 @@ use Rattle.command.specs.declared.Kind.the-variants.{Insert, Delete, Read, Upda
 use Rattle.model.specs.Serial.{Entry, present, putIn, takeOut, setChute}
 use Rattle.model.specs.Store.{Store, layOut, insert, remove, replace}
 use Rattle.model.specs.Service.{Write, writeKind}
-use Rattle.model.specs.Proof.Tests.{cond-cases}
+use Rattle.command.proofs.Tests.{cond-cases}
 use Rattle.model.specs.Proof.Serial.{ascending-putIn, ascending-takeOut, ascending-setChute, length-putIn, length-takeOut, length-setChute}
 use Rattle.model.specs.Serial.{Ascending}
 use Rattle.model.specs.Proof.Store.{insert-is-putIn, insert-is-replace, remove-is-takeOut, replace-is-setChute, remove-absent, replace-absent}

@@ -11,7 +11,7 @@ use lib.ListN.{length, getElem?}
 use Rattle.command.specs.declared.Command.{Command}
 use Rattle.command.specs.Dependent.{isCheckpoint}
 use Rattle.model.specs.Moment.{lastFrom}
-use Rattle.model.specs.Proof.Tests.{none-some}
+use Rattle.command.proofs.Tests.{none-some}
 
 -- sets that have the same checkpoints of the list have the same last one
 pub last-agrees : (W U : ℕ → Bool) (i : ℕ) (cs : List Command) (last : ℕ)

@@ -24,7 +24,7 @@ use Rattle.model.specs.Step.{State, node, opened, moveTo, serveTo, comma
 use Rattle.model.specs.Step.{enter, ready, examine, leave, searching, holding, lookedUp, bypass, walking, return, clearing, workerStep, step, steps}
 use Rattle.model.specs.Statement.{Accepted, allWithin, serialAnswer}
 use Rattle.model.specs.OneTurn.{ReadsInOneTurn}
-use Rattle.model.specs.Proof.Tests.{true-false, none-some, neither, cond-cases}
+use Rattle.command.proofs.Tests.{true-false, none-some, neither, cond-cases}
 use Rattle.model.specs.Proof.Upd.{upd-same, upd-other, upd-cases}
 use Rattle.model.specs.Proof.Chain.Invariant.{Ghost, Inv, looked, clears}
 use Rattle.model.specs.Proof.Chain.Facts.{looked-own}

@@ -7,7 +7,7 @@ use mathlib.Core.Option.{none, some}
 use lib.ListN.{length}
 use Rattle.command.specs.declared.Command.{Command}
 use Rattle.model.specs.Setup.{commandAt}
-use Rattle.model.specs.Proof.Tests.{none-some}
+use Rattle.command.proofs.Tests.{none-some}
 
 -- every place from 1 to the last has a command, and no other
 pub some-command : (cs : List Command) (c : ℕ) → 1 ≤ c → c ≤ length cs → (cmd : Command) × (commandAt cs c ≡ some cmd)

@@ -19,7 +19,7 @@ use Rattle.command.specs.Read.{chuteFits}
 use Rattle.command.proofs.Laws.{checkpoint-is}
 use Rattle.model.specs.Setup.{commandAt}
 use Rattle.model.specs.Serial.{Entry, All, Stored, serveKind, serve, entriesAfter, answersAfter}
-use Rattle.model.specs.Proof.Tests.{none-some}
+use Rattle.command.proofs.Tests.{none-some}
 use Rattle.model.specs.Proof.Serial.{all-putIn, all-takeOut, all-setChute, serve-keeps, serve-ascending, serve-fits}
 
 -- ---- what a store can hold

@@ -15,7 +15,7 @@ use Rattle.command.specs.declared.Kind.the-variants.{Insert, Delete, Read, Upda
 use Rattle.command.specs.declared.Command.{Command}
 use Rattle.command.specs.Read.{chuteFits}
 use Rattle.model.specs.Serial.{Entry, All, Ascending, present, chuteAt, putIn, takeOut, setChute, Served, serveKind, serve}
-use Rattle.model.specs.Proof.Tests.{cond-cases}
+use Rattle.command.proofs.Tests.{cond-cases}
 
 -- every chute is from 1 up
 abbrev pub AllPositive : List Entry → Type 0

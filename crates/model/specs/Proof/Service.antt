@@ -23,7 +23,7 @@ use Rattle.model.specs.Statement.{Accepted, EachCommand, serialAnswer}
 use Rattle.model.specs.Count.{countFrom, countOf, countBefore}
 use Rattle.model.specs.Store.{layOut}
 use Rattle.model.specs.Moment.{onlyFrom, tableOf}
-use Rattle.model.specs.Proof.Tests.{none-some, eqb-cases, cond-cases}
+use Rattle.command.proofs.Tests.{none-some, eqb-cases, cond-cases}
 use Rattle.model.specs.Proof.Upd.{upd-same, upd-other}
 use Rattle.model.specs.Proof.Trace.{Placed, Closed, run, runOnly}
 use Rattle.model.specs.Proof.Trace.{runOnly-agrees, runOnly-all, runOnly-none, runOnly-before, runOnly-keeps, next-reply, next-effect}

@@ -14,7 +14,7 @@ use Rattle.model.specs.Step.{State, opened, steps}
 use Rattle.model.specs.Moment.{tableOf, lastCheckpoint, imageAt}
 use Rattle.model.specs.Dispatch.{dispatched}
 use Rattle.model.specs.Statement.{Accepted, allWithin, wrote, removed, EachCommand, serialAnswer, Demand3}
-use Rattle.model.specs.Proof.Tests.{true-false, eqb-cases}
+use Rattle.command.proofs.Tests.{true-false, eqb-cases}
 use Rattle.model.specs.Proof.Service.{entriesOf, entries-agree, entries-all, table-of, serial-positive}
 use Rattle.model.specs.Proof.Last.{last-agrees}
 use Rattle.model.specs.Proof.Chain.Invariant.{Ghost, Inv}

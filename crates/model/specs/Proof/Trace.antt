@@ -9,7 +9,7 @@ use mathlib.Core.Option.{none, some}
 use lib.ListN.{length, getElem?, take}
 use lib.Dec.{ltb}
 use borrow.Author.Tests.{lt-ltb, le-ltb}
-use Rattle.model.specs.Proof.Tests.{fails, true-false, none-some}
+use Rattle.command.proofs.Tests.{fails, true-false, none-some}
 
 -- c stands at place k of a list whose first place is i
 pub record Placed {A : Type 0} (i : ℕ) (cs : List A) (k : ℕ) (c : A) : Type 0 where

@@ -4,7 +4,7 @@ use mathlib.Core.Path.{_≡_, refl, sym, ap, _∙_, fun-ext}
 use mathlib.Core.Logic.{_⊎_, inl, inr, ⊎-elim}
 use borrow.Author.Tests.{eq-eqb, ne-eqb}
 use Rattle.model.specs.Upd.{upd}
-use Rattle.model.specs.Proof.Tests.{eqb-cases}
+use Rattle.command.proofs.Tests.{eqb-cases}
 
 module _ {ℓ} {A : Type ℓ} (f : ℕ → A) (i : ℕ) (v : A) where
   pub upd-same : upd f i v i ≡ v

@@ -17,7 +17,7 @@ use Rattle.model.specs.declared.Thread.the-variants.{Idle, Loading, Sear
 use Rattle.model.specs.Setup.{Setup, bothDependent}
 use Rattle.model.specs.Step.{State, opened, commandOf, steps}
 use Rattle.model.specs.WaitsFor.{WaitsFor, WaitsOnlyForDependent}
-use Rattle.model.specs.Proof.Tests.{fails, true-false, one-passes, none-some, le-cases}
+use Rattle.command.proofs.Tests.{fails, true-false, one-passes, none-some, le-cases}
 use Rattle.model.specs.Proof.Chain.Invariant.{Ghost, Inv, at, loads, clears, Pending, Waited}
 use Rattle.model.specs.Proof.Chain.Keep.{steps-keep}
 use Rattle.model.specs.Proof.Chain.Opening.{openedGhost, opened-meets}

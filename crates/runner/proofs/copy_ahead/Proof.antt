@@ -8,7 +8,7 @@ use mathlib.Core.List.{List}
 use mathlib.Core.Logic.{⊎-elim}
 use lib.ListN.{length, getD, set, length-set}
 use lib.Seq.{getD-set-same, getD-set-other}
-use Rattle.model.specs.Proof.Tests.{eqb-cases, le-cases}
+use Rattle.command.proofs.Tests.{eqb-cases, le-cases}
 use Rattle.runner.proofs.copy_ahead.Statement.{statement}
 use Rattle.runner.proofs.copy_ahead.Tie as tie
 

@@ -9,7 +9,7 @@ use borrow.Author.Needs.{needs}
 use borrow.Author.Tests.{not-true, not-false}
 use lib.ListN.{length, set}
 use lib.Seq.{getD-set-same}
-use Rattle.model.specs.Proof.Tests.{true-false}
+use Rattle.command.proofs.Tests.{true-false}
 use Rattle.choice.specs.declared.Plan.{Plan}
 use Rattle.runner.specs.Performed.{given, orderFrom, most, Named, notedIn, Ahead}
 use Rattle.runner.proofs.look_ahead.Statement.{statement}

@@ -14,7 +14,7 @@ use Rattle.model.specs.Upd.{upd}
 use Rattle.model.specs.Setup.{Setup}
 use Rattle.model.specs.Graph.{setNext}
 use Rattle.model.specs.Step.{State, node, bypass, moveTo}
-use Rattle.model.specs.Proof.Tests.{true-false, none-some, eqb-cases}
+use Rattle.command.proofs.Tests.{true-false, none-some, eqb-cases}
 use Rattle.model.specs.Proof.Upd.{upd-same, upd-other, upd-at, upd-cases, upd-map}
 use Rattle.model.specs.Proof.Chain.Invariant.{Ghost, Inv, On, Order, FreeList, Standing, Executing, Clears, Loads, Partition, Pending, Waited, Sets, at, loads, executes, clears, done, looked, found}
 use Rattle.model.specs.Proof.Chain.Ghost.{linking}

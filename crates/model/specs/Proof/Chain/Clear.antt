@@ -13,7 +13,7 @@ use Rattle.model.specs.Upd.{upd}
 use Rattle.model.specs.Setup.{Setup}
 use Rattle.model.specs.Graph.{setLocked, setWaits}
 use Rattle.model.specs.Step.{State, node, stepOn, moveTo}
-use Rattle.model.specs.Proof.Tests.{fails, true-false, none-some}
+use Rattle.command.proofs.Tests.{fails, true-false, none-some}
 use Rattle.model.specs.Proof.Upd.{upd-same, upd-other, upd-at, upd-cases, upd-map}
 use Rattle.model.specs.Proof.Chain.Invariant.{Ghost, Inv, On, Clears, Pending, Waited, Sets, at, loads, executes, clears, done, looked, found}
 use Rattle.model.specs.Proof.Chain.Kept.{kept, stays}

@@ -12,7 +12,7 @@ use Rattle.model.specs.declared.Thread.the-variants.{Idle, Loading, Sear
 use Rattle.model.specs.Upd.{upd}
 use Rattle.model.specs.Setup.{Setup}
 use Rattle.model.specs.Step.{State}
-use Rattle.model.specs.Proof.Tests.{fails, true-false, none-some, le-cases}
+use Rattle.command.proofs.Tests.{fails, true-false, none-some, le-cases}
 use Rattle.model.specs.Proof.Upd.{upd-other}
 use Rattle.model.specs.Proof.Chain.Invariant.{Ghost, Inv, On, In, ChainFrom, Order, at, executes, walks, clears, done, looked}
 

@@ -13,7 +13,7 @@ use Rattle.model.specs.Setup.{Setup}
 use Rattle.model.specs.Service.{inOneStep}
 use Rattle.model.specs.Step.{State, step, steps, loaderStep, workerStep, loaderIdle, loaderWalk, commandOf, enter, searching, examine, ready, holding, walking, clearing, isAllowed, idle}
 use Rattle.model.specs.Statement.{Accepted, allWithin}
-use Rattle.model.specs.Proof.Tests.{neither}
+use Rattle.command.proofs.Tests.{neither}
 use Rattle.model.specs.Proof.Chain.Invariant.{Ghost, Inv}
 use Rattle.model.specs.Proof.Chain.Ghost.{ghostStep, ghostSteps, loaderGhost, workerGhost}
 use Rattle.model.specs.Proof.Chain.Load.{node-loaded}

@@ -7,7 +7,7 @@ use mathlib.Core.Option.{Option, none, some}
 use mathlib.Core.Logic.{_⊎_, inl, inr, ⊎-elim}
 use Rattle.model.specs.Upd.{upd}
 use Rattle.model.specs.Setup.{Setup}
-use Rattle.model.specs.Proof.Tests.{none-some}
+use Rattle.command.proofs.Tests.{none-some}
 use Rattle.model.specs.Proof.Upd.{upd-cases, upd-map, upd-id}
 use Rattle.model.specs.Proof.Chain.Invariant.{Pending, Waited, Sets, Clears}
 

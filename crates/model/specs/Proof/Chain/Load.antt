@@ -14,7 +14,7 @@ use Rattle.model.specs.Upd.{upd}
 use Rattle.model.specs.Setup.{Setup}
 use Rattle.model.specs.Graph.{setLocked, setLoaded, setSeq, setNext, setFree}
 use Rattle.model.specs.Step.{State, node, load, moveTo}
-use Rattle.model.specs.Proof.Tests.{fails, true-false, none-some, eqb-cases}
+use Rattle.command.proofs.Tests.{fails, true-false, none-some, eqb-cases}
 use Rattle.model.specs.Proof.Upd.{upd-same, upd-other, upd-at, upd-cases, upd-map}
 use Rattle.model.specs.Proof.Consistent.{Consistent, lookups-consistent}
 use Rattle.model.specs.Proof.Chain.Invariant.{Ghost, Inv, On, In, NoRepeat, ChainFrom, Order, FreeList, Executing, Walks, Clears, Loads, Partition, Pending, Waited, Sets, Progress, at, loads, executes, walks, clears, done, looked, found}

@@ -13,7 +13,7 @@ use Rattle.model.specs.Upd.{upd}
 use Rattle.model.specs.Setup.{Setup, bothDependent, commandAt}
 use Rattle.model.specs.Graph.{graphOf, setLocked, setWaits}
 use Rattle.model.specs.Step.{State, node, stepOn, addDependence, commandOf, moveTo}
-use Rattle.model.specs.Proof.Tests.{fails, true-false, none-some, eqb-cases}
+use Rattle.command.proofs.Tests.{fails, true-false, none-some, eqb-cases}
 use Rattle.model.specs.Proof.Upd.{upd-same, upd-other, upd-at, upd-map}
 use Rattle.model.specs.Proof.Chain.Invariant.{Ghost, Inv, On, Pending, Waited, Sets, at, loads, executes, clears, done, looked, found}
 use Rattle.model.specs.Proof.Chain.Kept.{kept, stays, clears-kept, waited-kept}

@@ -12,7 +12,7 @@ use Rattle.model.specs.Setup.{Setup, commandAt}
 use Rattle.model.specs.Service.{foundFor}
 use Rattle.model.specs.Step.{State, node, commandOf, lookedUp, serveTo}
 use Rattle.model.specs.Statement.{Accepted}
-use Rattle.model.specs.Proof.Tests.{none-some}
+use Rattle.command.proofs.Tests.{none-some}
 use Rattle.model.specs.Proof.Upd.{upd-same, upd-cases, upd-upd}
 use Rattle.model.specs.Proof.Consistent.{Consistent, lookups-consistent}
 use Rattle.model.specs.Proof.Chain.Invariant.{Ghost, Inv, at, loads, executes, clears, done, looked, found}

@@ -12,7 +12,7 @@ use Rattle.model.specs.Setup.{Setup}
 use Rattle.model.specs.Graph.{firstNext, noNode, openedGraph}
 use Rattle.model.specs.Step.{opened}
 use Rattle.model.specs.Statement.{Accepted}
-use Rattle.model.specs.Proof.Tests.{true-false, none-some, eqb-cases}
+use Rattle.command.proofs.Tests.{true-false, none-some, eqb-cases}
 use Rattle.model.specs.Proof.Consistent.{opened-consistent}
 use Rattle.model.specs.Proof.Chain.Invariant.{Ghost, Inv, In, NoRepeat, ChainFrom, at}
 

@@ -9,7 +9,7 @@ use Rattle.model.specs.Upd.{upd}
 use Rattle.model.specs.Setup.{Setup}
 use Rattle.model.specs.Graph.{setLocked}
 use Rattle.model.specs.Step.{State, node, stepOn, moveTo, leave}
-use Rattle.model.specs.Proof.Tests.{none-some}
+use Rattle.command.proofs.Tests.{none-some}
 use Rattle.model.specs.Proof.Chain.Invariant.{Ghost, Inv, at, loads, executes, clears, done, looked, found}
 use Rattle.model.specs.Proof.Chain.StepOn.{stepped}
 use Rattle.model.specs.Proof.Chain.Stand.{entered, left}

@@ -5,7 +5,7 @@ use mathlib.Core.Bool.{Bool, true, false}
 use mathlib.Core.Option.{Option, none, some}
 use mathlib.Core.Logic.{_⊎_, inl, ⊎-elim}
 use Rattle.model.specs.Upd.{upd}
-use Rattle.model.specs.Proof.Tests.{true-false, none-some}
+use Rattle.command.proofs.Tests.{true-false, none-some}
 use Rattle.model.specs.Proof.Upd.{upd-same, upd-other, upd-at, upd-cases}
 use Rattle.model.specs.Proof.Chain.Invariant.{On, Standing}
 

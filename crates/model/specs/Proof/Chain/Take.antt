@@ -15,7 +15,7 @@ use Rattle.model.specs.Setup.{Setup}
 use Rattle.model.specs.Graph.{setLocked, setExecuting}
 use Rattle.model.specs.Step.{State, node, ready, stepOn, moveTo}
 use Rattle.model.specs.Statement.{Accepted}
-use Rattle.model.specs.Proof.Tests.{fails, true-false, none-some}
+use Rattle.command.proofs.Tests.{fails, true-false, none-some}
 use Rattle.model.specs.Proof.Upd.{upd-same, upd-other, upd-at, upd-cases, upd-map, upd-upd}
 use Rattle.model.specs.Proof.Chain.Invariant.{Ghost, Inv, Standing, Executing, Clears, Loads, Sets, at, loads, executes, clears, done, looked, found}
 use Rattle.model.specs.Proof.Chain.Kept.{kept, sets-kept, clears-kept, stays}

@@ -17,7 +17,7 @@ use Rattle.model.specs.Setup.{Setup, commandAt, bothDependent}
 use Rattle.model.specs.Service.{foundFor, writeFor}
 use Rattle.model.specs.Step.{State, node, commandOf, lookedUp, serveTo}
 use Rattle.model.specs.Statement.{Accepted}
-use Rattle.model.specs.Proof.Tests.{fails, true-false, none-some}
+use Rattle.command.proofs.Tests.{fails, true-false, none-some}
 use Rattle.model.specs.Proof.Upd.{upd-same, upd-other, upd-at, upd-cases, upd-map}
 use Rattle.model.specs.Proof.Store.{trichotomy}
 use Rattle.model.specs.Proof.Service.{EarlierIn}

@@ -11,7 +11,7 @@ use Rattle.model.specs.declared.Thread.{Thread}
 use Rattle.model.specs.declared.Thread.the-variants.{Idle, Loading, Searching, Holding, LookedUp, Written, Walking, Clearing}
 use Rattle.model.specs.Setup.{Setup}
 use Rattle.model.specs.Step.{State}
-use Rattle.model.specs.Proof.Tests.{fails, true-false}
+use Rattle.command.proofs.Tests.{fails, true-false}
 use Rattle.model.specs.Proof.Chain.Invariant.{Ghost, Inv, loads, isLoader}
 use Rattle.model.specs.Proof.Finish.Count.{sumBelow, count, sum-change, sum-const, count-less, count-past, count-image}
 use Rattle.model.specs.Proof.Finish.Measure.{Φ, measure, waiting, ahead, ahead-size, cost, true-and-true}

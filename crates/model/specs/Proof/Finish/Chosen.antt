@@ -19,7 +19,7 @@ use Rattle.model.specs.Graph.{setLocked, setExecuting, setWaits, setNext
 use Rattle.model.specs.Service.{foundFor, inOneStep, writeFor}
 use Rattle.model.specs.Step.{State, node, step, workerStep, loaderStep, searching, leave, stepOn, examine, ready, moveTo, serveTo, walking, bypass, clearing, return, enter, holding, lookedUp, loaderWalk, link, addDependence, commandOf, isAllowed}
 use Rattle.model.specs.Dispatch.{rank}
-use Rattle.model.specs.Proof.Tests.{fails, true-false, none-some, eqb-cases}
+use Rattle.command.proofs.Tests.{fails, true-false, none-some, eqb-cases}
 use Rattle.model.specs.Proof.Upd.{upd-same, upd-other, upd-id}
 use Rattle.model.specs.Proof.Chain.Invariant.{Ghost, Inv, at, loads, executes, walks, clears, isLoader, isWorker}
 use Rattle.model.specs.Proof.Chain.Ghost.{ghostStep, workerGhost, loaderGhost, writing, returning, linking}

@@ -7,7 +7,7 @@ use mathlib.Core.Path.{_≡_, refl, sym, _∙_}
 use mathlib.Core.Bool.{Bool, true, false, cond}
 use mathlib.Core.Logic.{⊎-elim}
 use Rattle.model.specs.Upd.{upd}
-use Rattle.model.specs.Proof.Tests.{eqb-cases}
+use Rattle.command.proofs.Tests.{eqb-cases}
 use Rattle.model.specs.Proof.Upd.{upd-same, upd-other}
 
 -- the sum of f over the numbers below a bound

@@ -14,7 +14,7 @@ use Rattle.model.specs.Setup.{Setup}
 use Rattle.model.specs.Step.{State, step, steps}
 use Rattle.model.specs.Statement.{Accepted, EachCommand, allWithin, removed}
 use Rattle.model.specs.Dispatch.{rank, chosen, stands, isIdle, Next, stop, stepOf, served, fresh, goesOn, following, stepsFrom, dispatched, stepsNeeded}
-use Rattle.model.specs.Proof.Tests.{eqb-cases, le-cases, cond-cases}
+use Rattle.command.proofs.Tests.{eqb-cases, le-cases, cond-cases}
 use Rattle.model.specs.Proof.Chain.Invariant.{Ghost, Inv}
 use Rattle.model.specs.Proof.Chain.Ghost.{ghostStep, ghostSteps}
 use Rattle.model.specs.Proof.Chain.Keep.{keeps, steps-keep}

@@ -12,7 +12,7 @@ use Rattle.model.specs.declared.Thread.the-variants.{Idle, Loading, Sear
 use Rattle.model.specs.Setup.{Setup}
 use Rattle.model.specs.Step.{State}
 use Rattle.model.specs.Dispatch.{rank, foremost, isIdle, stands}
-use Rattle.model.specs.Proof.Tests.{none-some, true-false, eqb-cases}
+use Rattle.command.proofs.Tests.{none-some, true-false, eqb-cases}
 use Rattle.model.specs.Proof.Chain.Invariant.{at}
 
 -- no thread up to the largest worker count has a larger rank than thread t

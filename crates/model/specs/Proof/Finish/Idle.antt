@@ -17,7 +17,7 @@ use Rattle.model.specs.Setup.{Setup}
 use Rattle.model.specs.Graph.{setLocked, setExecuting, setNext, setFree, setSeq, setLoaded}
 use Rattle.model.specs.Step.{State, node, isAllowed, idle as stepIdle, step, workerStep, loaderStep, loaderIdle, loaderWalk, load, link, enter, searching, examine, ready, stepOn, moveTo}
 use Rattle.model.specs.Dispatch.{isIdle}
-use Rattle.model.specs.Proof.Tests.{fails, none-some, eqb-cases}
+use Rattle.command.proofs.Tests.{fails, none-some, eqb-cases}
 use Rattle.model.specs.Proof.Upd.{upd-same, upd-other}
 use Rattle.model.specs.Proof.Chain.Invariant.{Ghost, Inv, In, ChainFrom, at, loads, executes, clears}
 use Rattle.model.specs.Proof.Chain.Ghost.{ghostStep, workerGhost, loaderGhost, linking, taken}

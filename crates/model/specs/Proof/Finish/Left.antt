@@ -11,7 +11,7 @@ use Rattle.node_set.specs.Members.{countBelow}
 use Rattle.model.specs.Setup.{Setup}
 use Rattle.model.specs.Step.{State}
 use Rattle.model.specs.Dispatch.{commandsLeft, stepsNeeded}
-use Rattle.model.specs.Proof.Tests.{fails, true-false, le-cases}
+use Rattle.command.proofs.Tests.{fails, true-false, le-cases}
 use Rattle.model.specs.Proof.Chain.Invariant.{Ghost, Inv}
 use Rattle.model.specs.Proof.Finish.Count.{sumBelow, count, count-past, count-most, count-image}
 use Rattle.model.specs.Proof.Finish.Measure.{Φ}

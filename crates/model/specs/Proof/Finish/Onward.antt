@@ -16,7 +16,7 @@ use Rattle.model.specs.Graph.{Graph, setNext, setExecuting, setLocked, s
 use Rattle.model.specs.Service.{Service, foundFor, inOneStep, writeFor}
 use Rattle.model.specs.Step.{State, node, step, workerStep, loaderStep, idle, enter, searching, leave, stepOn, examine, ready, isAllowed, moveTo, serveTo, walking, bypass, clearing, return, holding, lookedUp, loaderIdle, load, loaderWalk, link, addDependence, commandOf}
 use Rattle.model.specs.Dispatch.{rank, stands}
-use Rattle.model.specs.Proof.Tests.{true-false, eqb-cases, cond-cases, neither}
+use Rattle.command.proofs.Tests.{true-false, eqb-cases, cond-cases, neither}
 use Rattle.model.specs.Proof.Upd.{upd-same, upd-other}
 use Rattle.model.specs.Proof.Chain.Invariant.{Ghost, Inv, at}
 use Rattle.model.specs.Proof.Finish.Foremost.{rank-at, Foremost}

@@ -10,7 +10,7 @@ use Rattle.node_set.specs.declared.Node.{Node}
 use Rattle.model.specs.declared.Thread.{Thread}
 use Rattle.model.specs.declared.Thread.the-variants.{Idle, Loading, Searching, Holding, LookedUp, Written, Walking, Clearing}
 use Rattle.model.specs.Upd.{upd}
-use Rattle.model.specs.Proof.Tests.{fails, true-false}
+use Rattle.command.proofs.Tests.{fails, true-false}
 use Rattle.model.specs.Proof.Upd.{upd-same, upd-cases}
 use Rattle.model.specs.Proof.Chain.Invariant.{loads}
 

@@ -15,7 +15,7 @@ use Rattle.model.specs.Setup.{Setup}
 use Rattle.model.specs.Service.{inOneStep}
 use Rattle.model.specs.Step.{State, commandOf, step, steps}
 use Rattle.model.specs.Statement.{Accepted, allWithin, writes, returns, wrote, removed}
-use Rattle.model.specs.Proof.Tests.{true-false, eqb-cases}
+use Rattle.command.proofs.Tests.{true-false, eqb-cases}
 use Rattle.model.specs.Proof.Upd.{upd-at, upd-other}
 use Rattle.model.specs.Proof.Chain.Invariant.{Ghost, Inv, isLoader}
 use Rattle.model.specs.Proof.Chain.Ghost.{ghostStep, ghostSteps, workerGhost, loaderGhost, taken, linking, writing, returning}

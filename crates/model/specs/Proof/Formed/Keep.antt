@@ -19,7 +19,7 @@ use Rattle.model.specs.Service.{Service, foundFor, inOneStep, imageAfter
 use Rattle.model.specs.Step.{State, node, moveTo, serveTo, commandOf, stepOn, load, loaderIdle, link, addDependence, loaderWalk, loaderStep, isAllowed, idle}
 use Rattle.model.specs.Step.{enter, ready, examine, leave, searching, holding, lookedUp, bypass, walking, return, clearing, workerStep, step, steps}
 use Rattle.model.specs.Statement.{allWithin}
-use Rattle.model.specs.Proof.Tests.{true-false, neither, cond-cases}
+use Rattle.command.proofs.Tests.{true-false, neither, cond-cases}
 use Rattle.model.specs.Proof.Chain.Invariant.{isLoader, isWorker}
 use Rattle.model.specs.Proof.Places.{command-place}
 use Rattle.model.specs.Proof.Image.{image-length}

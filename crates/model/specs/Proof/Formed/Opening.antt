@@ -11,7 +11,7 @@ use Rattle.model.specs.Graph.{firstNext, noNode, openedGraph}
 use Rattle.model.specs.Service.{openedService}
 use Rattle.model.specs.Step.{opened}
 use Rattle.model.specs.Statement.{Accepted}
-use Rattle.model.specs.Proof.Tests.{true-false, cond-cases}
+use Rattle.command.proofs.Tests.{true-false, cond-cases}
 use Rattle.model.specs.Proof.Formed.{NumberAt, SetupFormed, Formed}
 use Rattle.model.specs.Proof.Formed.Store.{layOut-formed}
 use Rattle.model.specs.Proof.Service.{largest-fits}

@@ -14,7 +14,7 @@ use Rattle.command.specs.declared.Kind.the-variants.{Insert, Delete, Read, Upda
 use Rattle.model.specs.Serial.{Entry, All, Stored}
 use Rattle.model.specs.Store.{Store, layOut, room, inUse, halve, placeAmong, keyPlace, holds, lookUp, shiftUp, shiftDown, insert, remove, replace}
 use Rattle.model.specs.Service.{Write, writeKind}
-use Rattle.model.specs.Proof.Tests.{cond-cases}
+use Rattle.command.proofs.Tests.{cond-cases}
 use Rattle.model.specs.Proof.Store.{keyOf, chuteOf, length-laid}
 
 -- ---- lists of numbers of two bytes

@@ -42,6 +42,11 @@ pub cond-cases {ℓ κ} : {A : Type ℓ} (P : A → Type κ) {x y : A} (b : Bool
 cond-cases P true f g = f refl
 cond-cases P false f g = g refl
 
+-- choices that agree where the test passes are the same
+pub cond-same : {A : Type 0} (t : Bool) {x x′ : A} (y : A) → (t ≡ true → x ≡ x′) → cond t x y ≡ cond t x′ y
+cond-same true y same = same refl
+cond-same false y same = refl
+
 -- no value is both none and some
 pub none-some : {A : Type 0} {x : A} (a : Option A) → a ≡ none → a ≡ some x → ⊥
 none-some a p q = let z : _≡_ {A = ℕ} 0 1 = cc in absurd (omega arith)
