@@ -1,5 +1,5 @@
 /* The depot controller for C: opening a list of commands, from an image of a store too, dealing turns, having them dealt to the
- * end, the panel's two reports, and identifiers.
+ * end, the panel's two reports, the rounds that a list needs, and identifiers.
  * Every call is proved to answer and to leave what is said here, whatever the lists hold, to end, and to stay inside its lists.
  * How to run a depot with them: docs/HOSTING.md; what the words mean: docs/CONCEPTS.md. */
 #ifndef DEPOT_H
@@ -48,9 +48,9 @@ extern "C" {
  * Answers and refusals
  *
  * Each call returns 0 for accepted, else the number of a refusal (bits 0 to 7), the place of the command refused (from bit 8 on;
- * 0 for none, and only the openings name one) and the first faulty character of its identifier (bits 32 to 39). Take an answer
- * apart by depot_number, depot_place and depot_character; the bits from 40 on are kept free. A refusal leaves every byte of every
- * list as it was.
+ * 0 for none, and only the openings and depot_rounds_needed name one) and the first faulty character of its identifier (bits 32 to
+ * 39). Take an answer apart by depot_number, depot_place and depot_character; the bits from 40 on are kept free. A refusal leaves
+ * every byte of every list as it was.
  * The character counts from 1 at the left, up to 13. With refusals 8 and 13 it is the first that is no letter or no digit where
  * one must stand, in a worker change or checkpoint the first that is not '0', and 0 where the identifier's length is wrong; with 9
  * it is 11, the check digit; with any other refusal 0.
@@ -69,13 +69,15 @@ extern "C" {
 
 /* The version of this header: 10000 × major + 100 × minor + patch. The archive cannot be asked for its own, so keep the two of one
  * package together; `pkg-config --modversion depot` is the package's. */
-#define DEPOT_VERSION 10001
+#define DEPOT_VERSION 10100
 
 enum {
     DEPOT_STATE_LENGTH = 4718,
     DEPOT_COUNTS_LENGTH = 150, /* pending counts */
     DEPOT_STATUS_LENGTH = 128,
     DEPOT_STEP_COUNT_LENGTH = 8, /* a number of turns */
+    DEPOT_ROUND_LENGTH = 2,
+    DEPOT_ROUND_COUNT_LENGTH = 8, /* a number of rounds */
     DEPOT_KEY_LENGTH = 8,
     DEPOT_CHUTE_LENGTH = 2,
     DEPOT_ANSWER_LENGTH = 2,
@@ -172,13 +174,13 @@ static inline unsigned depot_character(uint64_t answer)
     return (unsigned)(answer >> 32 & 255u);
 }
 
-/* The two-byte number of an entry, from 0, of a list of chutes or answers. */
+/* The two-byte number of an entry, from 0, of a list of chutes, answers or rounds. */
 static inline unsigned depot_short_at(const uint8_t *list, size_t entry)
 {
     return (unsigned)list[2 * entry] << 8 | list[2 * entry + 1];
 }
 
-/* The key of an entry, from 0, of a list of keys; depot_key_at(count, 0) is the number of a count of turns. */
+/* The key of an entry, from 0, of a list of keys; depot_key_at(count, 0) is the number of a count of turns or rounds. */
 static inline uint64_t depot_key_at(const uint8_t *keys, size_t entry)
 {
     uint64_t key = 0;
@@ -369,6 +371,28 @@ uint64_t depot_worker_status(const uint8_t *state, size_t state_length, const ui
                              const uint8_t *chutes, size_t chutes_length, const uint8_t *answers, size_t answers_length,
                              const uint8_t *commands, size_t commands_length, uint8_t *status, size_t status_length);
 
+/* The rounds that a list of commands needs, for planners: how far more workers could help. No run is asked for, and none is
+ * touched. Commands of one round do not wait for one another (depot_pending_counts says which do): those of a list with one round
+ * could be served all at once, those of a list with as many rounds as commands go one after another, however many workers there
+ * are. A round here is no round of turns (depot_round).
+ * Each command has the first round after those of the earlier commands that it waits for, from 1 on. Proved, for every accepted
+ * call (crates/depot_c/specs/Rounds.antt): of two commands, one of which waits for the other, the earlier in the list stands in
+ * the earlier round; and whoever gives the commands rounds by this rule uses no fewer, and gives none an earlier one.
+ *
+ * Writes rounds, DEPOT_ROUND_LENGTH bytes for each command, high byte first: depot_short_at(rounds, place - 1) is the round of the
+ * command at a place; and count, DEPOT_ROUND_COUNT_LENGTH bytes: depot_key_at(count, 0) is how many rounds there are, 0 for an
+ * empty list. Reads commands.
+ * Refuses 4 and 5 (of the commands, as depot_open), then 6 (rounds is not 2 × the number of commands long, or count not 8), then
+ * each command in order for 7, 8 or 13, 9, 10 or 14 with place and character, as depot_open does.
+ *
+ *     uint8_t rounds[DEPOT_ROUND_LENGTH * 2], count[DEPOT_ROUND_COUNT_LENGTH];  (of a list of two commands)
+ *     uint64_t answer = depot_rounds_needed(commands, sizeof commands, rounds, sizeof rounds, count, sizeof count);
+ *     if (answer == 0)
+ *         printf("%llu rounds, the second command in round %u\n", (unsigned long long)depot_key_at(count, 0),
+ *                depot_short_at(rounds, 1)); */
+uint64_t depot_rounds_needed(const uint8_t *commands, size_t commands_length, uint8_t *rounds, size_t rounds_length,
+                             uint8_t *count, size_t count_length);
+
 /* Reads an identifier of 13 characters (without an ending 0) and writes its key, 8 bytes.
  *
  * Refuses 6 (key is not 8 bytes long), then 8 (text is not 13 bytes long), then 8 or 13 at the first faulty character from the
@@ -512,6 +536,18 @@ static inline uint64_t depot_lists_worker_status(const struct depot_lists *l, ui
 {
     uint8_t none = 0;
     return depot_worker_status(DEPOT_RUN_(l, &none), DEPOT_COMMANDS_(l), status, DEPOT_STATUS_LENGTH);
+}
+
+/* As depot_rounds_needed, of the list's commands; rounds has DEPOT_ROUND_LENGTH × count bytes and may be null if count is 0. *needed,
+ * how many rounds there are, is left as it was where the call is refused. Only commands and count of l are looked at. */
+static inline uint64_t depot_lists_rounds_needed(const struct depot_lists *l, uint8_t *rounds, size_t *needed)
+{
+    uint8_t none = 0, count[DEPOT_ROUND_COUNT_LENGTH];
+    uint64_t answer = depot_rounds_needed(DEPOT_COMMANDS_(l), depot_some_lent(rounds, &none), DEPOT_ROUND_LENGTH * l->count, count,
+                                          sizeof count);
+    if (answer == 0)
+        *needed = (size_t)depot_key_at(count, 0);
+    return answer;
 }
 
 #undef DEPOT_RUN_

@@ -235,7 +235,7 @@ impl Kind {
         }
     }
 
-    fn is_insert_or_delete(self) -> bool
+    pub fn is_insert_or_delete(self) -> bool
         ensures { λ r. ⌜ r ≡ isInsertOrDelete self ⌝ }
     {
         match self {

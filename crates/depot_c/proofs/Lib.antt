@@ -1,6 +1,8 @@
 pub mod Entries
 pub mod Outcomes
 pub mod Reporting
+pub mod RoundsLent
+pub mod Rounds
 pub mod Dispatched
 pub mod Accepted
 pub mod Demand3

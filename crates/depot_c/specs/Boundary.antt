@@ -1,5 +1,5 @@
 -- What the exported functions answer and leave: the calls' own definitions, on numbers and byte lists. Assumes nothing.
-use Prim.Native.Nat.{ℕ, _+_, _*_, _%_}
+use Prim.Native.Nat.{ℕ, _+_, _*_, _/_, _%_, _≤_}
 use mathlib.Core.Bool.{Bool, cond, _&&_}
 use mathlib.Core.List.{List, []}
 use mathlib.Core.Path.{_≡_}
@@ -15,6 +15,8 @@ use Rattle.opening.specs.Calls.{Source, openOn}
 use Rattle.controller.specs.Calls.{advanceOn}
 use Rattle.dispatcher.specs.Calls.{neededOn, countNeeded, DispatchOutcome, dispatchOn, lentLeft}
 use Rattle.dispatcher.specs.Calls as Dispatcher
+use Rattle.rounds.specs.Calls.{roundsOn}
+use Rattle.rounds.specs.Calls as Rounds
 use Rattle.panel.specs.Reports.{pendingCounts, workerStatusBytes, largestIn}
 use Rattle.depot_c.specs.Numbers.{numbersIn, bytesIn}
 use Rattle.depot_c.specs.declared.Wanted.{Wanted}
@@ -100,6 +102,36 @@ scheduleLeft b commands schedule count = cond (countLong count) (lentLeft (dispa
 abbrev pub countLeft : Lists → List ℕ → List ℕ → List ℕ → List ℕ
 countLeft b commands schedule count = cond (eqb (dispatchAnswer b commands schedule count) 0) (bytesOf 8 (Dispatcher.countIn (dispatchOn (decoded b) commands schedule))) count
 
+-- ---- rounds
+
+-- how many entries are lent for rounds, two bytes each. A list that ends within a number, and a count that is not eight bytes, is a list of a wrong
+-- length, which is refusal 6: it counts as one entry more than any list of commands asks for.
+unfoldable pub roundsLent : ℕ → ℕ → ℕ
+roundsLent rounds count = cond (eqb (rounds % 2) 0 && eqb count 8) (rounds / 2) 4097
+
+-- what `depot_rounds_needed` comes to on the caller's byte lists
+abbrev pub roundsOutcome : List ℕ → List ℕ → List ℕ → Rounds.Outcome
+roundsOutcome commands rounds count = roundsOn commands (roundsLent (length rounds) (length count))
+
+-- what it answers
+abbrev pub roundsAnswer : List ℕ → List ℕ → List ℕ → ℕ
+roundsAnswer commands rounds count = packed (Rounds.refusalIn (roundsOutcome commands rounds count))
+
+-- the rounds' bytes and the count's that an outcome leaves; a refusal leaves every byte as it was
+unfoldable pub roundBytes : Rounds.Outcome → List ℕ → List ℕ
+roundBytes (Rounds.found rounds n) old = bytesIn 2 rounds
+roundBytes (Rounds.refused r) old = old
+
+unfoldable pub roundCountBytes : Rounds.Outcome → List ℕ → List ℕ
+roundCountBytes (Rounds.found rounds n) old = bytesOf 8 n
+roundCountBytes (Rounds.refused r) old = old
+
+abbrev pub roundsLeft : List ℕ → List ℕ → List ℕ → List ℕ
+roundsLeft commands rounds count = roundBytes (roundsOutcome commands rounds count) rounds
+
+abbrev pub roundCountLeft : List ℕ → List ℕ → List ℕ → List ℕ
+roundCountLeft commands rounds count = roundCountBytes (roundsOutcome commands rounds count) count
+
 -- ---- identifiers
 
 -- the key of a text, 0 for refused, and the key's eight bytes where it was accepted
@@ -137,3 +169,7 @@ pub record Rooms (keys chutes answers keyRoom chuteRoom answerRoom : List ℕ) :
   pub keys-fit : length keys ≡ 8 * length keyRoom
   pub chutes-fit : length chutes ≡ 2 * length chuteRoom
   pub answers-fit : length answers ≡ 2 * length answerRoom
+
+-- The room for rounds has as many entries as are lent, up to one too many.
+abbrev pub UpTo : ℕ → ℕ → Type 0
+UpTo lent r = (lent ≤ 4096 → r ≡ lent) × (4097 ≤ lent → r ≡ 4097)

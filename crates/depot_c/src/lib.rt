@@ -7,6 +7,7 @@ mod lists;
 mod numbers;
 mod open_calls;
 mod panel_calls;
+mod rounds_call;
 
 // Which of the panel's reports is asked for.
 pub enum Wanted {
