@@ -8,7 +8,7 @@
 #include <stdlib.h>
 #include <string.h>
 
-enum { STACK = 1 << 20, PAINT = 0x5a, CALLS = 10, IMAGE_LENGTH = DEPOT_RECORD_LENGTH * (DEPOT_MOST_CAPACITY + 1) };
+enum { STACK = 1 << 20, PAINT = 0x5a, CALLS = 11, IMAGE_LENGTH = DEPOT_RECORD_LENGTH * (DEPOT_MOST_CAPACITY + 1) };
 
 static uint8_t state[DEPOT_STATE_LENGTH], keys[DEPOT_KEY_LENGTH * DEPOT_MOST_CAPACITY];
 static uint8_t chutes[DEPOT_CHUTE_LENGTH * DEPOT_MOST_CAPACITY], answers[DEPOT_ANSWER_LENGTH * DEPOT_MOST_COMMANDS];
@@ -17,11 +17,12 @@ static uint8_t image[IMAGE_LENGTH], source[IMAGE_LENGTH];
 static uint8_t schedule[100000], counts[DEPOT_COUNTS_LENGTH], status[DEPOT_STATUS_LENGTH];
 static uint8_t text[DEPOT_IDENTIFIER_LENGTH], key[DEPOT_KEY_LENGTH];
 static uint8_t lent[DEPOT_MOST_STEPS], count[DEPOT_STEP_COUNT_LENGTH];
+static uint8_t rounds[DEPOT_ROUND_LENGTH * DEPOT_MOST_COMMANDS], needed[DEPOT_ROUND_COUNT_LENGTH];
 
 static const char *const names[CALLS] = {
     "depot_write_identifier", "depot_read_identifier", "depot_open",      "depot_advance",
     "depot_pending_counts",   "depot_worker_status",   "depot_open_from", "depot_advance, with a checkpoint",
-    "depot_steps_needed",     "depot_dispatch"};
+    "depot_steps_needed",     "depot_dispatch",        "depot_rounds_needed"};
 
 #define RUN state, sizeof state, keys, sizeof keys, chutes, sizeof chutes, answers, sizeof answers
 #define IMAGE image, sizeof image
@@ -47,6 +48,8 @@ static uint64_t call(int which)
         return depot_steps_needed(RUN, COMMANDS, count, sizeof count);
     case 9:
         return depot_dispatch(RUN, IMAGE, COMMANDS, lent, sizeof lent, count, sizeof count);
+    case 10:
+        return depot_rounds_needed(COMMANDS, rounds, sizeof rounds, needed, sizeof needed);
     default:
         return depot_advance(RUN, IMAGE, COMMANDS, schedule, sizeof schedule);
     }
@@ -116,5 +119,6 @@ int main(void)
     }
     bad |= depot_image_place(image) != 1;
     bad |= depot_short_at(answers, DEPOT_MOST_COMMANDS - 1) == DEPOT_NOT_YET; /* the dispatch went to the end */
+    bad |= depot_key_at(needed, 0) != DEPOT_MOST_COMMANDS; /* and the rounds, too: a checkpoint, then inserts one behind the other */
     return bad ? EXIT_FAILURE : EXIT_SUCCESS;
 }

@@ -174,7 +174,34 @@ static void test_null(void)
     expect(depot_lists_pending_counts(&l, counts) == 0 && depot_lists_worker_status(&l, status) == 0, "its reports");
     expect(depot_lists_dispatch(&l, NULL, 0, &steps) == DEPOT_WRONG_LENGTH, "no list for the dealing");
     expect(depot_lists_steps_needed(&l, &steps) == 0 && steps == 9, "its bound");
+    expect(depot_lists_rounds_needed(&l, NULL, &steps) == 0 && steps == 0, "its rounds");
     expect(depot_all_answered(&l) && depot_all_removed(&l), "nothing is to be done");
+}
+
+/* Rounds beside the call, of lists that have commands and count alone; and what a refusal leaves. */
+static void test_rounds(void)
+{
+    static struct run r;
+    struct depot_lists l;
+    uint8_t a[DEPOT_ROUND_LENGTH * COUNT], b[DEPOT_ROUND_LENGTH * COUNT], count[DEPOT_ROUND_COUNT_LENGTH];
+    size_t needed = 7;
+    memset(&l, 0, sizeof l);
+    expect(depot_lists_rounds_needed(&l, NULL, &needed) == 0 && needed == 0, "no round of an empty list");
+    put_commands(&r);
+    depot_put_command(r.commands, 2, DEPOT_READ, "AA000000014AA", 0);
+    l.commands = r.commands;
+    l.count = COUNT;
+    memset(a, 9, sizeof a);
+    expect(depot_lists_rounds_needed(&l, a, &needed) == 0 &&
+               depot_rounds_needed(r.commands, 16 * COUNT, b, sizeof b, count, sizeof count) == 0 &&
+               memcmp(a, b, sizeof a) == 0 && needed == depot_key_at(count, 0), "rounds needed");
+    expect(needed == 2 && depot_short_at(a, 0) == 1 && depot_short_at(a, 1) == 1 && depot_short_at(a, 2) == 2, "the rounds");
+    depot_put_command(r.commands, 3, DEPOT_CHECKPOINT, NULL, 1);
+    needed = 7;
+    memset(a, 9, sizeof a);
+    memset(b, 9, sizeof b);
+    expect(depot_lists_rounds_needed(&l, a, &needed) == (DEPOT_WRONG_CHUTE | 3 << 8), "a refused command and its place");
+    expect(needed == 7 && memcmp(a, b, sizeof a) == 0, "a refusal leaves the number of rounds, and the rounds");
 }
 
 /* What a host sees turn by turn: the insert loaded, taken, written and removed. */
@@ -313,6 +340,7 @@ int main(void)
     test_put();
     test_outside();
     test_null();
+    test_rounds();
     test_reading();
     test_sets();
     test_members();
