@@ -162,7 +162,7 @@ fn mailing(random: &mut Random, count: usize) -> Vec<u8> {
     list
 }
 
-fn different_keys(random: &mut Random, count: usize) -> Vec<u64> {
+pub fn different_keys(random: &mut Random, count: usize) -> Vec<u64> {
     let mut met = BTreeSet::new();
     let mut keys = Vec::new();
     while keys.len() < count {
@@ -183,7 +183,7 @@ fn read(key: u64) -> Vec<u8> {
     encode(Kind::Read, key, 0)
 }
 
-fn encode(kind: Kind, key: u64, chute: u16) -> Vec<u8> {
+pub fn encode(kind: Kind, key: u64, chute: u16) -> Vec<u8> {
     let text = identifier::text(key).expect("the key is in range");
     command::encode(kind.number(), &text, chute)
 }

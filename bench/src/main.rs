@@ -2,8 +2,9 @@
 //! one process, and their lists are compared at the end; a difference ends with status 1.
 //!
 //! `bench [runs [part [turns]]]`: 11 runs, all parts and whole lists unless said. The parts are
-//! `steps`, `calls`, `growth`, `reads`, `mailing`, `checkpoint`, `dispatch` and `full`; `turns` is the
-//! most that is dealt of a list, but for `dispatch` and `full`, which make their own.
+//! `steps`, `calls`, `growth`, `reads`, `mailing`, `checkpoint`, `dispatch`, `rounds` and `full`; `turns`
+//! is the most that is dealt of a list, but for `dispatch` and `full`, which make their own, and
+//! `rounds`, which has none.
 
 use std::env;
 use std::path::PathBuf;
@@ -22,6 +23,7 @@ mod full;
 mod input;
 mod lists;
 mod measure;
+mod rounds;
 mod tables;
 mod threads;
 mod waiting;

@@ -8,6 +8,7 @@ use second::run::Settings;
 use crate::checkpoint::{MANY, list, source};
 use crate::input::{Input, Kinds, Order};
 use crate::measure::{Bench, CALL_STEPS, StepTimes, Times, ratio};
+use crate::rounds;
 
 const MOST_COMMANDS: usize = 4096;
 /// The most turns dealt of a list where many settings are measured.
@@ -27,7 +28,7 @@ const fn settings(size: u8, workers: u8, room: u16) -> Settings {
 /// Measures and prints one part, or all.
 pub fn print(bench: &Bench, part: Option<&str>) -> Result<(), String> {
     type Part = fn(&Bench) -> Result<(), String>;
-    let parts: [(&str, Part); 8] = [
+    let parts: [(&str, Part); 9] = [
         ("steps", steps),
         ("calls", calls),
         ("growth", growth),
@@ -35,6 +36,7 @@ pub fn print(bench: &Bench, part: Option<&str>) -> Result<(), String> {
         ("mailing", mailing),
         ("checkpoint", checkpoint),
         ("dispatch", dispatch),
+        ("rounds", rounds),
         ("full", full),
     ];
     if let Some(part) = part
@@ -42,7 +44,7 @@ pub fn print(bench: &Bench, part: Option<&str>) -> Result<(), String> {
     {
         return Err(format!(
             "no part `{part}`; the parts are steps, calls, growth, reads, mailing, checkpoint, \
-             dispatch and full"
+             dispatch, rounds and full"
         ));
     }
     println!(
@@ -228,6 +230,28 @@ fn dispatch(bench: &Bench) -> Result<(), String> {
             micros(it.plain),
             ratio(it.dispatch, it.plain),
             ratio(it.advance, it.plain),
+        );
+    }
+    Ok(())
+}
+
+/// Document 02, A.9: the rounds of full lists, beside plain Rust that keeps the largest rounds, and beside
+/// plain Rust that goes over all pairs.
+fn rounds(bench: &Bench) -> Result<(), String> {
+    println!("Rounds: lists of {MOST_COMMANDS} commands.\n");
+    println!(
+        "| List | Rounds | Proved | Plain | Ratio | Plain, commands read before | Plain by all pairs, \
+         commands read before |"
+    );
+    println!("|---|---|---|---|---|---|---|");
+    for (name, list) in rounds::input::lists() {
+        let it = bench.rounds(&list)?;
+        println!(
+            "| {name} | {} | {} | {} | {} |",
+            it.rounds,
+            cells(it.calls),
+            micros(it.kept),
+            micros(it.pairs)
         );
     }
     Ok(())
