@@ -111,7 +111,9 @@ pub struct RoundTimes {
 }
 
 impl Bench {
-    /// The ways by turns; after each run their lists are compared.
+    /// The ways by turns; after each run their lists are compared. Under a name of its own for
+    /// callgrind, as the plain ways are.
+    #[inline(never)]
     pub fn rounds(&self, list: &[u8]) -> Result<RoundTimes, String> {
         let commands: &[Command] = &command::read_list(list).expect("the list is accepted");
         let calls: [&dyn Fn(&mut Lent) -> u64; 4] = [
@@ -126,10 +128,9 @@ impl Bench {
         }
         for _ in 0..self.runs {
             ways.iter_mut().try_for_each(Way::run)?;
-            let others = &ways[1..];
-            others
-                .iter()
-                .try_for_each(|way| same(&ways[0].lent, &way.lent))?;
+            for plain in &ways[1..] {
+                same(&ways[0].lent, &plain.lent)?;
+            }
         }
         let rounds = number(&ways[0].lent);
         let mut medians = ways.into_iter().map(|way| median(way.times));

@@ -94,6 +94,7 @@ impl Rounds {
 }
 
 /// The call as the archive makes it: the same answers, the same bytes.
+#[inline(never)]
 pub fn rounds_needed(list: &[u8], rounds: &mut [u8], count: &mut [u8]) -> u64 {
     found(list, rounds, count).map_or_else(Fault::answer, |()| 0)
 }
@@ -131,6 +132,7 @@ fn check_lengths(list: &[u8], rounds: &[u8], count: &[u8]) -> Result<(), Refusal
 }
 
 /// The rounds alone, of commands that were read before, in lists of the right lengths. The answer is 0.
+#[inline(never)]
 pub fn by_kept(commands: &[Command], rounds: &mut [u8], count: &mut [u8]) -> u64 {
     let mut kept = Rounds::new();
     let (entries, _) = rounds.as_chunks_mut();
@@ -142,6 +144,7 @@ pub fn by_kept(commands: &[Command], rounds: &mut [u8], count: &mut [u8]) -> u64
 }
 
 /// The same by all pairs.
+#[inline(never)]
 pub fn by_pairs(commands: &[Command], rounds: &mut [u8], count: &mut [u8]) -> u64 {
     let mut found: Vec<u16> = Vec::with_capacity(commands.len());
     for command in commands {
