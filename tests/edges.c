@@ -12,9 +12,9 @@ struct list {
     size_t length;
 };
 
-/* A call's lists: the six that the caller keeps, one more that is the call's own (image to open from, schedule, counts, status or
- * steps needed), and the number of turns that a dispatch writes. */
-enum { STATE, KEYS, CHUTES, ANSWERS, IMAGE, COMMANDS, OWN, TURNS, LISTS };
+/* A call's lists: the six that the caller keeps, one more that is the call's own (image to open from, schedule, counts, status,
+ * steps needed or rounds), and the number of turns or rounds that a dispatch or the call for rounds writes. */
+enum { STATE, KEYS, CHUTES, ANSWERS, IMAGE, COMMANDS, OWN, NUMBER, LISTS };
 
 struct lists {
     struct list at[LISTS];
@@ -24,10 +24,10 @@ struct settings {
     uint64_t size, workers, capacity;
 };
 
-enum call { OPEN, OPEN_FROM, ADVANCE, COUNTS, STATUS, NEEDED, DISPATCH, CALLS };
+enum call { OPEN, OPEN_FROM, ADVANCE, COUNTS, STATUS, NEEDED, DISPATCH, ROUNDS, CALLS };
 
-static const char *const call_names[] = {"depot_open",          "depot_open_from",    "depot_advance", "depot_pending_counts",
-                                         "depot_worker_status", "depot_steps_needed", "depot_dispatch"};
+static const char *const call_names[] = {"depot_open",          "depot_open_from",    "depot_advance",  "depot_pending_counts",
+                                         "depot_worker_status", "depot_steps_needed", "depot_dispatch", "depot_rounds_needed"};
 static unsigned long checks, failures;
 
 /* What a new list holds: no kind, no party. */
@@ -88,7 +88,7 @@ static struct lists make_all(size_t count, size_t capacity)
     l.at[IMAGE] = make(depot_image_length(capacity));
     l.at[COMMANDS] = make(DEPOT_COMMAND_LENGTH * count);
     l.at[OWN] = make(0);
-    l.at[TURNS] = make(0);
+    l.at[NUMBER] = make(0);
     return l;
 }
 
@@ -126,8 +126,10 @@ static uint64_t pass(enum call c, struct lists *l, struct settings s)
         return depot_worker_status(PASS_RUN(l), PASS(l, COMMANDS), PASS(l, OWN));
     case NEEDED:
         return depot_steps_needed(PASS_RUN(l), PASS(l, COMMANDS), PASS(l, OWN));
+    case DISPATCH:
+        return depot_dispatch(PASS_RUN(l), PASS(l, IMAGE), PASS(l, COMMANDS), PASS(l, OWN), PASS(l, NUMBER));
     default:
-        return depot_dispatch(PASS_RUN(l), PASS(l, IMAGE), PASS(l, COMMANDS), PASS(l, OWN), PASS(l, TURNS));
+        return depot_rounds_needed(PASS(l, COMMANDS), PASS(l, OWN), PASS(l, NUMBER));
     }
 }
 
@@ -137,16 +139,22 @@ static int is_report(enum call c)
     return c == COUNTS || c == STATUS || c == NEEDED;
 }
 
+/* Whether a call may write a list. */
+static int may_write(enum call c, int which)
+{
+    if (which < COMMANDS)
+        return !is_report(c) && c != ROUNDS;
+    return (which == OWN && is_report(c)) || (which > COMMANDS && (c == DISPATCH || c == ROUNDS));
+}
+
 /* Makes a call and checks that it leaves what it may not write: everything on a refusal, else what it only reads. */
 static uint64_t call(enum call c, struct lists *l, struct settings s)
 {
     struct lists old = copy_all(l);
     uint64_t answer = pass(c, l, s);
-    for (int i = 0; i < LISTS; i++) {
-        int writes = is_report(c) ? i == OWN : i < COMMANDS || (c == DISPATCH && i > COMMANDS);
-        if (answer != 0 || !writes)
+    for (int i = 0; i < LISTS; i++)
+        if (answer != 0 || !may_write(c, i))
             check(same(old.at[i], l->at[i]), call_names[c], "changed a list that it may not write", (unsigned long)i);
-    }
     free_all(&old);
     return answer;
 }
@@ -237,13 +245,13 @@ static size_t bound_of(const struct lists *l)
     return (left + state[LARGEST_AT]) * (3 * (size_t)state[SIZE_AT] + 6);
 }
 
-/* Lends new lists for a dispatch. */
-static void lend(struct lists *l, size_t schedule, size_t turns)
+/* Lends new lists for a dispatch or for rounds. */
+static void lend(struct lists *l, size_t own, size_t number)
 {
     free(l->at[OWN].bytes);
-    free(l->at[TURNS].bytes);
-    l->at[OWN] = make(schedule);
-    l->at[TURNS] = make(turns);
+    free(l->at[NUMBER].bytes);
+    l->at[OWN] = make(own);
+    l->at[NUMBER] = make(number);
 }
 
 /* Whether a lent list is written up to a length and untouched behind it. */
@@ -272,7 +280,7 @@ static size_t dispatch(struct lists *l, size_t longer, const char *what)
     check(depot_key_at(l->at[OWN].bytes, 0) == bound, what, "steps needed, and not", (unsigned long)bound);
     lend(l, bound + longer, DEPOT_STEP_COUNT_LENGTH);
     expect(DISPATCH, l, none, 0, what);
-    turns = (size_t)depot_key_at(l->at[TURNS].bytes, 0);
+    turns = (size_t)depot_key_at(l->at[NUMBER].bytes, 0);
     check(turns <= bound, what, "more turns than the bound", (unsigned long)turns);
     if (turns <= bound) {
         check(ends_at(l->at[OWN], turns), what, "the dealing does not end at its length", (unsigned long)turns);
@@ -412,6 +420,14 @@ static uint64_t refused(unsigned number, size_t place, unsigned character)
     return (uint64_t)character << 32 | (uint64_t)place << 8 | number;
 }
 
+/* An opening, and the rounds of the same list, for which the commands are tested likewise. */
+static void expect_both(struct lists *l, struct settings s, uint64_t wanted, const char *what)
+{
+    expect(OPEN, l, s, wanted, what);
+    lend(l, l->at[COMMANDS].length / DEPOT_COMMAND_LENGTH * DEPOT_ROUND_LENGTH, DEPOT_ROUND_COUNT_LENGTH);
+    expect(ROUNDS, l, none, wanted, what);
+}
+
 /* Document 02, A.2: refusals 8 and 14 of a worker change, at every place, and 8 at every character before 14. */
 static void test_wrong_changes(void)
 {
@@ -422,16 +438,16 @@ static void test_wrong_changes(void)
         uint8_t *text = l.at[COMMANDS].bytes + DEPOT_COMMAND_LENGTH * (place - 1);
         for (size_t i = 0; i < sizeof counts / sizeof *counts; i++) {
             put_workers(&l, place - 1, counts[i]);
-            expect(OPEN, &l, s, refused(DEPOT_WRONG_COUNT, place, 0), "a wrong count");
+            expect_both(&l, s, refused(DEPOT_WRONG_COUNT, place, 0), "a wrong count");
         }
         for (unsigned character = 1; character <= DEPOT_IDENTIFIER_LENGTH; character++) {
             put_workers(&l, place - 1, character % 2 ? 65 : 64);
             text[character] = character % 3 ? 'A' : '1';
             text[DEPOT_IDENTIFIER_LENGTH] = 'A';
-            expect(OPEN, &l, s, refused(DEPOT_MALFORMED, place, character), "a character that is not 0");
+            expect_both(&l, s, refused(DEPOT_MALFORMED, place, character), "a character that is not 0");
         }
         put_workers(&l, place - 1, place == 2 ? DEPOT_MOST_WORKERS : 1);
-        expect(OPEN, &l, s, 0, "a worker change");
+        expect_both(&l, s, 0, "a worker change");
     }
     free_all(&l);
 }
@@ -523,16 +539,16 @@ static void test_wrong_checkpoints(void)
         uint8_t *text = l.at[COMMANDS].bytes + DEPOT_COMMAND_LENGTH * (place - 1);
         for (size_t i = 0; i < sizeof wrong / sizeof *wrong; i++) {
             put_checkpoint(&l, place - 1, wrong[i]);
-            expect(OPEN, &l, s, refused(DEPOT_WRONG_CHUTE, place, 0), "a checkpoint with a chute");
+            expect_both(&l, s, refused(DEPOT_WRONG_CHUTE, place, 0), "a checkpoint with a chute");
         }
         for (unsigned character = 1; character <= DEPOT_IDENTIFIER_LENGTH; character++) {
             put_checkpoint(&l, place - 1, character % 2);
             text[character] = character % 3 ? 'A' : '1';
             text[DEPOT_IDENTIFIER_LENGTH] = 'A';
-            expect(OPEN, &l, s, refused(DEPOT_MALFORMED, place, character), "a character that is not 0");
+            expect_both(&l, s, refused(DEPOT_MALFORMED, place, character), "a character that is not 0");
         }
         put_checkpoint(&l, place - 1, 0);
-        expect(OPEN, &l, s, 0, "a checkpoint");
+        expect_both(&l, s, 0, "a checkpoint");
     }
     free_all(&l);
 }
@@ -879,8 +895,8 @@ static void test_settings(void)
     free_all(&l);
 }
 
-/* Refusals 7 to 10 and 13 with place and character, of the first and the last command. */
-static void test_places(void)
+/* Refusals 7 to 10 and 13 with place and character, of the first and the last command, by a call that tests commands. */
+static void test_places(enum call c)
 {
     static const struct {
         size_t offset;
@@ -892,15 +908,16 @@ static void test_places(void)
                  {0, 6, 8, 1}};
     const struct settings s = {1, 1, 1};
     struct lists l = opened(DEPOT_MOST_COMMANDS, s, 0);
+    lend(&l, DEPOT_ROUND_LENGTH * DEPOT_MOST_COMMANDS, DEPOT_ROUND_COUNT_LENGTH);
     for (size_t i = 0; i < sizeof cases / sizeof *cases; i++)
         for (size_t place = 1; place <= DEPOT_MOST_COMMANDS; place += DEPOT_MOST_COMMANDS - 1) {
             uint8_t *b = l.at[COMMANDS].bytes + DEPOT_COMMAND_LENGTH * (place - 1) + cases[i].offset, old = *b;
             uint64_t answer;
             *b = cases[i].value;
-            answer = call(OPEN, &l, s);
-            check(depot_number(answer) == cases[i].wanted, "depot_open", "number", (unsigned long)answer);
-            check(depot_place(answer) == place, "depot_open", "place", (unsigned long)answer);
-            check(depot_character(answer) == cases[i].character, "depot_open", "character", (unsigned long)answer);
+            answer = call(c, &l, s);
+            check(depot_number(answer) == cases[i].wanted, call_names[c], "number", (unsigned long)answer);
+            check(depot_place(answer) == place, call_names[c], "place", (unsigned long)answer);
+            check(depot_character(answer) == cases[i].character, call_names[c], "character", (unsigned long)answer);
             *b = old;
         }
     free_all(&l);
@@ -928,16 +945,18 @@ static void test_too_long(void)
     expect(ADVANCE, &l, none, DEPOT_WRONG_LENGTH, "an answer and a command too many");
     state[7] = 1; /* 4,097 commands */
     expect(ADVANCE, &l, none, DEPOT_WRONG_STATE, "4,097 commands");
+    lend(&l, DEPOT_ROUND_LENGTH * 4097, DEPOT_ROUND_COUNT_LENGTH);
+    expect(ROUNDS, &l, none, DEPOT_TOO_MANY_COMMANDS, "4,097 commands");
     free_all(&l);
 }
 
-/* What a call answers to a list that is longer or shorter by so much: openings test the commands' first, the reports are not lent
- * the image, and a dispatch's list may be longer. */
+/* What a call answers to a list that is longer or shorter by so much: openings and rounds test the commands' first, the reports are
+ * not lent the image and rounds no run, and a dispatch's list may be longer. */
 static uint64_t wrong_length(enum call c, int which, size_t by, int is_longer)
 {
-    if (which == COMMANDS && by == 1 && (c == OPEN || c == OPEN_FROM))
+    if (which == COMMANDS && by == 1 && (c == OPEN || c == OPEN_FROM || c == ROUNDS))
         return DEPOT_WRONG_LIST_LENGTH;
-    if ((which == IMAGE && is_report(c)) || (which == OWN && c == DISPATCH && is_longer))
+    if ((which == IMAGE && is_report(c)) || (which < COMMANDS && c == ROUNDS) || (which == OWN && c == DISPATCH && is_longer))
         return 0;
     return DEPOT_WRONG_LENGTH;
 }
@@ -945,24 +964,32 @@ static uint64_t wrong_length(enum call c, int which, size_t by, int is_longer)
 /* The lists that have one right length, by call: an opening's own list is none, a dealing may have any length. */
 static int lists_of(enum call c)
 {
-    return c == DISPATCH ? LISTS : c == OPEN || c == ADVANCE ? OWN : TURNS;
+    return c == DISPATCH || c == ROUNDS ? LISTS : c == OPEN || c == ADVANCE ? OWN : NUMBER;
+}
+
+/* The bytes of an entry of a list of a call. */
+static size_t entry_of(enum call c, int which)
+{
+    static const size_t entry[LISTS] = {1,  DEPOT_KEY_LENGTH,     DEPOT_CHUTE_LENGTH, DEPOT_ANSWER_LENGTH, DEPOT_RECORD_LENGTH,
+                                        DEPOT_COMMAND_LENGTH, 1, DEPOT_STEP_COUNT_LENGTH};
+    if (which == OWN && c == ROUNDS)
+        return DEPOT_ROUND_LENGTH;
+    return which == OWN && c == OPEN_FROM ? DEPOT_RECORD_LENGTH : entry[which];
 }
 
 /* Each list of each call one byte, and one entry, longer and shorter than it should be. */
 static void test_lengths(void)
 {
-    static const size_t entry[LISTS] = {1,  DEPOT_KEY_LENGTH,     DEPOT_CHUTE_LENGTH, DEPOT_ANSWER_LENGTH, DEPOT_RECORD_LENGTH,
-                                        DEPOT_COMMAND_LENGTH, 1, DEPOT_STEP_COUNT_LENGTH};
     const size_t own[CALLS] = {0, depot_image_length(4), 3, DEPOT_COUNTS_LENGTH, DEPOT_STATUS_LENGTH, DEPOT_STEP_COUNT_LENGTH,
-                               (5 + 2) * (3 * 3 + 6)};
+                               (5 + 2) * (3 * 3 + 6), DEPOT_ROUND_LENGTH * 5};
     const struct settings s = {3, 2, 4};
     struct lists base = opened(5, s, 1);
-    resize(&base, TURNS, DEPOT_STEP_COUNT_LENGTH);
+    resize(&base, NUMBER, DEPOT_STEP_COUNT_LENGTH);
     for (int c = 0; c < CALLS; c++)
         for (int i = 0; i < lists_of((enum call)c); i++)
             for (int way = 0; way < 4; way++) {
                 struct lists l = copy_all(&base);
-                size_t by = way < 2 ? 1 : c == OPEN_FROM && i == OWN ? DEPOT_RECORD_LENGTH : entry[i];
+                size_t by = way < 2 ? 1 : entry_of((enum call)c, i);
                 resize(&l, OWN, own[c]);
                 if (own[c] > 0)
                     memset(l.at[OWN].bytes, c == OPEN_FROM ? 0 : 1, own[c]);
@@ -1107,6 +1134,161 @@ static void test_identifiers(void)
     write_as(0, 0, DEPOT_WRONG_LENGTH, "");
 }
 
+/* ---- rounds: document 02, A.9 */
+
+/* A list and its rounds, found by hand. Items are numbered from 0. */
+static const struct {
+    enum depot_kind kind;
+    unsigned item, round;
+} planned[] = {
+    {DEPOT_INSERT, 0, 1},
+    {DEPOT_INSERT, 1, 2}, /* inserts and deletes one behind the other, whatever their items */
+    {DEPOT_DELETE, 2, 3},
+    {DEPOT_READ, 3, 1}, /* a read of another item passes them; reads of one item stand together */
+    {DEPOT_READ, 3, 1},
+    {DEPOT_UPDATE, 3, 2}, /* apart from the reads of its item, before it and behind it */
+    {DEPOT_READ, 3, 3},
+    {DEPOT_READ, 3, 3},
+    {DEPOT_UPDATE, 4, 1}, /* an update of another item passes, too; updates of one item one behind the other */
+    {DEPOT_UPDATE, 4, 2},
+    {DEPOT_READ, 0, 2}, /* behind the insert of its item, and not behind the other one */
+    {DEPOT_UPDATE, 1, 3},
+    {DEPOT_READ, 2, 4},
+    {DEPOT_DELETE, 0, 4}, /* behind the delete before it; its item was last read in round 2 */
+    {DEPOT_UPDATE, 4, 3},
+    {DEPOT_UPDATE, 4, 4},
+    {DEPOT_UPDATE, 4, 5},
+    {DEPOT_INSERT, 4, 6}, /* behind the updates of its item */
+    {DEPOT_INSERT, 5, 7}, /* behind the insert before it */
+    {DEPOT_READ, 6, 1},
+    {DEPOT_WORKERS, 0, 8}, /* a worker change behind everything, and everything behind it */
+    {DEPOT_READ, 6, 9},
+    {DEPOT_UPDATE, 5, 9},
+    {DEPOT_INSERT, 7, 9},
+    {DEPOT_READ, 0, 9},
+    {DEPOT_DELETE, 6, 10},
+    {DEPOT_CHECKPOINT, 0, 11}, /* a checkpoint, too, also behind a checkpoint */
+    {DEPOT_CHECKPOINT, 0, 12},
+    {DEPOT_READ, 0, 13},
+    {DEPOT_READ, 7, 13},
+    {DEPOT_INSERT, 8, 13},
+    {DEPOT_WORKERS, 0, 14},
+};
+
+/* A right command of any kind. */
+static void put_any(struct lists *l, size_t i, enum depot_kind kind, uint64_t key)
+{
+    if (kind == DEPOT_WORKERS)
+        put_workers(l, i, 1 + (unsigned)i % DEPOT_MOST_WORKERS);
+    else if (kind == DEPOT_CHECKPOINT)
+        put_checkpoint(l, i, 0);
+    else
+        put_command(l, i, kind, key, kind == DEPOT_INSERT || kind == DEPOT_UPDATE ? chute_of(i) : 0);
+}
+
+/* Keys so far apart are equal modulo 4,093 and modulo 4,096: a table of buckets may have them all in one. */
+static const uint64_t far_apart = UINT64_C(4093) * 4096;
+
+/* The rounds of every beginning of the list above, the empty one too, of items with keys so far apart. No run is looked at. */
+static void test_rounds(uint64_t apart)
+{
+    enum { COUNT = sizeof planned / sizeof *planned };
+    struct lists whole = make_all(COUNT, 1);
+    for (size_t i = 0; i < COUNT; i++)
+        put_any(&whole, i, planned[i].kind, planned[i].item * apart);
+    for (size_t count = 0; count <= COUNT; count++) {
+        struct lists l = copy_all(&whole);
+        unsigned last = 0;
+        resize(&l, COMMANDS, DEPOT_COMMAND_LENGTH * count);
+        lend(&l, DEPOT_ROUND_LENGTH * count, DEPOT_ROUND_COUNT_LENGTH);
+        expect(ROUNDS, &l, none, 0, "refused the beginning of a list");
+        for (size_t i = 0; i < count; i++) {
+            check(depot_short_at(l.at[OWN].bytes, i) == planned[i].round, "rounds", "round", (unsigned long)i);
+            last = planned[i].round > last ? planned[i].round : last;
+        }
+        check(depot_key_at(l.at[NUMBER].bytes, 0) == last, "rounds", "how many", (unsigned long)count);
+        free_all(&l);
+    }
+    free_all(&whole);
+}
+
+/* One command of each kind: round 1 of 1. */
+static void test_one_round(void)
+{
+    for (int kind = DEPOT_INSERT; kind <= DEPOT_CHECKPOINT; kind++) {
+        struct lists l = make_all(1, 1);
+        put_any(&l, 0, (enum depot_kind)kind, DEPOT_LARGEST_KEY);
+        lend(&l, DEPOT_ROUND_LENGTH, DEPOT_ROUND_COUNT_LENGTH);
+        expect(ROUNDS, &l, none, 0, "refused one command");
+        check(depot_short_at(l.at[OWN].bytes, 0) == 1 && depot_key_at(l.at[NUMBER].bytes, 0) == 1, "one command", "round", 0);
+        free_all(&l);
+    }
+}
+
+/* 4,096 commands of one kind, of one item or of one each: all in one round, or each in a round of its own. */
+static void test_full_rounds(void)
+{
+    enum { MOST = DEPOT_MOST_COMMANDS };
+    static const struct {
+        enum depot_kind kind;
+        int items, together;
+    } cases[] = {{DEPOT_UPDATE, 1, 0},    {DEPOT_READ, 1, 1},      {DEPOT_UPDATE, MOST, 1},
+                 {DEPOT_INSERT, MOST, 0}, {DEPOT_DELETE, MOST, 0}, {DEPOT_CHECKPOINT, 1, 0}};
+    for (size_t c = 0; c < sizeof cases / sizeof *cases; c++) {
+        struct lists l = make_all(MOST, 1);
+        for (size_t i = 0; i < MOST; i++)
+            put_any(&l, i, cases[c].kind, i % (size_t)cases[c].items * far_apart);
+        lend(&l, DEPOT_ROUND_LENGTH * MOST, DEPOT_ROUND_COUNT_LENGTH);
+        expect(ROUNDS, &l, none, 0, "refused a full list");
+        for (size_t i = 0; i < MOST; i++)
+            check(depot_short_at(l.at[OWN].bytes, i) == (cases[c].together ? 1 : i + 1), "full rounds", "round", (unsigned long)i);
+        check(depot_key_at(l.at[NUMBER].bytes, 0) == (cases[c].together ? 1 : MOST), "full rounds", "how many", (unsigned long)c);
+        free_all(&l);
+    }
+}
+
+/* 4, then 5, then 6, then the commands, the first refused one first. */
+static void test_order_of_rounds(void)
+{
+    static const size_t lent[][2] = {{5, 8}, {7, 8}, {4, 8}, {8, 8}, {0, 8}, {6, 7}, {6, 9}, {6, 0}}; /* rounds, number */
+    struct lists l = make_all(3, 1); /* of no kind */
+    lend(&l, 5, 7);
+    resize(&l, COMMANDS, DEPOT_COMMAND_LENGTH * 4097 + 1);
+    expect(ROUNDS, &l, none, DEPOT_WRONG_LIST_LENGTH, "4 is tested before 5");
+    resize(&l, COMMANDS, DEPOT_COMMAND_LENGTH * 4097);
+    expect(ROUNDS, &l, none, DEPOT_TOO_MANY_COMMANDS, "5 is tested before 6");
+    resize(&l, COMMANDS, DEPOT_COMMAND_LENGTH * 3);
+    for (size_t i = 0; i < sizeof lent / sizeof *lent; i++) {
+        lend(&l, lent[i][0], lent[i][1]);
+        expect(ROUNDS, &l, none, DEPOT_WRONG_LENGTH, "6 is tested before the commands");
+    }
+    lend(&l, 6, 8);
+    for (size_t place = 1; place <= 3; place++) {
+        expect(ROUNDS, &l, none, refused(DEPOT_UNKNOWN_KIND, place, 0), "the first refused command");
+        put_any(&l, place - 1, DEPOT_UPDATE, place);
+    }
+    expect(ROUNDS, &l, none, 0, "refused three updates");
+    free_all(&l);
+}
+
+/* Lists for rounds beside the right lengths of a full list, and far above them. */
+static void test_lengths_of_rounds(void)
+{
+    static const size_t lengths[] = {0, 8190, 8191, 8193, 8194, 8196, 16384, 65536 + 8192, 131072 + 8192};
+    struct lists l = make_all(DEPOT_MOST_COMMANDS, 1);
+    for (size_t i = 0; i < DEPOT_MOST_COMMANDS; i++)
+        put_any(&l, i, DEPOT_READ, i);
+    for (size_t i = 0; i < sizeof lengths / sizeof *lengths; i++) {
+        lend(&l, lengths[i], DEPOT_ROUND_COUNT_LENGTH);
+        expect(ROUNDS, &l, none, DEPOT_WRONG_LENGTH, "rounds of a wrong length");
+    }
+    for (size_t number = 7; number <= 9; number++) {
+        lend(&l, 8192, number);
+        expect(ROUNDS, &l, none, number == 8 ? 0 : DEPOT_WRONG_LENGTH, "a number of rounds of a wrong length");
+    }
+    free_all(&l);
+}
+
 int main(void)
 {
     const struct settings small = {5, 3, 4}, large = {DEPOT_MOST_NODES, DEPOT_MOST_WORKERS, 4};
@@ -1128,7 +1310,8 @@ int main(void)
     test_dispatch_every_state();
     test_all_parties();
     test_settings();
-    test_places();
+    test_places(OPEN);
+    test_places(ROUNDS);
     test_too_long();
     test_lengths();
     test_parties();
@@ -1136,6 +1319,12 @@ int main(void)
     check(finished > 0 && left > 0, "changed bytes", "no dispatch finished, or all did", finished);
     test_changed_bytes(large, 40, 1200);
     test_identifiers();
+    test_rounds(1);
+    test_rounds(far_apart);
+    test_one_round();
+    test_full_rounds();
+    test_order_of_rounds();
+    test_lengths_of_rounds();
     printf("edges: %lu checks, %lu failed\n", checks, failures);
     return failures == 0 ? EXIT_SUCCESS : EXIT_FAILURE;
 }
