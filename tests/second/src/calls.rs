@@ -8,6 +8,7 @@ use crate::dispatch;
 use crate::identifier;
 use crate::image;
 use crate::refusal::{Fault, Refusal};
+use crate::rounds;
 use crate::run::{Run, Settings};
 use crate::store::Store;
 
@@ -18,6 +19,8 @@ pub const STATUSES: usize = 64;
 const STATUS_BYTES: usize = 2;
 /// Bytes of a number of turns.
 pub const TURN_COUNT: usize = 8;
+/// Bytes of a number of rounds.
+pub const ROUND_COUNT: usize = 8;
 
 /// Settings as they are asked for, right or not: graph size, workers and room.
 pub type Asked = [u64; 3];
@@ -142,6 +145,27 @@ pub fn worker_status(lists: Lists, status: &mut [u8]) -> u64 {
     }))
 }
 
+/// The round of each command, and how many rounds there are. Document 02, A.9: "A call given commands
+/// but neither settings nor a run tests from 4 on as opening does."
+pub fn rounds_needed(commands: &[u8], rounds: &mut [u8], count: &mut [u8]) -> u64 {
+    answer(
+        rounds_given(commands, rounds.len(), count.len()).map(|given| {
+            bytes::write_numbers(&given, rounds);
+            count.copy_from_slice(&rounds::count_of(&given).to_be_bytes());
+        }),
+    )
+}
+
+/// The rounds of a list, or refusal 4, 5, 6 of the two lent lists, or that of a command.
+fn rounds_given(commands: &[u8], rounds: usize, count: usize) -> Result<Vec<u16>, Fault> {
+    check_commands(commands)?;
+    let needed = commands.len() / command::LENGTH * bytes::NUMBER;
+    if rounds != needed || count != ROUND_COUNT {
+        return Err(Refusal::Length.into());
+    }
+    Ok(rounds::rounds_of(&command::read_list(commands)?))
+}
+
 pub fn read_identifier(text: &[u8], key: &mut [u8]) -> u64 {
     if key.len() != bytes::KEY {
         return Fault::from(Refusal::Length).answer();
@@ -169,13 +193,19 @@ fn opened(lent: &LentLists, given: Given) -> Result<Run, Fault> {
 /// Refusals 1 to 5, in order.
 pub fn open_settings(commands: &[u8], [size, workers, room]: Asked) -> Result<Settings, Refusal> {
     let settings = bytes::settings(size, workers, room)?;
+    check_commands(commands)?;
+    Ok(settings)
+}
+
+/// Refusals 4 and 5, in order.
+fn check_commands(commands: &[u8]) -> Result<(), Refusal> {
     if !commands.len().is_multiple_of(command::LENGTH) {
         return Err(Refusal::ListLength);
     }
     if commands.len() / command::LENGTH > MOST_COMMANDS {
         return Err(Refusal::TooManyCommands);
     }
-    Ok(settings)
+    Ok(())
 }
 
 /// Refusal 11, by the largest worker count.

@@ -2,9 +2,9 @@
 //! code must do, and is run beside it on the same inputs.
 //!
 //! - The second writing: `identifier`, `command` and `serial` are what a command means, `store`,
-//!   `image` and `run` the records and turns, `dispatch` the dispatcher's choice of turns, `bytes`
-//!   and `calls` the public calls on byte lists, `program` the program, and `refusal` the numbers of
-//!   refusal and how a call answers them.
+//!   `image` and `run` the records and turns, `dispatch` the dispatcher's choice of turns, `rounds`
+//!   the rounds that a list needs, `bytes` and `calls` the public calls on byte lists, `program` the
+//!   program, and `refusal` the numbers of refusal and how a call answers them.
 //! - The comparison: `depot` names the calls that are compared, `script` is the steps of one input,
 //!   `host` a caller that takes them, `play` two callers side by side, and `generate` makes the
 //!   inputs from a seed (`random`); `hex` shows them, and `met` counts what they meet of worker
@@ -31,6 +31,7 @@ pub mod play;
 pub mod program;
 pub mod random;
 pub mod refusal;
+pub mod rounds;
 pub mod run;
 pub mod script;
 pub mod serial;
