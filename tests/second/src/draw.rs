@@ -18,6 +18,7 @@ mod trace;
 pub mod window;
 
 use crate::serial::{ANNOUNCED_AGAIN, DONE, NO_SUCH_ITEM, STORE_FULL};
+use crate::text::count;
 use crate::text::input::Input;
 use columns::Columns;
 use look::STYLE;
@@ -170,12 +171,6 @@ fn notes(input: &Input, trace: &Trace) -> Vec<String> {
         ));
     }
     notes
-}
-
-/// A number with its noun.
-fn count(number: usize, noun: &str) -> String {
-    let ending = if number == 1 { "" } else { "s" };
-    format!("{number} {noun}{ending}")
 }
 
 /// An answer in words.

@@ -1,10 +1,12 @@
 //! The input of the program `depot` as text and back. A list of commands is written one a line,
 //! as the program prints them; the settings and the turns are options.
 //!
-//! `input` is the program's binary input, `options` are those of `depot_text pack`.
+//! `input` is the program's binary input, `options` are those of `depot_text pack`, and `rounds` shows
+//! a list with its rounds.
 
 pub mod input;
 pub mod options;
+pub mod rounds;
 
 use crate::bytes::MOST_COMMANDS;
 use crate::command::{Command, Kind, LARGEST_CHUTE, LARGEST_COUNT};
@@ -80,6 +82,12 @@ pub fn kind_name(kind: Kind) -> &'static str {
         Kind::Workers => "workers",
         Kind::Checkpoint => "checkpoint",
     }
+}
+
+/// A number with its noun.
+pub fn count(number: usize, noun: &str) -> String {
+    let ending = if number == 1 { "" } else { "s" };
+    format!("{number} {noun}{ending}")
 }
 
 /// The party numbers of a schedule as words.
@@ -457,7 +465,7 @@ workers 64 # from here on
         input
     }
 
-    fn random_command(random: &mut Random) -> Command {
+    pub fn random_command(random: &mut Random) -> Command {
         let kind = random.pick(&Kind::ALL);
         match kind {
             Kind::Workers => return Command::workers(1 + random.below(64) as u16),

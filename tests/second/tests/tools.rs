@@ -92,18 +92,36 @@ fn the_example_with_shifts_is_drawn_as_it_is_kept() {
     }
 }
 
+/// Document 02, A.9, for a person: the list of the example is shown with its rounds as it is kept,
+/// and what is shown is packed to the same bytes as the list.
+#[test]
+fn the_example_with_rounds_is_shown_as_it_is_kept() {
+    let list = kept("rounds.txt");
+    let shown = run(TEXT, &["rounds"], &list);
+    assert_eq!(shown, (Some(0), kept("rounds.expected"), String::new()));
+    let (status, packed, _) = run(TEXT, &SETTINGS, &shown.1);
+    assert_eq!((status, packed.len()), (Some(0), 6 + 10 * 16));
+    assert_eq!(packed, run(TEXT, &SETTINGS, &list).1);
+    assert_eq!(run(TEXT, &["rounds"], &shown.1), shown);
+}
+
+/// Where the examples are kept.
+const EXAMPLES: &str = concat!(env!("CARGO_MANIFEST_DIR"), "/../../examples");
+
+fn kept(file: &str) -> Vec<u8> {
+    std::fs::read(format!("{EXAMPLES}/{file}")).expect("the example's file")
+}
+
 /// Packs and draws an example, which is kept with its picture, for so many workers: what the program
 /// prints, and the picture.
 fn drawn_as_kept(name: &str, workers: &str) -> (String, String) {
-    const FOLDER: &str = concat!(env!("CARGO_MANIFEST_DIR"), "/../../examples");
-    let file = |ending: &str| format!("{FOLDER}/{name}.{ending}");
-    let kept = |ending: &str| std::fs::read(file(ending)).expect("the example's file");
     let settings = ["pack", "--size", "5", "--workers", workers, "--room", "4"];
-    let turns = file("turns");
+    let turns = format!("{EXAMPLES}/{name}.turns");
     let options = [&settings[..], &["--turns-file", &turns]].concat();
-    let (_, packed, _) = run(TEXT, &options, &kept("txt"));
+    let (_, packed, _) = run(TEXT, &options, &kept(&format!("{name}.txt")));
     let (_, picture, _) = run(DRAW, &[], &packed);
-    assert!(picture == kept("svg"), "depot_draw draws another picture");
+    let same = picture == kept(&format!("{name}.svg"));
+    assert!(same, "depot_draw draws another picture");
     let picture = String::from_utf8(picture).expect("words");
     (program::output(&packed), picture)
 }
@@ -208,12 +226,14 @@ fn checkpoints_are_packed_and_unpacked() {
 fn what_is_refused_ends_with_1_and_writes_nothing() {
     let none = Vec::new;
     let wrong = format!("{LIST}reed AA000000005AA\n");
-    let (status, output, words) = run(TEXT, &SETTINGS, wrong.as_bytes());
-    assert_eq!((status, output), (Some(1), none()));
-    assert!(
-        words.starts_with("depot_text: line 3: unknown kind `reed`"),
-        "{words}"
-    );
+    for options in [&SETTINGS[..], &["rounds"]] {
+        let (status, output, words) = run(TEXT, options, wrong.as_bytes());
+        assert_eq!((status, output), (Some(1), none()));
+        assert!(
+            words.starts_with("depot_text: line 3: unknown kind `reed`"),
+            "{words}"
+        );
+    }
     for (program, options) in [(TEXT, &["unpack"][..]), (DRAW, &[])] {
         let (status, output, words) = run(program, options, b"12345");
         assert_eq!((status, output), (Some(1), none()));
@@ -249,12 +269,14 @@ fn a_faulty_identifier_is_told_with_its_character() {
 #[test]
 fn options_that_are_not_understood_end_with_2_and_the_usage() {
     let twice = [&SETTINGS[..], &["--dispatch", "--turns", "1"]].concat();
-    let cases: [(&str, &[&str]); 15] = [
+    let cases: [(&str, &[&str]); 17] = [
         (TEXT, &[]),
         (TEXT, &["pack"]),
         (TEXT, &["pack", "--size", "x"]),
         (TEXT, &["unpack", "--turns", "1"]),
         (TEXT, &twice),
+        (TEXT, &["rounds", "--turns", "1"]),
+        (TEXT, &["rounds", "list.txt"]),
         (TEXT, &["wrap"]),
         (DRAW, &["run.svg"]),
         (DRAW, &["--from"]),
@@ -289,6 +311,7 @@ fn more_turns_than_are_drawn_are_told() {
 fn help_ends_with_0_and_is_written_to_the_output() {
     for (program, told) in [
         (TEXT, "--dispatch"),
+        (TEXT, "depot_text rounds < list.txt\n"),
         (DRAW, "At most 300 turns are drawn.\n"),
     ] {
         for option in ["--help", "-h"] {

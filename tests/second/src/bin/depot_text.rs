@@ -1,4 +1,5 @@
-//! Turns a list of commands in text into the binary input of the program `depot`, and back.
+//! Turns a list of commands in text into the binary input of the program `depot`, and back, and shows
+//! a list with its rounds.
 //! It ends with 0, with 1 where something is refused and 2 where the options are wrong.
 
 use std::fs;
@@ -7,18 +8,21 @@ use std::process::ExitCode;
 
 use second::text::input::Input;
 use second::text::options::Options;
-use second::text::{show, show_turns};
+use second::text::{read_list, rounds, show, show_turns};
 
 const USAGE: &str = "\
 usage: depot_text --help
        depot_text pack --size N --workers N --room N [TURNS] < list.txt > input.bin
        depot_text unpack [--turns-file FILE] < input.bin > list.txt
+       depot_text rounds < list.txt
 TURNS: --turns \"0 1 ..\" | --turns-file FILE | --round-robin COUNT | --random SEED COUNT | --dispatch
 list.txt has a line a command, with its place before it or without:
        insert IDENTIFIER CHUTE | update IDENTIFIER CHUTE | delete IDENTIFIER | read IDENTIFIER |
        workers COUNT | checkpoint
 Behind # is a comment. Turns go to parties 0 up to the largest of --workers and the list's counts.
-With --dispatch they are the dispatcher's, which bring the list to its end.";
+With --dispatch they are the dispatcher's, which bring the list to its end.
+rounds shows the list with each command's round in a comment, from 1: the first round after those of the
+earlier commands that it depends on. Those of one round do not wait for one another.";
 
 /// Why there is no output.
 enum Failure {
@@ -57,7 +61,12 @@ fn convert(words: &[String]) -> Result<Vec<u8>, Failure> {
         ["unpack", ..] => Err(Failure::Usage(
             "unpack has one option, --turns-file".to_string(),
         )),
-        _ => Err(Failure::Usage("pack or unpack?".to_string())),
+        ["rounds"] => {
+            let commands = read_list(&read_input()?).map_err(Failure::Refused)?;
+            Ok(rounds::show(&commands).into_bytes())
+        }
+        ["rounds", ..] => Err(Failure::Usage("rounds has no options".to_string())),
+        _ => Err(Failure::Usage("pack, unpack or rounds?".to_string())),
     }
 }
 

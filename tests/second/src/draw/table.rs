@@ -3,10 +3,10 @@
 use super::look::width;
 use super::svg::Svg;
 use super::trace::{Life, Outcome, Reason, Trace, Wait};
-use super::{GAP, LINE, Page, RIGHT, answer_words, count, party_name};
+use super::{GAP, LINE, Page, RIGHT, answer_words, party_name};
 use crate::command::{Command, Kind};
 use crate::text::input::Input;
-use crate::text::show_command;
+use crate::text::{count, show_command};
 
 const HEADING: &str = "What became of each command, and at which turn";
 const RULE: &str = "A command waits for every earlier one of the same item, but a read not for a \

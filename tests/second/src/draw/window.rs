@@ -1,6 +1,6 @@
 //! Which turns are drawn: the options of `depot_draw`.
 
-use super::count;
+use crate::text::count;
 
 /// The most turns that are drawn.
 pub const MOST_TURNS: usize = 300;
