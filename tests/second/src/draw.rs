@@ -1,13 +1,15 @@
 //! A picture of a run: time runs to the right, a column a turn; the head, the records and the
 //! parties have a row each, and a table below says what became of each command and why it waited.
 //!
-//! `window` says which turns are drawn, `trace` finds out what happened, `columns` and `look` how
+//! `options` says which turns are drawn, `trace` finds out what happened, `columns` and `look` how
 //! much room it takes, `svg` and `signs` write shapes, `rows` draws the rows, `legend` and `table`
-//! what stands above and below them.
+//! what stands above and below them, and `rounds` gives the commands colours if that is asked for.
 
 mod columns;
 mod legend;
 mod look;
+pub mod options;
+mod rounds;
 mod rows;
 mod signs;
 mod svg;
@@ -15,16 +17,16 @@ mod table;
 #[cfg(test)]
 mod tests;
 mod trace;
-pub mod window;
 
 use crate::serial::{ANNOUNCED_AGAIN, DONE, NO_SUCH_ITEM, STORE_FULL};
 use crate::text::count;
 use crate::text::input::Input;
 use columns::Columns;
-use look::STYLE;
+use look::{ROUND_STYLE, STYLE};
+use options::Options;
+use rounds::Rounds;
 use svg::Svg;
 use trace::Trace;
-use window::Window;
 
 /// The most records and workers that are drawn.
 const MOST_RECORDS: usize = 12;
@@ -40,9 +42,11 @@ const LEAST_WIDTH: f64 = 1200.0;
 const LINE: f64 = 17.0;
 const GAP: f64 = 14.0;
 
-/// Draws a window of the run of an input as SVG, or says why there is no such window.
-pub fn draw(input: &Input, window: &Window) -> Result<String, String> {
-    let page = Page::of(input, window.turns(input.schedule.len())?);
+/// Draws the run of an input as SVG, or a window of it, or says why there is no such window.
+pub fn draw(input: &Input, options: &Options) -> Result<String, String> {
+    let turns = options.turns(input.schedule.len())?;
+    let rounds = options.rounds.then(|| Rounds::of(&input.commands));
+    let page = Page::of(input, turns, rounds);
     let mut svg = Svg::new();
     svg.rect("paper", [0.0, 0.0, page.width, page.height]);
     page.draw_heading(&mut svg);
@@ -52,13 +56,15 @@ pub fn draw(input: &Input, window: &Window) -> Result<String, String> {
     page.draw_counts(&mut svg);
     page.draw_parties(&mut svg);
     page.draw_table(&mut svg);
-    Ok(svg.finish(page.width, page.height, &page.title(), STYLE))
+    Ok(svg.finish(page.width, page.height, &page.title(), &page.style()))
 }
 
 /// What is drawn, and where.
 struct Page<'a> {
     input: &'a Input,
     trace: Trace,
+    /// The rounds of the commands, if they are coloured by them.
+    rounds: Option<Rounds>,
     /// The records and parties that have a row.
     records: Vec<u8>,
     parties: Vec<u8>,
@@ -73,7 +79,7 @@ struct Page<'a> {
 
 impl Page<'_> {
     /// The page of the turns from a first to a last one.
-    fn of(input: &Input, turns: [usize; 2]) -> Page<'_> {
+    fn of(input: &Input, turns: [usize; 2], rounds: Option<Rounds>) -> Page<'_> {
         let trace = Trace::of(input, turns);
         let mut records = trace.records_used();
         records.truncate(MOST_RECORDS);
@@ -81,7 +87,8 @@ impl Page<'_> {
         let columns = Columns::of(&trace);
         let width = (columns.end(&trace) + RIGHT).max(LEAST_WIDTH);
         let notes = notes(input, &trace).len() as f64;
-        let axis = legend::TOP + notes * LINE + legend::height(input, width) + GAP;
+        let legend = legend::height(input, rounds.as_ref(), width);
+        let axis = legend::TOP + notes * LINE + legend + GAP;
         let counts = if input.changes_workers() {
             rows::COUNT
         } else {
@@ -89,10 +96,11 @@ impl Page<'_> {
         };
         let parties_top = axis + rows::above_parties(records.len()) + GAP + counts;
         let table_top = parties_top + rows::PARTY * parties.len() as f64 + 2.0 * GAP;
-        let height = table_top + table::height(&trace, input);
+        let height = table_top + table::height(&trace, input, rounds.as_ref());
         Page {
             input,
             trace,
+            rounds,
             records,
             parties,
             columns,
@@ -106,6 +114,13 @@ impl Page<'_> {
 
     fn title(&self) -> String {
         format!("A run of {}", count(self.input.commands.len(), "command"))
+    }
+
+    fn style(&self) -> String {
+        match self.rounds {
+            Some(_) => [STYLE, ROUND_STYLE].concat(),
+            None => STYLE.to_string(),
+        }
     }
 
     fn draw_heading(&self, svg: &mut Svg) {

@@ -48,7 +48,7 @@ fn the_example_is_packed_unpacked_and_drawn() {
 /// the writing of command 2, an insert of another item.
 #[test]
 fn the_worked_example_is_drawn_as_it_is_kept() {
-    let (output, picture) = drawn_as_kept("wait", "2");
+    let (output, picture) = drawn_as_kept("wait", "2", &[]);
     assert!(output.ends_with("\nstore 2 chain 0\n"));
     for told in [
         "turn 44, worker 1: looked up",
@@ -64,7 +64,7 @@ fn the_worked_example_is_drawn_as_it_is_kept() {
 /// rest then, and worker 1 alone takes what is left, a checkpoint last.
 #[test]
 fn the_example_with_shifts_is_drawn_as_it_is_kept() {
-    let (output, picture) = drawn_as_kept("shifts", "1");
+    let (output, picture) = drawn_as_kept("shifts", "1", &[]);
     assert_eq!(
         output,
         "1 insert RR473124829GB 1000\n2 workers 0000000000000 1000\n3 read RR473124829GB 3\n\
@@ -105,6 +105,37 @@ fn the_example_with_rounds_is_shown_as_it_is_kept() {
     assert_eq!(run(TEXT, &["rounds"], &shown.1), shown);
 }
 
+/// Its picture: the three commands of the second round are taken before any of the third, though
+/// command 3 stands before two of them in the list; and all of the third before the checkpoint.
+#[test]
+fn the_example_with_rounds_is_drawn_as_it_is_kept() {
+    let (output, picture) = drawn_as_kept("rounds", "3", &["--rounds"]);
+    assert_eq!(
+        output,
+        "1 insert RR473124829GB 1000\n2 insert AA000000005AA 1000\n\
+         3 insert ZZ999999995ZZ 1000\n4 read RR473124829GB 3\n5 read RR473124829GB 3\n\
+         6 update RR473124829GB 1000\n7 read AA000000005AA 7\n\
+         8 checkpoint 0000000000000 1000\n9 read RR473124829GB 9\n\
+         10 update AA000000005AA 1000\nstore 3 chain 0\n"
+    );
+    for told in [
+        "3 insert ZZ999999995ZZ 5, round 3",
+        "4 read RR473124829GB, round 2",
+        "30 by worker 2",
+        "42 by worker 3",
+        "55 by worker 1",
+        "76 by worker 2",
+        "93 by worker 3",
+        "100 by worker 1",
+        "123 by worker 2",
+        "round 5",
+        "The round of a command is the first after those of the earlier ones that it must wait \
+         for. 10 commands in 5 rounds, at most 3 in one: no round has work for more than 3 workers.",
+    ] {
+        assert!(picture.contains(&format!(">{told}<")), "{told}");
+    }
+}
+
 /// Where the examples are kept.
 const EXAMPLES: &str = concat!(env!("CARGO_MANIFEST_DIR"), "/../../examples");
 
@@ -112,14 +143,14 @@ fn kept(file: &str) -> Vec<u8> {
     std::fs::read(format!("{EXAMPLES}/{file}")).expect("the example's file")
 }
 
-/// Packs and draws an example, which is kept with its picture, for so many workers: what the program
-/// prints, and the picture.
-fn drawn_as_kept(name: &str, workers: &str) -> (String, String) {
+/// Packs an example, which is kept with its picture, for so many workers and draws it with these
+/// options: what the program prints, and the picture.
+fn drawn_as_kept(name: &str, workers: &str, draw: &[&str]) -> (String, String) {
     let settings = ["pack", "--size", "5", "--workers", workers, "--room", "4"];
     let turns = format!("{EXAMPLES}/{name}.turns");
     let options = [&settings[..], &["--turns-file", &turns]].concat();
     let (_, packed, _) = run(TEXT, &options, &kept(&format!("{name}.txt")));
-    let (_, picture, _) = run(DRAW, &[], &packed);
+    let (_, picture, _) = run(DRAW, draw, &packed);
     let same = picture == kept(&format!("{name}.svg"));
     assert!(same, "depot_draw draws another picture");
     let picture = String::from_utf8(picture).expect("words");
@@ -269,7 +300,7 @@ fn a_faulty_identifier_is_told_with_its_character() {
 #[test]
 fn options_that_are_not_understood_end_with_2_and_the_usage() {
     let twice = [&SETTINGS[..], &["--dispatch", "--turns", "1"]].concat();
-    let cases: [(&str, &[&str]); 17] = [
+    let cases: [(&str, &[&str]); 20] = [
         (TEXT, &[]),
         (TEXT, &["pack"]),
         (TEXT, &["pack", "--size", "x"]),
@@ -287,6 +318,9 @@ fn options_that_are_not_understood_end_with_2_and_the_usage() {
         (DRAW, &["--turns", "301"]),
         (DRAW, &["--from", "1", "--turns"]),
         (DRAW, &["--from", "1", "--help"]),
+        (DRAW, &["--rounds", "--rounds"]),
+        (DRAW, &["--rounds", "1"]),
+        (DRAW, &["--turns", "--rounds", "5"]),
     ];
     for (program, options) in cases {
         let (status, output, words) = run(program, options, b"");
@@ -313,6 +347,7 @@ fn help_ends_with_0_and_is_written_to_the_output() {
         (TEXT, "--dispatch"),
         (TEXT, "depot_text rounds < list.txt\n"),
         (DRAW, "At most 300 turns are drawn.\n"),
+        (DRAW, "[--rounds] < input.bin > run.svg\n"),
     ] {
         for option in ["--help", "-h"] {
             let (status, output, words) = run(program, &[option], b"");

@@ -1,6 +1,7 @@
 //! The legend: each sign of the picture with its meaning, in lines as wide as the page.
 
 use super::look::width;
+use super::rounds::Rounds;
 use super::signs::{Line, draw_block, draw_cross, draw_diamond, draw_rest};
 use super::svg::Svg;
 use super::{LINE, Page, RIGHT, notes};
@@ -16,6 +17,7 @@ const SPACE: f64 = 20.0;
 #[derive(Clone, Copy)]
 enum Sign {
     Bar(&'static str),
+    Band,
     Lock,
     Block,
     Turn,
@@ -68,24 +70,37 @@ const CHANGES: [(Sign, &str); 3] = [
     ),
 ];
 
-fn entries(input: &Input) -> impl Iterator<Item = &'static (Sign, &'static str)> {
-    let changes: &[(Sign, &str)] = if input.changes_workers() {
-        &CHANGES
-    } else {
-        &[]
-    };
-    ENTRIES.iter().chain(changes)
+/// What is added, before the scale, where commands are coloured by round.
+const BAND: (Sign, &str) = (
+    Sign::Band,
+    "the band on a bar: the round of its command, by these colours",
+);
+
+fn entries(input: &Input, rounds: Option<&Rounds>) -> Vec<(Sign, String)> {
+    let mut entries = ENTRIES.to_vec();
+    if input.changes_workers() {
+        entries.extend(CHANGES);
+    }
+    if rounds.is_some() {
+        entries.push(BAND);
+    }
+    let owned = |(sign, words): (Sign, &str)| (sign, words.to_string());
+    let scale = rounds.into_iter().flat_map(Rounds::scale);
+    let scale = scale.map(|(class, words)| (Sign::Bar(class), words));
+    entries.into_iter().map(owned).chain(scale).collect()
 }
 
 /// The height of the legend on a page of this width.
-pub fn height(input: &Input, page: f64) -> f64 {
-    places(input, page).last().map_or(0.0, |(_, y)| y + LINE)
+pub fn height(input: &Input, rounds: Option<&Rounds>, page: f64) -> f64 {
+    let places = places(&entries(input, rounds), page);
+    places.last().map_or(0.0, |(_, y)| y + LINE)
 }
 
 impl Page<'_> {
     pub fn draw_legend(&self, svg: &mut Svg) {
         let top = TOP + LINE * notes(self.input, &self.trace).len() as f64;
-        for ((sign, words), (x, y)) in entries(self.input).zip(places(self.input, self.width)) {
+        let entries = entries(self.input, self.rounds.as_ref());
+        for ((sign, words), (x, y)) in entries.iter().zip(places(&entries, self.width)) {
             draw_sign(svg, *sign, x, top + y + LINE / 2.0);
             svg.text("cell", x + SIGN, top + y + LINE / 2.0 + 4.0, words);
         }
@@ -93,10 +108,10 @@ impl Page<'_> {
 }
 
 /// Where each entry stands, from the legend's top left.
-fn places(input: &Input, page: f64) -> Vec<(f64, f64)> {
+fn places(entries: &[(Sign, String)], page: f64) -> Vec<(f64, f64)> {
     let [mut x, mut y] = [RIGHT, 0.0];
     let mut places = Vec::new();
-    for (_, words) in entries(input) {
+    for (_, words) in entries {
         let length = SIGN + width(words, "cell") + SPACE;
         if x + length > page && x > RIGHT {
             [x, y] = [RIGHT, y + LINE];
@@ -112,6 +127,10 @@ fn draw_sign(svg: &mut Svg, sign: Sign, x: f64, y: f64) {
     let middle = x + 10.0;
     match sign {
         Sign::Bar(class) => svg.rect(class, [x, y - 6.0, 20.0, 12.0]),
+        Sign::Band => {
+            svg.rect("waiting", [x, y - 7.0, 20.0, 14.0]);
+            svg.rect("r1", [x, y - 3.0, 20.0, 9.0]);
+        }
         Sign::Lock => {
             svg.rect("p1", [x, y - 5.0, 20.0, 10.0]);
             svg.text("onlock", middle, y + 3.0, "1");

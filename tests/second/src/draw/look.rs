@@ -1,12 +1,15 @@
 //! The look of words: what the style sheet says of their class, and how much room they take.
 
 pub const STYLE: &str = include_str!("style.css");
+/// What is added to it where commands are coloured by round.
+pub const ROUND_STYLE: &str = include_str!("rounds.css");
 
-/// What the style sheet says of a property of a class; of several, the first that it is said of.
+/// What the style sheets say of a property of a class; of several, the first that it is said of.
 pub fn look(classes: &str, property: &str) -> Option<&'static str> {
     classes.split(' ').find_map(|class| {
         let before = format!(".{class} {{ ");
-        let rule = STYLE.lines().find_map(|line| line.strip_prefix(&before))?;
+        let mut lines = STYLE.lines().chain(ROUND_STYLE.lines());
+        let rule = lines.find_map(|line| line.strip_prefix(&before))?;
         let mut pairs = rule.trim_end_matches(" }").split("; ");
         pairs.find_map(|pair| pair.strip_prefix(property)?.strip_prefix(": "))
     })
@@ -59,6 +62,7 @@ mod tests {
         assert_eq!(look("who p3", "font-weight"), Some("bold"));
         assert_eq!(look("who p3", "fill"), Some("#007a5a"));
         assert_eq!(look("who", "fill"), None);
+        assert_eq!(look("r8 state", "fill"), Some("#f59a8c"));
         assert_eq!(look("none", "fill"), None);
         assert_eq!([size("small"), size("heading")], [9.0, 18.0]);
     }

@@ -2,6 +2,7 @@
 
 use super::columns::{ANSWER, SPACE};
 use super::look::width;
+use super::rounds;
 use super::signs::{Line, draw_block, draw_cross, draw_diamond, draw_rest};
 use super::svg::{Svg, short};
 use super::trace::{Frame, Life, Outcome, Phase, Reason, Span, Turn};
@@ -25,6 +26,12 @@ const BAR: f64 = 17.0;
 const BAR_HEIGHT: f64 = 26.0;
 const ON_BAR: f64 = 33.0;
 const WORDS: f64 = 53.0;
+/// The band with the colour of a command's round: how far below the edge of a record's bar and of a
+/// party's it begins, and how high it is. The edge keeps the colour of the state.
+const BAND: f64 = 6.0;
+const BAND_HEIGHT: f64 = 17.0;
+const PARTY_BAND: f64 = 3.0;
+const PARTY_BAND_HEIGHT: f64 = 12.0;
 /// Where words begin in a span.
 const MARGIN: f64 = 3.0;
 
@@ -128,9 +135,16 @@ impl Page<'_> {
             let y = self.parties_top + PARTY * index as f64;
             svg.text("label", NAMES, y + 14.0, &party_name(*party));
             self.draw_above(svg, *party, y);
-            for span in self.trace.spans(|frame| state(frame, *party)) {
-                let ([name, brief], class) = span.value;
+            for span in self
+                .trace
+                .spans(|frame| (state(frame, *party), self.round_had(frame, *party)))
+            {
+                let (([name, brief], class), round) = span.value;
                 self.draw_bar(svg, class, &span, y + 3.0, 15.0);
+                if let Some(round) = round {
+                    let class = format!("{} state", rounds::class(round));
+                    self.draw_bar(svg, &class, &span, y + 3.0 + PARTY_BAND, PARTY_BAND_HEIGHT);
+                }
                 self.draw_fitting(svg, "small", &span, y + 14.0, &[name, brief]);
             }
             for (number, turn) in self.trace.numbered() {
@@ -163,6 +177,16 @@ impl Page<'_> {
             self.draw_bar(svg, phase_class(phase), &span, y, BAR_HEIGHT);
             if let Phase::Executing(worker) | Phase::Clearing(worker) = phase {
                 self.draw_bar(svg, &party_class(worker), &span, y + BAR_HEIGHT - 3.0, 3.0);
+            }
+        }
+        self.draw_bands(svg, record, y);
+    }
+
+    /// The colours of the rounds of the commands that have a record, on its bar at `y`.
+    fn draw_bands(&self, svg: &mut Svg, record: u8, y: f64) {
+        for span in self.trace.spans(|frame| self.round_at(frame.place(record))) {
+            if let Some(round) = span.value {
+                self.draw_bar(svg, rounds::class(round), &span, y + BAND, BAND_HEIGHT);
             }
         }
     }
@@ -278,9 +302,12 @@ impl Page<'_> {
             last,
         };
         let place = index + 1;
+        let round = self.round_at(place as u16);
+        let round = round.map_or(String::new(), |round| format!(", round {round}"));
         let words = [
-            &format!("{place} {}", show_command(command)),
-            &format!("{place} {}", kind_name(command.kind)),
+            &format!("{place} {}{round}", show_command(command)),
+            &format!("{place} {}{round}", kind_name(command.kind)),
+            &format!("{place}{round}"),
             &place.to_string()[..],
         ];
         self.draw_fitting(svg, "cell", &span, y + ON_BAR, &words);

@@ -1,6 +1,7 @@
 //! The table below the rows: what became of each command, at which turns, and why it waited.
 
 use super::look::width;
+use super::rounds::{self, Rounds};
 use super::svg::Svg;
 use super::trace::{Life, Outcome, Reason, Trace, Wait};
 use super::{GAP, LINE, Page, RIGHT, answer_words, party_name};
@@ -19,6 +20,9 @@ takes no command.";
 /// What is added where it has a checkpoint.
 const RULE_OF_CHECKPOINTS: &str = "A checkpoint waits for every earlier command, and every later \
 one waits for it. Its writing turn puts the store into the image.";
+/// What is added where commands are coloured by round.
+const RULE_OF_ROUNDS: &str = "The round of a command is the first after those of the earlier ones \
+that it must wait for";
 /// The most commands that the table names.
 const MOST: usize = 24;
 /// Where each column begins, and its heading.
@@ -34,18 +38,24 @@ const COLUMNS: [(f64, &str); 9] = [
     (706.0, "had to wait for"),
 ];
 
+/// The index of the last column. Where commands are coloured by round, the column of the rounds stands
+/// before it, so wide and with such a patch behind each number.
+const WAITS: usize = COLUMNS.len() - 1;
+const ROUND_WIDTH: f64 = 56.0;
+const PATCH: [f64; 4] = [-4.0, -11.0, 38.0, 14.0];
+
 /// The height of the table and the space below it.
-pub fn height(trace: &Trace, input: &Input) -> f64 {
+pub fn height(trace: &Trace, input: &Input, rounds: Option<&Rounds>) -> f64 {
     let rows =
         trace.lives_shown().count().min(MOST) + usize::from(left_out(trace, input).is_some());
     let [changes, checkpoints] = [input.changes_workers(), input.has_checkpoints()];
     let below = 2 * usize::from(changes) + usize::from(checkpoints);
     let space = if below > 0 { 0.5 } else { 0.0 };
-    ((rows + rules(input).len() + below) as f64 + 2.2 + space) * LINE + GAP
+    ((rows + rules(input, rounds).len() + below) as f64 + 2.2 + space) * LINE + GAP
 }
 
 /// The rule, and what is added to it.
-fn rules(input: &Input) -> Vec<&'static str> {
+fn rules(input: &Input, rounds: Option<&Rounds>) -> Vec<String> {
     let mut rules = vec![RULE];
     if input.changes_workers() {
         rules.push(RULE_OF_CHANGES);
@@ -53,7 +63,12 @@ fn rules(input: &Input) -> Vec<&'static str> {
     if input.has_checkpoints() {
         rules.push(RULE_OF_CHECKPOINTS);
     }
+    let rounds = rounds.map(|rounds| format!("{RULE_OF_ROUNDS}. {}.", rounds.told()));
     rules
+        .into_iter()
+        .map(str::to_string)
+        .chain(rounds)
+        .collect()
 }
 
 impl Page<'_> {
@@ -61,17 +76,19 @@ impl Page<'_> {
         let top = self.table_top;
         svg.text("section", RIGHT, top, HEADING);
         let mut y = top + LINE;
-        for rule in rules(self.input) {
-            svg.text("cell", RIGHT, y, rule);
+        for rule in rules(self.input, self.rounds.as_ref()) {
+            svg.text("cell", RIGHT, y, &rule);
             y += LINE;
         }
         y += 0.2 * LINE;
-        for (x, heading) in COLUMNS {
+        let columns = self.columns_told();
+        for (x, heading) in &columns {
             svg.text("column", RIGHT + x, y, heading);
         }
         y += LINE;
         for (index, life) in self.trace.lives_shown().take(MOST) {
-            for ((x, _), words) in COLUMNS.iter().zip(self.cells(index, life)) {
+            self.draw_patch(svg, index, y);
+            for ((x, _), words) in columns.iter().zip(self.cells(index, life)) {
                 svg.text("cell", RIGHT + x, y, &words);
             }
             y += LINE;
@@ -89,6 +106,35 @@ impl Page<'_> {
         }
         for (index, words) in below.iter().enumerate() {
             svg.text("cell", RIGHT, y + (index as f64 + 0.5) * LINE, words);
+        }
+    }
+
+    /// The columns, the rounds' among them if commands are coloured by them.
+    fn columns_told(&self) -> Vec<(f64, &'static str)> {
+        let mut columns = COLUMNS.to_vec();
+        columns[WAITS].0 = self.waits_column();
+        if self.rounds.is_some() {
+            columns.insert(WAITS, (COLUMNS[WAITS].0, "round"));
+        }
+        columns
+    }
+
+    /// Where the last column begins.
+    fn waits_column(&self) -> f64 {
+        let rounds = if self.rounds.is_some() {
+            ROUND_WIDTH
+        } else {
+            0.0
+        };
+        COLUMNS[WAITS].0 + rounds
+    }
+
+    /// The colour behind the number of a command's round.
+    fn draw_patch(&self, svg: &mut Svg, index: usize, y: f64) {
+        if let Some(round) = self.round_at(index as u16 + 1) {
+            let [x, top, width, height] = PATCH;
+            let x = RIGHT + COLUMNS[WAITS].0 + x;
+            svg.rect(rounds::class(round), [x, y + top, width, height]);
         }
     }
 
@@ -159,13 +205,13 @@ impl Page<'_> {
         line
     }
 
-    fn cells(&self, index: usize, life: &Life) -> [String; 9] {
+    fn cells(&self, index: usize, life: &Life) -> Vec<String> {
         let turn = |turn: Option<usize>| turn.map_or(String::new(), |turn| turn.to_string());
         let command = show_command(&self.input.commands[index]);
         let taken = life
             .taken
             .map(|(turn, worker)| format!("{turn} by worker {worker}"));
-        [
+        let mut cells = vec![
             format!("{} {command}", index + 1),
             life.written
                 .map_or(String::new(), |(_, answer)| answer_words(answer)),
@@ -175,8 +221,11 @@ impl Page<'_> {
             taken.unwrap_or_default(),
             turn(life.written.map(|(turn, _)| turn)),
             turn(life.removed),
-            self.waits(index, &life.waits),
-        ]
+        ];
+        let round = self.round_at(index as u16 + 1);
+        cells.extend(round.map(|round| round.to_string()));
+        cells.push(self.waits(index, &life.waits));
+        cells
     }
 
     /// The waits of a command, as many as there is room for.
@@ -193,7 +242,7 @@ impl Page<'_> {
             };
             format!("{} ({why}) {until}", wait.place)
         });
-        self.within(COLUMNS[8].0, words.collect())
+        self.within(self.waits_column(), words.collect())
     }
 }
 

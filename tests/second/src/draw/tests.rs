@@ -2,13 +2,14 @@
 
 mod form;
 mod labels;
+mod rounds;
 mod windows;
 
-use super::window::MOST_TURNS;
+use super::options::MOST_TURNS;
 use super::*;
 use crate::random::Random;
 use crate::run::{Party, Run};
-use crate::text::options::Options;
+use crate::text::options as packing;
 
 const EXAMPLE: &str = "insert AA000000005AA 7\nread AA000000005AA";
 
@@ -16,13 +17,19 @@ const EXAMPLE: &str = "insert AA000000005AA 7\nread AA000000005AA";
 fn input(options: &str, list: &str) -> Input {
     let words: Vec<&str> = options.split(' ').collect();
     let file = |turns: &str| Ok(turns.replace(',', " ").into_bytes());
-    let bytes = Options::read(&words).unwrap().pack(list.as_bytes(), file);
+    let options = packing::Options::read(&words).unwrap();
+    let bytes = options.pack(list.as_bytes(), file);
     Input::read(&bytes.unwrap()).unwrap()
 }
 
 /// The picture without options.
 fn whole(input: &Input) -> String {
-    draw(input, &Window::default()).unwrap()
+    draw(input, &Options::default()).unwrap()
+}
+
+/// The picture of the whole with colours by round.
+fn coloured(input: &Input) -> String {
+    draw(input, &Options::read(&["--rounds"]).unwrap()).unwrap()
 }
 
 /// Document 01, the program's example.
@@ -72,12 +79,22 @@ fn random_shifts(random: &mut Random) -> Input {
 
 /// A window of a picture.
 fn window(input: &Input, from: usize, turns: usize) -> String {
-    let [from, turns] = [from, turns].map(|number| number.to_string());
-    let window = Window::read(&["--from", &from, "--turns", &turns]).unwrap();
-    draw(input, &window).unwrap()
+    draw(input, &window_options(from, turns)).unwrap()
 }
 
-/// Pictures of all sorts, some of them windows.
+/// A window of a picture with colours by round.
+fn coloured_window(input: &Input, from: usize, turns: usize) -> String {
+    let mut options = window_options(from, turns);
+    options.rounds = true;
+    draw(input, &options).unwrap()
+}
+
+fn window_options(from: usize, turns: usize) -> Options {
+    let [from, turns] = [from, turns].map(|number| number.to_string());
+    Options::read(&["--from", &from, "--turns", &turns]).unwrap()
+}
+
+/// Pictures of all sorts, some of them windows, half of them with colours by round.
 fn pictures(seed: u64) -> Vec<String> {
     let random = &mut Random::new(seed);
     let mut inputs: Vec<Input> = (0..40).map(|_| random_input(random)).collect();
@@ -95,15 +112,19 @@ fn pictures(seed: u64) -> Vec<String> {
     let turns = format!("0,0{}", ",0,0,0,1,1,1,1,1,1,1,1".repeat(20));
     let soon = format!("--size 2 --workers 1 --room 1 --turns-file {turns}");
     inputs.push(input(&soon, &"insert AA000000005AA 7\n".repeat(22)));
-    let mut pictures = vec![window(&inputs[inputs.len() - 1], 1, 119)];
+    let soon = &inputs[inputs.len() - 1];
+    let mut pictures = vec![window(soon, 1, 119), coloured_window(soon, 1, 119)];
     // Turns with long numbers.
     let long = input("--size 4 --workers 3 --room 1 --random 2 20000", &list);
-    pictures.extend([11_111, 19_999].map(|from| window(&long, from, MOST_TURNS)));
+    for from in [11_111, 19_999] {
+        pictures.extend([window, coloured_window].map(|draw| draw(&long, from, MOST_TURNS)));
+    }
     for input in inputs {
-        pictures.push(whole(&input));
+        pictures.extend([whole(&input), coloured(&input)]);
         if let Some(past) = input.schedule.len().checked_sub(1) {
             let from = 1 + random.below(1 + past as u64) as usize;
-            pictures.push(window(&input, from, 1 + random.below(300) as usize));
+            let turns = 1 + random.below(300) as usize;
+            pictures.extend([window, coloured_window].map(|draw| draw(&input, from, turns)));
         }
     }
     pictures
@@ -321,7 +342,7 @@ fn what_is_left_out_is_said() {
     let said = |options: &str| {
         let list = "read AA000000005AA\n".repeat(14);
         let input = input(options, &list);
-        let turns = Window::default().turns(input.schedule.len());
+        let turns = Options::default().turns(input.schedule.len());
         notes(&input, &Trace::of(&input, turns.unwrap()))
     };
     let loads = vec!["0"; 120].join(",");

@@ -215,9 +215,9 @@ fn read_path(moves: &str) -> Vec<[Point; 2]> {
     segments
 }
 
-/// The two pictures that are kept.
-fn kept() -> [String; 2] {
-    ["wait", "shifts"].map(|name| {
+/// The pictures that are kept.
+fn kept() -> [String; 3] {
+    ["wait", "shifts", "rounds"].map(|name| {
         let folder = concat!(env!("CARGO_MANIFEST_DIR"), "/../../examples");
         std::fs::read_to_string(format!("{folder}/{name}.svg")).expect("the example's picture")
     })

@@ -18,7 +18,7 @@ fn small_input(random: &mut Random) -> Input {
 }
 
 /// The titles of a picture's turns, with their numbers.
-fn titles(picture: &str) -> Vec<(usize, &str)> {
+pub fn titles(picture: &str) -> Vec<(usize, &str)> {
     let pieces = picture.split("<title>turn ").skip(1);
     let titles = pieces.map(|piece| piece.split('<').next().unwrap().split_once(", ").unwrap());
     titles
@@ -26,8 +26,8 @@ fn titles(picture: &str) -> Vec<(usize, &str)> {
         .collect()
 }
 
-/// The words of a picture's line in the table that begins with these.
-fn line<'a>(picture: &'a str, command: &str) -> Vec<&'a str> {
+/// The words of a picture's line in the table that begins with these, as far as nine cells.
+pub fn line<'a>(picture: &'a str, command: &str) -> Vec<&'a str> {
     let table = picture.split(">had to wait for<").nth(1).unwrap();
     let texts = table.lines().filter(|line| line.starts_with("<text "));
     let words = texts.map(|line| line.split(['<', '>']).nth(2).unwrap());

@@ -1,25 +1,38 @@
-//! Which turns are drawn: the options of `depot_draw`.
+//! The options of `depot_draw`: which turns are drawn, and whether commands are coloured by round.
 
 use crate::text::count;
 
 /// The most turns that are drawn.
 pub const MOST_TURNS: usize = 300;
 
+/// The options that have a number, and the one that has none.
 const NAMES: [&str; 2] = ["--from", "--turns"];
+const ROUNDS: &str = "--rounds";
 
-/// The turns that are asked for: from which on, and how many.
+/// What is asked for.
 #[derive(Clone, Copy, Debug, Default, PartialEq, Eq)]
-pub struct Window {
+pub struct Options {
+    /// From which turn on, and how many.
     from: Option<usize>,
     count: Option<usize>,
+    /// Whether commands are coloured by round.
+    pub rounds: bool,
 }
 
-impl Window {
+impl Options {
     /// Reads the options, or says what is wrong with them.
-    pub fn read(words: &[&str]) -> Result<Window, String> {
+    pub fn read(words: &[&str]) -> Result<Options, String> {
         let mut values = [None; NAMES.len()];
+        let mut rounds = false;
         let mut words = words.iter();
         while let Some(name) = words.next() {
+            if *name == ROUNDS {
+                if rounds {
+                    return Err(format!("{name} given twice"));
+                }
+                rounds = true;
+                continue;
+            }
             let index = NAMES.iter().position(|known| known == name);
             let index = index.ok_or(format!("unknown option `{name}`"))?;
             let word = words.next().ok_or(format!("{name} without a number"))?;
@@ -32,7 +45,11 @@ impl Window {
             Some(count) if count > MOST_TURNS => {
                 Err(format!("--turns: at most {MOST_TURNS} turns are drawn"))
             }
-            _ => Ok(Window { from, count }),
+            _ => Ok(Options {
+                from,
+                count,
+                rounds,
+            }),
         }
     }
 
@@ -62,8 +79,8 @@ fn read_number(name: &str, word: &str) -> Result<usize, String> {
 mod tests {
     use super::*;
 
-    fn read(options: &str) -> Result<Window, String> {
-        Window::read(&options.split_whitespace().collect::<Vec<&str>>())
+    fn read(options: &str) -> Result<Options, String> {
+        Options::read(&options.split_whitespace().collect::<Vec<&str>>())
     }
 
     fn turns(options: &str, all: usize) -> Result<[usize; 2], String> {
@@ -84,8 +101,19 @@ mod tests {
             ("--turns 7", 19, [1, 7]),
             ("--from 4 --turns 1", 19, [4, 4]),
             ("--turns 300 --from 18", 19, [18, 19]),
+            ("--from 4 --rounds --turns 2", 19, [4, 5]),
         ] {
             assert_eq!(turns(options, all), Ok(expected), "{options} of {all}");
+        }
+    }
+
+    #[test]
+    fn rounds_are_asked_for_anywhere() {
+        for options in ["--rounds", "--rounds --from 2", "--from 2 --rounds"] {
+            assert!(read(options).unwrap().rounds, "{options}");
+        }
+        for options in ["", "--from 2 --turns 3"] {
+            assert!(!read(options).unwrap().rounds, "{options}");
         }
     }
 
@@ -104,7 +132,7 @@ mod tests {
     }
 
     /// What is said of options that are not understood.
-    const WRONG: [(&str, &str); 12] = [
+    const WRONG: [(&str, &str); 15] = [
         ("--from", "--from without a number"),
         ("--turns", "--turns without a number"),
         ("--from 1 --turns", "--turns without a number"),
@@ -115,6 +143,12 @@ mod tests {
         ("--from +3", "--from: `+3` is no number from 1 on"),
         ("--from 3 --from 3", "--from given twice"),
         ("--turns 301", "--turns: at most 300 turns are drawn"),
+        ("--rounds --from 2 --rounds", "--rounds given twice"),
+        (
+            "--turns --rounds 5",
+            "--turns: `--rounds` is no number from 1 on",
+        ),
+        ("--rounds 5", "unknown option `5`"),
         ("--to 9", "unknown option `--to`"),
         ("run.svg", "unknown option `run.svg`"),
     ];
