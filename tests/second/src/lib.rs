@@ -10,8 +10,8 @@
 //!   inputs from a seed (`random`); `hex` shows them, and `met` counts what they meet of worker
 //!   changes, checkpoints, images, tables in the middle of runs and dispatches. The program
 //!   `compare_depot` runs it.
-//! - The tools: `text` turns the program's input into text and back for `depot_text`, and `draw`
-//!   makes a picture of a run for `depot_draw`.
+//! - The tools: `text` turns the program's input into text and back for `depot_text` and shows a list
+//!   with its rounds, and `draw` makes a picture of a run for `depot_draw`.
 
 #![forbid(unsafe_code)]
 
