@@ -1,30 +1,29 @@
 -- The claims of `specs/Rounds.antt`. Assumes nothing.
-use Prim.Native.Nat.{ℕ, _+_, _*_, _/_, _%_, _^_, _≤_, _<_}
-use mathlib.Core.Path.{_≡_, refl, sym, ap, ap₂, _∙_}
-use mathlib.Core.Bool.{Bool, true, false, cond, _&&_, and-eq-true-iff}
+use Prim.Native.Nat.{ℕ, _+_, _/_, _%_, _<_}
+use mathlib.Core.Path.{_≡_, refl, ap, _∙_}
+use mathlib.Core.Bool.{Bool, true, false, cond, and-eq-true-iff}
 use mathlib.Core.List.{List, [], _∷_}
 use native.Mathlib.Omega.{arith}
 use borrow.Author.Tests.{eq-eqb, le-leb}
 use lib.Dec.{eqb, leb}
-use lib.ListN.{length, getD}
-use Rattle.s10.specs.Refusal.{Refusal, plain}
-use Rattle.command.specs.Read.{ListOutcome, allAccepted, listRefused, CommandOutcome, firstRefusal, readings, commandsIn}
+use lib.ListN.{length}
+use Rattle.s10.specs.Refusal.{plain}
+use Rattle.command.specs.Read.{ListOutcome, allAccepted, listRefused, CommandOutcome, firstRefusal, readings}
 use Rattle.command.specs.Read as Command
 use Rattle.command.proofs.Tests.{cond-cases}
 use Rattle.byte_fields.specs.Bytes.{bytesOf, numberAt}
 use Rattle.byte_fields.proofs.Bytes.{lies-whole, lies-number}
 use Rattle.model.specs.Setup.{Setup}
-use Rattle.state_bytes.specs.Layout.{Lists, lengthsFit, imageFits}
+use Rattle.state_bytes.specs.Layout.{lengthsFit, imageFits}
 use Rattle.state_bytes.specs.Outcome.{CallOutcome, refusalIn}
 use Rattle.state_bytes.specs.Outcome as Call
 use Rattle.opening.specs.Calls.{nothing, openOn, openedWith, sourceLong, sourceChained, sourceFits, setupOf}
 use Rattle.rounds.specs.Calls.{Outcome, found, refused, foundIn, roundsOn}
 use Rattle.rounds.specs.Calls as Rounds
-use Rattle.rounds.specs.Promise.{Needed}
 use Rattle.rounds.proofs.Promise.{rounds-over-calls}
 use Rattle.rounds.proofs.Bounds.{found-low}
-use Rattle.depot_c.specs.Numbers.{numbersIn, bytesIn}
-use Rattle.depot_c.specs.Boundary.{decoded, packed, answerOf, openAnswer, roundsLent, roundsOutcome, roundsAnswer, roundBytes, roundCountBytes, roundsLeft, roundCountLeft}
+use Rattle.depot_c.specs.Numbers.{numbersIn}
+use Rattle.depot_c.specs.Boundary.{decoded, packed, answerOf, roundsLent, roundsOutcome, roundBytes, roundCountBytes}
 use Rattle.depot_c.specs.Rounds.{RoundsOverBytes, TestsAsOpening}
 use Rattle.depot_c.proofs.Entries.{bytes-in-read-back}
 use Rattle.depot_c.proofs.RoundsLent.{whole}

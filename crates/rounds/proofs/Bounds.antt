@@ -1,17 +1,16 @@
 -- What an accepted call leaves fits two bytes a round. Assumes nothing.
 use Prim.Native.Nat.{ℕ, _/_, _%_, _≤_}
 use mathlib.Core.Path.{_≡_}
-use mathlib.Core.List.{List, map}
+use mathlib.Core.List.{List}
 use native.Mathlib.Omega.{arith}
 use borrow.Author.Tests.{eqb-true, leb-true}
 use lib.Dec.{eqb, leb}
 use lib.ListN.{length, getD, length-map}
-use Rattle.s10.specs.Refusal.{Refusal}
 use Rattle.command.specs.Read.{firstRefusal, readings, commandsIn}
 use Rattle.command.proofs.Tests.{cond-cases}
 use Rattle.command.proofs.Laws.{length-parts-of}
 use Rattle.rounds.specs.Calls.{Outcome, found, roundsOn}
-use Rattle.rounds.specs.Rounds.{roundsOf, largestOf, roundCount}
+use Rattle.rounds.specs.Rounds.{roundsOf, roundCount}
 use Rattle.rounds.proofs.Promise.{of-list, not-found, largest-covers}
 use Rattle.rounds.proofs.Entered.{count-low}
 

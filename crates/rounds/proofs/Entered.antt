@@ -1,11 +1,11 @@
 -- One command more has its round: `specs/Entered.antt`. Assumes nothing.
-use Prim.Native.Nat.{ℕ, zero, suc, _≤_, _<_, max, suc-le-suc}
+use Prim.Native.Nat.{ℕ, suc, _≤_, _<_, max, suc-le-suc}
 use mathlib.Core.Path.{_≡_, refl, sym, ap, _∙_}
 use mathlib.Core.Bool.{Bool, true, false, not, cond, _&&_}
 use mathlib.Core.List.{List, [], _∷_, _++_, append-assoc, append-nil}
 use native.Mathlib.Omega.{arith}
 use borrow.Author.Tests.{eqb-true}
-use lib.ListN.{length, getD, set, take, length-append}
+use lib.ListN.{length, getD, set, length-append}
 use lib.Seq.{take-suc-set}
 use lib.Dec.{eqb}
 use Rattle.command.specs.declared.Command.{Command}
@@ -13,7 +13,7 @@ use Rattle.command.specs.Dependent.{hasItem, isInsertOrDelete, isRead}
 use Rattle.rounds.specs.declared.Largest.{Largest}
 use Rattle.rounds.specs.Rounds.{largestWhere, largestRound, roundsAfter, roundsOf, largestOf}
 use Rattle.rounds.specs.Promise.{Keeps}
-use Rattle.rounds.specs.Ways.{topOf, fenceOf, writersOf, keyOf, isAny, isNoRead}
+use Rattle.rounds.specs.Ways.{keyOf, isAny, isNoRead}
 use Rattle.rounds.specs.Links.{lastOf, atLink}
 use Rattle.rounds.specs.Entered.{Entered, dependsUpTo, largestAfter}
 use Rattle.rounds.proofs.Promise.{rounds-are-needed}

@@ -1,6 +1,6 @@
 -- `rounds::enter` meets its contract: the command gets the round of its ways, and goes to the front of its bucket. Assumes nothing.
-use Prim.Native.Nat.{ℕ, suc, max, _≤_, _<_}
-use mathlib.Core.Path.{_≡_, refl, sym, ap, ap₂, _∙_}
+use Prim.Native.Nat.{ℕ, suc, max, _≤_}
+use mathlib.Core.Path.{_≡_, sym, ap, ap₂, _∙_}
 use native.Mathlib.Numerals.{add-one}
 use native.Mathlib.Omega.{arith}
 use mathlib.Core.Bool.{Bool, true, false, not, cond}

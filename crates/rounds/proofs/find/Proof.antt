@@ -1,5 +1,4 @@
 -- `rounds::find` meets its contract: the tests come in the definition's order. Assumes nothing.
-use mathlib.Core.Path.{_≡_, sym, ap, _∙_}
 use native.Mathlib.Omega.{arith}
 use lib.ListN.{length}
 use Rattle.rounds.proofs.Calls.{refused-4, refused-5, refused-6, passed, left-refused}

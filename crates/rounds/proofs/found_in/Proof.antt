@@ -1,7 +1,5 @@
 -- `rounds::found_in` meets its contract. Assumes nothing.
-use mathlib.Core.Path.{_≡_, sym, ap, _∙_}
-use native.Mathlib.Omega.{arith}
-use lib.ListN.{length, take}
+use mathlib.Core.Path.{sym, ap, _∙_}
 use Rattle.rounds.specs.Calls.{numberedOutcome}
 use Rattle.rounds.proofs.Calls.{found-is, refused-is, left-refused}
 use borrow.Author.Needs.{needs}

@@ -1,9 +1,9 @@
 -- `rounds::last_of` meets its contract. The loop's invariant: the key's last stands up to the link, which leads to a key of the bucket. Assumes nothing.
-use Prim.Native.Nat.{ℕ, suc, _-_, _≤_, _<_}
-use mathlib.Core.Path.{_≡_, refl, sym, ap, _∙_}
+use Prim.Native.Nat.{ℕ, suc, _-_, _<_}
+use mathlib.Core.Path.{_≡_, _∙_}
 use native.Mathlib.Omega.{arith}
 use borrow.Author.Needs.{needs}
-use lib.ListN.{length, getD}
+use lib.ListN.{getD}
 use Rattle.rounds.specs.Links.{lastOf}
 use Rattle.rounds.proofs.Links.{Walked, walk-begins, walk-goes, walk-ends}
 use Rattle.rounds.proofs.last_of.Statement.{statement}

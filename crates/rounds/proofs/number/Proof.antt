@@ -1,11 +1,11 @@
 -- `rounds::number` meets its contract. The loop's invariant: the first i commands have their rounds. Assumes nothing.
-use Prim.Native.Nat.{ℕ, suc, _+_, _-_, _*_, _/_, _≤_, _<_}
+use Prim.Native.Nat.{ℕ, _+_, _-_, _*_, _/_, _≤_}
 use mathlib.Core.Path.{_≡_, refl, sym, ap, _∙_}
 use mathlib.Core.List.{List}
 use native.Mathlib.Numerals.{add-one}
 use native.Mathlib.Omega.{arith}
 use borrow.Author.Needs.{needs}
-use lib.ListN.{length, getD, take, drop}
+use lib.ListN.{length, take, drop}
 use Rattle.command.specs.Read.{CommandOutcome, commandOutcome, readCommand, refusalFor}
 use Rattle.rounds.proofs.Numbering.{Numbering, begins, goes, stops, ends}
 use Rattle.rounds.proofs.number.Statement.{statement}

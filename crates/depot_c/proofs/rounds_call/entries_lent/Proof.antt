@@ -1,6 +1,6 @@
 -- `depot_c::rounds_call::entries_lent` meets its contract. Assumes nothing.
-use Prim.Native.Nat.{ℕ, _/_, _≤_}
-use mathlib.Core.Path.{_≡_, refl, sym, _∙_}
+use Prim.Native.Nat.{ℕ, _≤_}
+use mathlib.Core.Path.{refl, sym}
 use native.Mathlib.Omega.{arith}
 use Rattle.depot_c.specs.Boundary.{UpTo}
 use Rattle.depot_c.proofs.RoundsLent.{uncounted, unended, whole}
