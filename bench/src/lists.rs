@@ -153,9 +153,14 @@ pub fn same(proved: &Lists, plain: &Lists) -> Result<(), String> {
         ("answers", &proved.answers, &plain.answers),
         ("image", &proved.image, &plain.image),
     ];
+    same_bytes(&pairs)
+}
+
+/// An error that names the first of some lists in which two sides differ, and where.
+pub fn same_bytes(pairs: &[(&str, &Vec<u8>, &Vec<u8>)]) -> Result<(), String> {
     for (name, proved, plain) in pairs {
         if proved != plain {
-            let at = proved.iter().zip(plain).position(|(a, b)| a != b);
+            let at = proved.iter().zip(*plain).position(|(a, b)| a != b);
             return Err(format!("{name}: the two sides differ, first at {at:?}"));
         }
     }

@@ -9,7 +9,7 @@ use std::time::Duration;
 use second::command::{self, Command};
 
 use crate::clock::timed;
-use crate::lists::accepted;
+use crate::lists::{accepted, same_bytes};
 use crate::measure::{Bench, Times, median};
 
 /// Calls are timed together until they take this long, one at least and `MOST_CALLS` at most.
@@ -155,17 +155,10 @@ fn number(lent: &Lent) -> u64 {
 
 /// An error that names the list in which two ways differ, and where.
 fn same(proved: &Lent, plain: &Lent) -> Result<(), String> {
-    let pairs = [
+    same_bytes(&[
         ("rounds", &proved.rounds, &plain.rounds),
         ("count", &proved.count, &plain.count),
-    ];
-    for (name, proved, plain) in pairs {
-        if proved != plain {
-            let at = proved.iter().zip(plain).position(|(a, b)| a != b);
-            return Err(format!("{name}: the two sides differ, first at {at:?}"));
-        }
-    }
-    Ok(())
+    ])
 }
 
 #[cfg(test)]
