@@ -34,6 +34,9 @@ pub trait Depot {
 
     fn write_identifier(&self, key: u64, text: &mut [u8]) -> u64;
 
+    /// Gives each command of a list its round; it is lent lists for these and for their number.
+    fn rounds_needed(&self, commands: &[u8], rounds: &mut [u8], count: &mut [u8]) -> u64;
+
     /// What the program prints for this input.
     fn program(&self, input: &[u8]) -> Vec<u8>;
 }
@@ -78,6 +81,10 @@ impl Depot for Second {
 
     fn write_identifier(&self, key: u64, text: &mut [u8]) -> u64 {
         calls::write_identifier(key, text)
+    }
+
+    fn rounds_needed(&self, commands: &[u8], rounds: &mut [u8], count: &mut [u8]) -> u64 {
+        calls::rounds_needed(commands, rounds, count)
     }
 
     fn program(&self, input: &[u8]) -> Vec<u8> {

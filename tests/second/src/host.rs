@@ -5,7 +5,7 @@ use crate::calls::{Given, LentLists};
 use crate::depot::Depot;
 use crate::image;
 use crate::run::Run;
-use crate::script::{Dispatch, List, Step};
+use crate::script::{Dispatch, List, Plan, Step};
 use crate::serial::Entries;
 
 /// Stands on both sides of a list, so that a write past its ends is seen.
@@ -150,6 +150,7 @@ impl Host {
             Step::WriteIdentifier(key, length) => {
                 self.write_out(*length, |_, out| depot.write_identifier(*key, out))
             }
+            Step::RoundsNeeded(plan) => self.plan(depot, plan),
             _ => 0,
         }
     }
@@ -168,6 +169,16 @@ impl Host {
         self.memory[List::Schedule as usize] = schedule;
         self.memory[List::Out as usize] = count;
         answer
+    }
+
+    /// Puts the commands in, lends the two lists, and asks for the rounds.
+    fn plan(&mut self, depot: &dyn Depot, plan: &Plan) -> u64 {
+        let [rounds, count] = plan.contents();
+        self.put(List::Planned, &plan.commands);
+        self.put(List::Rounds, &rounds);
+        self.put(List::Out, &count);
+        let [.., planned, rounds, out] = self.memory.each_mut().map(|it| within_mut(it));
+        depot.rounds_needed(planned, rounds, out)
     }
 
     /// Makes a call that is lent a list of this length to write.

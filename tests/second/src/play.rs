@@ -1,8 +1,9 @@
 //! Takes each step of a run with the second program and with the code that it judges, and tells
 //! the first difference between them, or from what serial runs give, in words. What a dispatch must
-//! do is held against it too, in `dispatches`.
+//! do is held against it too, in `dispatches`, and what rounds must be, in `rounds`.
 
 pub mod dispatches;
+pub mod rounds;
 
 use crate::bytes::{
     CHAIN, COUNT, EXECUTING, FREE, IN_FORCE, KEY, LARGEST, LOADED, LOCKED, NEXT, NUMBER, PARTY,
@@ -75,6 +76,9 @@ impl<'a> Play<'a> {
                 (Step::Unbroken(commands), _) => self.unbroken_differs(commands),
                 (Step::Dispatch(lent), Some(before)) => self.dispatch_differs(before, *lent, found),
                 (Step::StepsNeeded(_), _) if found == 0 => dispatches::needed_differs(&self.found),
+                (Step::RoundsNeeded(plan), _) => {
+                    rounds::differs(self.judged, &self.found, plan, found)
+                }
                 _ => None,
             }
         };
@@ -302,8 +306,9 @@ fn bytes_differ(list: List, index: usize, expected: &[u8], found: &[u8]) -> Diff
 fn entry_width(list: List) -> usize {
     match list {
         List::Keys => KEY,
-        List::Chutes | List::Answers => NUMBER,
-        List::State | List::Image | List::Commands | List::Source | List::Schedule | List::Out => 1,
+        List::Chutes | List::Answers | List::Rounds => NUMBER,
+        List::State | List::Image | List::Commands | List::Source => 1,
+        List::Schedule | List::Planned | List::Out => 1,
     }
 }
 
@@ -335,7 +340,7 @@ mod tests {
     use crate::bytes::{Lists, STATE};
     use crate::calls::{Given, LentLists};
     use crate::command::LENGTH;
-    use crate::script::Open;
+    use crate::script::{Open, Plan};
     use crate::text::input::{EXAMPLE, HEADER};
 
     /// The second program with some bits of its answers turned round.
@@ -380,13 +385,17 @@ mod tests {
             Second.write_identifier(key, text) ^ self.0
         }
 
+        fn rounds_needed(&self, commands: &[u8], rounds: &mut [u8], count: &mut [u8]) -> u64 {
+            Second.rounds_needed(commands, rounds, count) ^ self.0
+        }
+
         fn program(&self, input: &[u8]) -> Vec<u8> {
             Second.program(input)
         }
     }
 
     /// Each call once; the lists are no run, so that most are refused.
-    fn calls() -> [Step; 9] {
+    fn calls() -> [Step; 10] {
         let open = |source: Option<Vec<u8>>| {
             Step::Open(Open {
                 settings: [1; 3],
@@ -408,6 +417,12 @@ mod tests {
             Step::ReadIdentifier(b"AAx00000000AA".to_vec(), 8),
             Step::WriteIdentifier(0, 13),
             open(Some(vec![0; 32])),
+            Step::RoundsNeeded(Plan {
+                commands: vec![],
+                length: 1,
+                seed: 0,
+                count: 8,
+            }),
         ]
     }
 

@@ -8,8 +8,9 @@ use crate::hex::{from_hex, hex};
 use crate::random::Random;
 
 /// The lists that a caller keeps. `Source` is the image that the last opening was given, `Schedule`
-/// what a dispatch writes its turns into, and `Out` what it writes their number into and what a
-/// report or an identifier call writes.
+/// what a dispatch writes its turns into, `Planned` the commands whose rounds are asked for, `Rounds`
+/// what these are written into, and `Out` what the number of turns or rounds is written into and what
+/// a report or an identifier call writes.
 #[derive(Clone, Copy, Debug, PartialEq, Eq)]
 pub enum List {
     State,
@@ -20,11 +21,13 @@ pub enum List {
     Commands,
     Source,
     Schedule,
+    Planned,
+    Rounds,
     Out,
 }
 
 impl List {
-    pub const ALL: [List; 9] = [
+    pub const ALL: [List; 11] = [
         List::State,
         List::Keys,
         List::Chutes,
@@ -33,11 +36,13 @@ impl List {
         List::Commands,
         List::Source,
         List::Schedule,
+        List::Planned,
+        List::Rounds,
         List::Out,
     ];
-    /// Those that are handed back to a dealing, all but the last three.
+    /// Those that are handed back to a dealing, all but the last five.
     pub const HANDED: [List; 6] = {
-        let [handed @ .., _, _, _] = List::ALL;
+        let [handed @ .., _, _, _, _, _] = List::ALL;
         handed
     };
 
@@ -51,6 +56,8 @@ impl List {
             List::Commands => "commands",
             List::Source => "source",
             List::Schedule => "schedule",
+            List::Planned => "planned",
+            List::Rounds => "rounds",
             List::Out => "out",
         }
     }
@@ -107,6 +114,36 @@ impl Dispatch {
     }
 }
 
+/// What a call for the rounds of a list is given and lent.
+#[derive(Clone, Debug, PartialEq, Eq)]
+pub struct Plan {
+    pub commands: Vec<u8>,
+    /// Of the list for the rounds.
+    pub length: usize,
+    /// The seed of what both lists hold before.
+    pub seed: u64,
+    /// The length of the list for the number of rounds.
+    pub count: usize,
+}
+
+impl Plan {
+    /// What the list for the rounds holds before, and that for their number.
+    pub fn contents(&self) -> [Vec<u8>; 2] {
+        let random = &mut Random::new(self.seed);
+        [self.length, self.count].map(|length| random.bytes(length))
+    }
+
+    /// Reads a plan from the words that show it.
+    fn parse(commands: &str, length: &str, seed: &str, count: &str) -> Option<Plan> {
+        Some(Plan {
+            commands: from_hex(commands)?,
+            length: length.parse().ok()?,
+            seed: seed.parse().ok()?,
+            count: count.parse().ok()?,
+        })
+    }
+}
+
 #[derive(Clone, Debug, PartialEq, Eq)]
 pub enum Step {
     /// Lends state, keys, chutes, answers and image of these lengths in bytes, with any contents.
@@ -114,12 +151,13 @@ pub enum Step {
     Open(Open),
     Advance(Vec<u8>),
     Dispatch(Dispatch),
-    /// With a list of this length, as the next four.
+    /// With a list of this length, as the next four calls.
     StepsNeeded(usize),
     PendingCounts(usize),
     WorkerStatus(usize),
     ReadIdentifier(Vec<u8>, usize),
     WriteIdentifier(u64, usize),
+    RoundsNeeded(Plan),
     /// Changes the bits of one byte.
     Change {
         list: List,
@@ -187,6 +225,9 @@ impl Step {
                 key.parse().ok()?,
                 length.parse().ok()?,
             )),
+            ["rounds_needed", commands, length, seed, count] => Some(Step::RoundsNeeded(
+                Plan::parse(commands, length, seed, count)?,
+            )),
             ["resize", list, length] => {
                 Some(Step::Resize(List::parse(list)?, length.parse().ok()?))
             }
@@ -211,6 +252,19 @@ impl fmt::Display for Open {
     }
 }
 
+impl fmt::Display for Plan {
+    fn fmt(&self, f: &mut fmt::Formatter) -> fmt::Result {
+        let Plan {
+            length,
+            seed,
+            count,
+            ..
+        } = self;
+        let commands = hex(&self.commands);
+        write!(f, "rounds_needed {commands} {length} {seed} {count}")
+    }
+}
+
 impl fmt::Display for Step {
     fn fmt(&self, f: &mut fmt::Formatter) -> fmt::Result {
         match self {
@@ -229,6 +283,7 @@ impl fmt::Display for Step {
                 write!(f, "read_identifier {} {length}", hex(text))
             }
             Step::WriteIdentifier(key, length) => write!(f, "write_identifier {key} {length}"),
+            Step::RoundsNeeded(plan) => write!(f, "{plan}"),
             Step::Change { list, offset, bits } => {
                 write!(f, "change {} {offset} {bits}", list.name())
             }
@@ -271,12 +326,26 @@ mod tests {
             Step::WorkerStatus(128),
             Step::ReadIdentifier(vec![65], 8),
             Step::WriteIdentifier(7, 13),
+            Step::RoundsNeeded(Plan {
+                commands: vec![],
+                length: 1,
+                seed: u64::MAX,
+                count: 8,
+            }),
+            Step::RoundsNeeded(Plan {
+                commands: vec![3, 255],
+                length: 0,
+                seed: 0,
+                count: 9,
+            }),
             Step::Change {
                 list: List::Commands,
                 offset: 5,
                 bits: 255,
             },
             Step::Resize(List::Out, 0),
+            Step::Resize(List::Planned, 1),
+            Step::Resize(List::Rounds, 2),
             Step::Keep,
             Step::Restore,
             Step::Serial,

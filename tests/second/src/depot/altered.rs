@@ -27,6 +27,10 @@ pub trait Altered {
     fn steps_needed(&self, lists: Lists, count: &mut [u8]) -> u64 {
         Second.steps_needed(lists, count)
     }
+
+    fn rounds_needed(&self, commands: &[u8], rounds: &mut [u8], count: &mut [u8]) -> u64 {
+        Second.rounds_needed(commands, rounds, count)
+    }
 }
 
 impl<T: Altered> Depot for T {
@@ -66,6 +70,10 @@ impl<T: Altered> Depot for T {
 
     fn write_identifier(&self, key: u64, text: &mut [u8]) -> u64 {
         Second.write_identifier(key, text)
+    }
+
+    fn rounds_needed(&self, commands: &[u8], rounds: &mut [u8], count: &mut [u8]) -> u64 {
+        Altered::rounds_needed(self, commands, rounds, count)
     }
 
     fn program(&self, input: &[u8]) -> Vec<u8> {

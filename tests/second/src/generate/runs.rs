@@ -338,6 +338,10 @@ mod tests {
             Second.write_identifier(key, text)
         }
 
+        fn rounds_needed(&self, commands: &[u8], rounds: &mut [u8], count: &mut [u8]) -> u64 {
+            Second.rounds_needed(commands, rounds, count)
+        }
+
         fn program(&self, input: &[u8]) -> Vec<u8> {
             let output = Second.program(input);
             let text = String::from_utf8_lossy(&output);

@@ -124,7 +124,7 @@ fn is_removed(run: &Run, place: usize) -> bool {
     place <= run.loaded.into() && !records.iter().any(|it| usize::from(*it) == place)
 }
 
-/// The number of turns that a list holds, if it has the length.
+/// The number of turns or rounds that a list holds, if it has the length.
 pub fn number(list: &[u8]) -> Option<u64> {
     let bytes: [u8; TURN_COUNT] = list.try_into().ok()?;
     Some(u64::from_be_bytes(bytes))

@@ -130,6 +130,14 @@ unsafe extern "C" {
         key_length: usize,
     ) -> u64;
     fn depot_write_identifier(key: u64, text: *mut u8, text_length: usize) -> u64;
+    fn depot_rounds_needed(
+        commands: *const u8,
+        commands_length: usize,
+        rounds: *mut u8,
+        rounds_length: usize,
+        count: *mut u8,
+        count_length: usize,
+    ) -> u64;
 }
 
 /// The linked archive, and where the program is.
@@ -217,6 +225,19 @@ impl Depot for Archive {
 
     fn write_identifier(&self, key: u64, text: &mut [u8]) -> u64 {
         unsafe { depot_write_identifier(key, text.as_mut_ptr(), text.len()) }
+    }
+
+    fn rounds_needed(&self, commands: &[u8], rounds: &mut [u8], count: &mut [u8]) -> u64 {
+        unsafe {
+            depot_rounds_needed(
+                commands.as_ptr(),
+                commands.len(),
+                rounds.as_mut_ptr(),
+                rounds.len(),
+                count.as_mut_ptr(),
+                count.len(),
+            )
+        }
     }
 
     fn program(&self, input: &[u8]) -> Vec<u8> {
