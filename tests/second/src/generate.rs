@@ -9,6 +9,7 @@ mod identifiers;
 pub mod images;
 mod lists;
 mod pairs;
+mod rounds;
 pub mod runs;
 mod sums;
 mod zeros;
@@ -57,10 +58,12 @@ pub enum Sort {
     Untested,
     /// An input of the program.
     Programs,
+    /// A list whose rounds are asked for.
+    Rounds,
 }
 
 impl Sort {
-    pub const ALL: [Sort; 16] = [
+    pub const ALL: [Sort; 17] = [
         Sort::Identifiers,
         Sort::Keys,
         Sort::Commands,
@@ -77,6 +80,7 @@ impl Sort {
         Sort::Dispatches,
         Sort::Untested,
         Sort::Programs,
+        Sort::Rounds,
     ];
 
     pub fn name(self) -> &'static str {
@@ -97,6 +101,7 @@ impl Sort {
             Sort::Dispatches => "dispatches",
             Sort::Untested => "untested",
             Sort::Programs => "programs",
+            Sort::Rounds => "rounds",
         }
     }
 }
@@ -121,6 +126,7 @@ pub fn cases(seed: u64) -> Vec<(Sort, Case)> {
         .chain(sums::cases(random))
         .chain(counts::cases(random))
         .chain(checkpoints::cases(random))
+        .chain([(Sort::Rounds, rounds::cases(random))])
         .flat_map(|(sort, cases)| cases.into_iter().map(move |case| (sort, case)))
         .collect()
 }
@@ -233,6 +239,8 @@ mod tests {
         check(Sort::Pairs, 10_000, &[0]);
         let numbers = [0, 6, 7, 8, 9, 10, 13, 14, 15, 16];
         check(Sort::Images, 20_000, &numbers);
+        let numbers = [0, 4, 5, 6, 7, 8, 9, 10, 13, 14];
+        check(Sort::Rounds, 25_000, &numbers);
     }
 
     /// Each refusal of an identifier with each character that it can have: read alone, in a

@@ -1,6 +1,7 @@
 //! How often the compared inputs meet what document 02's A.2 brings: its refusals, and the turns at
 //! which the worker count decides; in `images`, what A.3 does; in `moments`, what A.10 does; in
-//! `dispatches`, what A.6 does; and in `untested`, commands of lists that no opening accepted.
+//! `dispatches`, what A.6 does; in `rounds`, what A.9 does; and in `untested`, commands of lists that
+//! no opening accepted.
 //! One that no input met would leave the comparison blind there.
 
 /// An enum of what is counted, with the words for each.
@@ -27,6 +28,7 @@ macro_rules! named {
 pub mod dispatches;
 pub mod images;
 pub mod moments;
+pub mod rounds;
 pub mod untested;
 
 use std::ops::AddAssign;
@@ -38,6 +40,7 @@ use crate::identifier;
 use crate::met::dispatches::Dispatches;
 use crate::met::images::Images;
 use crate::met::moments::Moments;
+use crate::met::rounds::Rounds;
 use crate::met::untested::Untested;
 use crate::run::{HEAD, Party, Run};
 use crate::script::{List, Step};
@@ -157,6 +160,7 @@ pub struct Met {
     pub moments: Moments,
     pub dispatches: Dispatches,
     pub untested: Untested,
+    pub rounds: Rounds,
 }
 
 impl Default for Met {
@@ -168,6 +172,7 @@ impl Default for Met {
             moments: Moments::default(),
             dispatches: Dispatches::default(),
             untested: Untested::default(),
+            rounds: Rounds::default(),
         }
     }
 }
@@ -183,6 +188,7 @@ impl AddAssign<&Met> for Met {
         self.moments.add(&other.moments);
         self.dispatches.add(&other.dispatches);
         self.untested.add(&other.untested);
+        self.rounds.add(&other.rounds);
     }
 }
 
@@ -201,6 +207,7 @@ impl Met {
             .chain(self.moments.lines())
             .chain(self.dispatches.lines())
             .chain(self.untested.lines())
+            .chain(self.rounds.lines())
             .collect()
     }
 
@@ -208,7 +215,8 @@ impl Met {
     pub fn lacks_any(&self) -> bool {
         let changes = self.events.contains(&0) || self.characters.contains(&0);
         let images = self.images.lacks_any() || self.moments.lacks_any();
-        changes || images || self.dispatches.lacks_any() || self.untested.lacks_any()
+        let calls = self.dispatches.lacks_any() || self.rounds.lacks_any();
+        changes || images || calls || self.untested.lacks_any()
     }
 
     pub fn count(&self, event: Event) -> u64 {
@@ -382,6 +390,8 @@ mod tests {
         met.dispatches = Dispatches::met(2);
         assert!(met.lacks_any(), "no refused command is met");
         met.untested = Untested::met(2);
+        assert!(met.lacks_any(), "no rounds are met");
+        met.rounds = Rounds::met(2);
         assert!(!met.lacks_any());
         for index in 0..Event::ALL.len() {
             assert_eq!(Event::ALL[index] as usize, index);
@@ -399,7 +409,8 @@ mod tests {
         assert_eq!(sum.count(Event::Opened), 4);
         let lines = sum.lines();
         let images = sum.images.lines().count() + sum.moments.lines().count();
-        let others = images + sum.dispatches.lines().count() + sum.untested.lines().count();
+        let calls = sum.dispatches.lines().count() + sum.rounds.lines().count();
+        let others = images + calls + sum.untested.lines().count();
         let counts = Event::ALL.len() + identifier::LENGTH;
         assert_eq!(lines.len(), counts + others);
         assert_eq!(lines[1], "counts refused 14: 4");

@@ -112,6 +112,9 @@ impl<'a> Play<'a> {
                 }
             }
             (_, Some(before)) => self.met.note_step(&before, step, answer),
+            (Step::RoundsNeeded(plan), None) => {
+                self.met.rounds.note(plan, &self.expected, answer);
+            }
             (Step::Serial | Step::StepsNeeded(_), None) => {
                 self.met.note_step(&self.expected, step, answer);
             }

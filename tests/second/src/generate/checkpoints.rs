@@ -14,12 +14,18 @@ const CHECKPOINTS: Zeros = Zeros {
 };
 
 pub fn cases(random: &mut Random) -> [(Sort, Vec<Case>); 3] {
+    let lists = lists(random);
+    CHECKPOINTS.cases(alone(random), lists, random)
+}
+
+/// Lists with checkpoints, right and refused.
+pub fn lists(random: &mut Random) -> Vec<Vec<u8>> {
     let lists = [
         repeat(300, random, list_with_checkpoints),
         CHECKPOINTS.in_lists(random),
         two_wrong(random),
     ];
-    CHECKPOINTS.cases(alone(random), lists.concat(), random)
+    lists.concat()
 }
 
 /// A checkpoint that is right, or has a wrong chute, a wrong character or both.

@@ -15,12 +15,18 @@ const CHANGES: Zeros = Zeros {
 };
 
 pub fn cases(random: &mut Random) -> [(Sort, Vec<Case>); 3] {
+    let lists = lists(random);
+    CHANGES.cases(alone(random), lists, random)
+}
+
+/// Lists with worker changes, right and refused.
+pub fn lists(random: &mut Random) -> Vec<Vec<u8>> {
     let lists = [
         repeat(400, random, list_with_changes),
         CHANGES.in_lists(random),
         two_wrong(random),
     ];
-    CHANGES.cases(alone(random), lists.concat(), random)
+    lists.concat()
 }
 
 /// A worker change that is right, or has a wrong count, a wrong character or both.

@@ -16,6 +16,11 @@ const TWICE: usize = 6;
 type Others<'a> = &'a dyn Fn(&mut Random, &[u8]) -> Vec<Vec<u8>>;
 
 pub fn cases(random: &mut Random) -> Vec<Case> {
+    lists(random).into_iter().map(opening).collect()
+}
+
+/// Lists of commands on items, and of others beside them, right and refused.
+pub fn lists(random: &mut Random) -> Vec<Vec<u8>> {
     let lists = [
         repeat(500, random, right_list),
         repeat(1_500, random, list_with_faults),
@@ -28,7 +33,7 @@ pub fn cases(random: &mut Random) -> Vec<Case> {
         long_lists(random),
         far(random, &each_character),
     ];
-    lists.concat().into_iter().map(opening).collect()
+    lists.concat()
 }
 
 /// A list of up to 40 right commands on items.
@@ -137,7 +142,8 @@ fn two_refused(random: &mut Random) -> Vec<Vec<u8>> {
     lists
 }
 
-fn with_command(list: &[u8], index: usize, command: &[u8]) -> Vec<u8> {
+/// A list with another command at an index from 0.
+pub fn with_command(list: &[u8], index: usize, command: &[u8]) -> Vec<u8> {
     let mut list = list.to_vec();
     list[index * LENGTH..][..LENGTH].copy_from_slice(command);
     list

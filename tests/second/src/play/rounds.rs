@@ -90,12 +90,16 @@ fn given_differs(after: &Host, plan: &Plan) -> Option<Difference> {
     if commands.len() > JUDGED {
         return None;
     }
-    let parts = after.list(List::Rounds).as_chunks::<NUMBER>().0;
-    let rounds: Vec<u16> = parts.iter().map(|it| u16::from_be_bytes(*it)).collect();
     let Some(count) = number(after.list(List::Out)) else {
         return Some("no number of rounds".to_string());
     };
-    broken(&commands, &rounds, count)
+    broken(&commands, &given(after), count)
+}
+
+/// The rounds that a caller was given.
+pub fn given(after: &Host) -> Vec<u16> {
+    let parts = after.list(List::Rounds).as_chunks::<NUMBER>().0;
+    parts.iter().map(|it| u16::from_be_bytes(*it)).collect()
 }
 
 /// A refusal writes nothing.
