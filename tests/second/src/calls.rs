@@ -866,6 +866,77 @@ mod tests {
         }
     }
 
+    /// What a call for rounds answers that is lent lists of these lengths, and what it leaves there.
+    fn rounds(commands: &[u8], length: usize, count: usize) -> (u64, Vec<u8>, Vec<u8>) {
+        let (mut rounds, mut count) = (vec![9; length], vec![9; count]);
+        let answer = rounds_needed(commands, &mut rounds, &mut count);
+        (answer, rounds, count)
+    }
+
+    /// Document 02, A.9, in bytes: the insert and the read of the example, and a read of another item;
+    /// of an empty list the number alone is written; and numbers above 255 have two bytes.
+    #[test]
+    fn rounds_in_bytes() {
+        let other = command::encode(3, b"AA000000014AA", 0);
+        let commands = [Caller::new().commands, other].concat();
+        let expected = (0, vec![0, 1, 0, 2, 0, 1], vec![0, 0, 0, 0, 0, 0, 0, 2]);
+        assert_eq!(rounds(&commands, 6, 8), expected);
+        assert_eq!(rounds(&[], 0, 8), (0, vec![], vec![0; 8]));
+        let updates = command::encode(4, FIRST, 7).repeat(258);
+        let (answer, rounds, count) = rounds(&updates, 516, 8);
+        assert_eq!((answer, count), (0, vec![0, 0, 0, 0, 0, 0, 1, 2]));
+        assert_eq!(rounds[508..], [0, 255, 1, 0, 1, 1, 1, 2]);
+    }
+
+    /// Asserts that a call for rounds is refused so and writes nothing.
+    fn assert_no_rounds(answer: u64, commands: &[u8], length: usize, count: usize) {
+        let left = (answer, vec![9; length], vec![9; count]);
+        assert!(rounds(commands, length, count) == left, "{answer} {length}");
+    }
+
+    /// A.9: "tests from 4 on as opening does": 4, 5 and 6 in order, then each command, with place and
+    /// character.
+    #[test]
+    fn rounds_are_refused_in_order_and_write_nothing() {
+        let commands = Caller::new().commands;
+        let refused = |at: usize, byte: u8| {
+            let mut commands = commands.clone();
+            commands[at] = byte;
+            commands
+        };
+        assert_no_rounds(4, &commands[..31], 4, 8);
+        assert_no_rounds(4, &refused(0, 0)[..31], 2, 7);
+        let most = commands.repeat(2048);
+        let many = [&most[..], &commands[..16]].concat();
+        assert_no_rounds(5, &many, 8194, 8);
+        assert_no_rounds(5, &many, 8192, 0);
+        assert_no_rounds(4, &many[..65_551], 8192, 8);
+        assert_no_rounds(4, &[&many[..], &[1]].concat(), 8192, 8);
+        for (length, count) in [
+            (3, 8),
+            (2, 8),
+            (0, 8),
+            (5, 8),
+            (6, 8),
+            (4, 7),
+            (4, 9),
+            (0, 0),
+        ] {
+            assert_no_rounds(6, &commands, length, count);
+            assert_no_rounds(6, &refused(0, 0), length, count);
+        }
+        assert_no_rounds(6, &[], 1, 8);
+        assert_no_rounds(6, &[], 0, 0);
+        assert_no_rounds(7 + 256, &refused(0, 7), 4, 8);
+        assert_no_rounds(8 + 512 + (2 << 32), &refused(18, b'a'), 4, 8);
+        assert_no_rounds(13 + 512 + (3 << 32), &refused(19, b'a'), 4, 8);
+        assert_no_rounds(9 + 256 + (11 << 32), &refused(11, b'4'), 4, 8);
+        assert_no_rounds(10 + 512, &refused(31, 1), 4, 8);
+        assert_no_rounds(8 + 256 + (1 << 32), &refused(0, 5), 4, 8);
+        let last = [&most[..65_520], &command::encode(5, &identifier::NONE, 65)].concat();
+        assert_no_rounds(14 + 256 * 4096, &last, 8192, 8);
+    }
+
     #[test]
     fn an_identifier_is_read_into_eight_bytes() {
         let mut key = [9; 8];

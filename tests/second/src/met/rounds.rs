@@ -316,3 +316,164 @@ fn passes([(first, round), (second, other)]: [(&Command, u16); 2]) -> bool {
     let changes = matches!(first.kind, Kind::Insert | Kind::Delete);
     changes && matches!(second.kind, Kind::Read | Kind::Update) && other < round
 }
+
+#[cfg(test)]
+mod tests {
+    use super::*;
+    use crate::command::encode;
+    use crate::depot::Second;
+    use crate::identifier::NONE;
+    use crate::script::Step;
+
+    /// Nothing is met at first; one missing count of many is seen.
+    #[test]
+    fn what_is_never_met_is_told() {
+        assert!(Rounds::default().lacks_any());
+        let met = Rounds::met(2);
+        assert!(!met.lacks_any());
+        for index in 0..met.every().count() {
+            let mut other = met.clone();
+            let sorts = Sort::ALL.len();
+            let places = Place::ALL.len() * Reason::ALL.len();
+            match index {
+                _ if index < sorts => other.counts[index] = 0,
+                _ if index < sorts + places => other.refused.as_flattened_mut()[index - sorts] = 0,
+                _ => other.characters.as_flattened_mut()[index - sorts - places] = 0,
+            }
+            assert!(other.lacks_any());
+        }
+        let mut sum = met.clone();
+        sum.add(&met);
+        assert_eq!(sum, Rounds::met(4));
+        let lines: Vec<String> = sum.lines().collect();
+        let [sorts, reasons] = [Sort::ALL.len(), Reason::ALL.len()];
+        assert_eq!(lines.len(), sorts + reasons + identifier::LENGTH);
+        assert_eq!(lines[0], "rounds of an empty list: 4");
+        assert!(lines[sorts].starts_with("rounds refused 7: alone 4 first 4 in the middle 4"));
+        let last = "rounds refused at character 13: of an item 4 of none 4";
+        assert_eq!(lines[lines.len() - 1], last);
+    }
+
+    /// What a call on a list meets, with lent lists longer by so much.
+    fn met(commands: Vec<u8>, longer: isize, count: usize) -> (Vec<Sort>, Rounds) {
+        let length = commands.len() / LENGTH * NUMBER;
+        let plan = Plan {
+            commands,
+            length: length.saturating_add_signed(longer),
+            seed: 1,
+            count,
+        };
+        let mut host = Host::default();
+        let answer = host.take(&Second, &Step::RoundsNeeded(plan.clone()));
+        let mut rounds = Rounds::default();
+        rounds.note(&plan, &host, answer);
+        let sorts = Sort::ALL.iter().filter(|it| rounds.count(**it) > 0);
+        (sorts.copied().collect(), rounds)
+    }
+
+    /// A command of the item of key 0, or of key 4,096 or 4,093.
+    fn of(kind: u8, key: u64) -> Vec<u8> {
+        let text = identifier::text(key).expect("a key");
+        encode(kind, &text, u16::from([1, 4].contains(&kind)))
+    }
+
+    #[test]
+    fn accepted_lists_are_told_apart() {
+        let none = |kind: u8| encode(kind, &NONE, u16::from(kind == 5));
+        let cases: [(Vec<Vec<u8>>, &[Sort]); 8] = [
+            (vec![], &[Sort::Empty]),
+            (vec![of(1, 0)], &[Sort::Single]),
+            (
+                vec![of(3, 0), of(3, 0)],
+                &[Sort::Together, Sort::ReadsTogether],
+            ),
+            (vec![of(4, 0), of(3, 0)], &[Sort::Apart]),
+            (
+                vec![of(4, 0), of(1, 0), of(3, 4096)],
+                &[Sort::Between, Sort::Back, Sort::Passing, Sort::Modulo4096],
+            ),
+            (
+                vec![of(3, 0), none(5), of(3, 4093)],
+                &[
+                    Sort::Apart,
+                    Sort::Change,
+                    Sort::BesideKey0,
+                    Sort::Modulo4093,
+                ],
+            ),
+            (
+                vec![of(3, 1), none(6), none(5)],
+                &[Sort::Apart, Sort::Checkpoint],
+            ),
+            (
+                vec![of(4, 1); 4096],
+                &[Sort::Apart, Sort::PastAByte, Sort::Most, Sort::MostApart],
+            ),
+        ];
+        for (list, sorts) in cases {
+            assert_eq!(met(list.concat(), 0, 8).0, sorts);
+        }
+    }
+
+    #[test]
+    fn wrong_lengths_are_told_apart() {
+        let right = [of(3, 0), of(3, 1)].concat();
+        let assert_met = |commands: &[u8], longer: isize, count: usize, sorts: &[Sort]| {
+            assert_eq!(met(commands.to_vec(), longer, count).0, sorts);
+        };
+        assert_met(&right[1..], 0, 8, &[Sort::NoMultiple]);
+        let sorts = [Sort::NoMultiple, Sort::NoMultipleFirst];
+        assert_met(&right[1..], 0, 7, &sorts);
+        assert_met(&right.repeat(2049), 0, 8, &[Sort::TooMany]);
+        let sorts = [Sort::TooMany, Sort::TooManyFirst];
+        assert_met(&right.repeat(2049), -1, 8, &sorts);
+        assert_met(&right, -1, 8, &[Sort::ByteShort]);
+        assert_met(&right, -2, 8, &[Sort::RoundShort]);
+        assert_met(&right, -4, 8, &[Sort::NoList]);
+        assert_met(&right, 1, 8, &[Sort::ByteLong]);
+        assert_met(&right, 2, 8, &[Sort::RoundLong]);
+        assert_met(&right, 65_536, 8, &[Sort::FarTooLong]);
+        assert_met(&right, 0, 9, &[Sort::Number]);
+        assert_met(&right, 1, 0, &[Sort::Both]);
+        assert_met(&[], 0, 9, &[Sort::Number, Sort::LengthOfEmpty]);
+        let refused = [of(7, 0), of(3, 1)].concat();
+        assert_met(&refused, 1, 8, &[Sort::ByteLong, Sort::LengthFirst]);
+    }
+
+    #[test]
+    fn refused_commands_are_told_apart() {
+        let right = of(3, 0);
+        let refused: [(Vec<u8>, Reason); 7] = [
+            (of(0, 0), Reason::Kind),
+            (encode(3, b"A0000000005AA", 0), Reason::Letter),
+            (encode(6, b"0A00000000000", 0), Reason::Zeros),
+            (encode(3, b"AA000000004AA", 0), Reason::CheckDigit),
+            (encode(6, &NONE, 1), Reason::Chute),
+            (encode(3, b"AA0x0000005AA", 0), Reason::Digit),
+            (encode(5, &NONE, 0), Reason::Count),
+        ];
+        for (it, reason) in &refused {
+            let many = |count: usize| right.repeat(count);
+            let cases = [
+                (it.clone(), Place::Alone),
+                ([&it[..], &right].concat(), Place::First),
+                ([&right[..], it, &right].concat(), Place::Middle),
+                ([&right[..], it].concat(), Place::Last),
+                ([&it[..], &many(4095)].concat(), Place::FirstOfMost),
+                ([&right[..], it, &many(4094)].concat(), Place::MiddleOfMost),
+                ([&many(4095)[..], it].concat(), Place::LastOfMost),
+            ];
+            for (list, place) in cases {
+                let (sorts, met) = met(list, 0, 8);
+                assert_eq!(sorts, []);
+                assert_eq!(met.refused(*reason, place), 1);
+                assert_eq!(met.refused.as_flattened().iter().sum::<u64>(), 1);
+            }
+        }
+        let two = [&refused[1].0[..], &refused[2].0].concat();
+        let (sorts, met) = met(two, 0, 8);
+        assert_eq!(sorts, [Sort::FirstOfTwo]);
+        assert_eq!(met.characters[0][1], 1);
+        assert_eq!(met.characters.as_flattened().iter().sum::<u64>(), 1);
+    }
+}
