@@ -8,7 +8,7 @@
 //! - The comparison: `depot` names the calls that are compared, `script` is the steps of one input,
 //!   `host` a caller that takes them, `play` two callers side by side, and `generate` makes the
 //!   inputs from a seed (`random`); `hex` shows them, and `met` counts what they meet of worker
-//!   changes, checkpoints, images, tables in the middle of runs and dispatches. The program
+//!   changes, checkpoints, images, tables in the middle of runs, dispatches and rounds. The program
 //!   `compare_depot` runs it.
 //! - The tools: `text` turns the program's input into text and back for `depot_text` and shows a list
 //!   with its rounds, and `draw` makes a picture of a run for `depot_draw`.

@@ -47,7 +47,7 @@ fn every_key_pair(random: &mut Random, kinds: (Kind, Kind)) -> Vec<Vec<u8>> {
 }
 
 /// The key itself, one far from it, its neighbours in every bit, and the two ends.
-fn other_keys(random: &mut Random, key: u64) -> Vec<u64> {
+pub fn other_keys(random: &mut Random, key: u64) -> Vec<u64> {
     let mut keys = vec![key, random_key(random), 0, LARGEST_KEY];
     keys.extend((0..KEY_BITS).map(|bit| key ^ (1 << bit)));
     keys.retain(|key| *key <= LARGEST_KEY);

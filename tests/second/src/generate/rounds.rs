@@ -1,6 +1,8 @@
 //! Lists whose rounds are asked for: accepted ones, in `lists`, refused ones, and lent lists of
 //! lengths that are wrong, in `lengths`.
 
+#[cfg(test)]
+mod flaws;
 mod lengths;
 mod lists;
 
@@ -17,6 +19,7 @@ pub fn cases(random: &mut Random) -> Vec<Case> {
     let lists = [
         lists::every_short(random),
         repeat(10, random, lists::mixed).concat(),
+        repeat(10, random, lists::alike).concat(),
         lists::long(random),
         super::lists::lists(random),
         counts::lists(random),

@@ -13,9 +13,11 @@
 //! The first input that differs is written to target/failing-case, which --replay takes. Then come
 //! how often the inputs met each refusal and each situation of worker changes, checkpoints and
 //! images, each kind of moment at which a table was judged in the middle of a run, each sort of
-//! dispatch, and each sort of command that opening refuses in a list that was handed back; in a line of its own, how near the turns of a dispatch came to the bound; and in the
-//! last two lines how many inputs of each sort there were, and how many in all. It ends with 0
-//! where nothing differs, 1 where something does or is never met, and 2 where it cannot compare.
+//! dispatch, each sort of command that opening refuses in a list that was handed back, and each sort of
+//! list whose rounds were asked for, accepted or refused; in a line of its own, how near the turns of a
+//! dispatch came to the bound; and in the last two lines how many inputs of each sort there were, and
+//! how many in all. It ends with 0 where nothing differs, 1 where something does or is never met, and 2
+//! where it cannot compare.
 
 use std::process::ExitCode;
 

@@ -1,6 +1,7 @@
 //! Lists that are accepted: all short ones, and longer ones by kinds and keys.
 
 use super::super::commands::with_key;
+use super::super::pairs::other_keys;
 use super::super::{random_key, repeat};
 use crate::bytes::MOST_COMMANDS;
 use crate::command::{Kind, LENGTH};
@@ -49,9 +50,9 @@ const fn keys(count: u64, first: u64, step: u64) -> Keys {
     Keys { count, first, step }
 }
 
-/// Keys of long lists: few and many, next to each other, and equal in their low bits, by 4,093 and by
-/// other numbers of places that a table may have.
-const LONG: [Keys; 18] = [
+/// Few keys and many, next to each other, and equal in their low bits, by 4,093 and by other numbers
+/// of places that a table may have.
+const SPREAD: [Keys; 18] = [
     keys(1, 0, 0),
     keys(1, LARGEST_KEY, 0),
     keys(2, 0, 4096),
@@ -122,6 +123,24 @@ pub fn mixed(random: &mut Random) -> Vec<Vec<u8>> {
     lists
 }
 
+/// The same on items whose keys are alike: with equal rests, or neighbours in every bit.
+pub fn alike(random: &mut Random) -> Vec<Vec<u8>> {
+    let mut lists = Vec::new();
+    for kinds in KINDS {
+        for keys in SPREAD {
+            let [count, length] = [keys.count.min(2 + random.below(9)), length(random) as u64];
+            let key = |random: &mut Random, _| keys.at(random.below(count));
+            lists.push(list(random, length as usize, (kinds, 0), key));
+        }
+        let first = random_key(random);
+        let keys = other_keys(random, first);
+        let length = 2 * keys.len();
+        let key = |_: &mut Random, index: u64| keys[index as usize % keys.len()];
+        lists.push(list(random, length, (kinds, 0), key));
+    }
+    lists
+}
+
 /// Mostly a few commands, seldom some hundred.
 fn length(random: &mut Random) -> usize {
     let most = random.pick(&[6, 12, 25, 40, 40, 200, 400]);
@@ -136,11 +155,11 @@ fn key_of_any(random: &mut Random) -> u64 {
     }
 }
 
-/// Lists about as long as can be: each keys in turn and in any order, of updates, of reads and updates
-/// with few others between them, and of all kinds.
+/// Lists about as long as can be: of updates, of reads and updates and of inserts beside them, with few
+/// worker changes and checkpoints between them, on items in turn and in any order; and of other kinds.
 pub fn long(random: &mut Random) -> Vec<Vec<u8>> {
     let mut lists = Vec::new();
-    for keys in LONG {
+    for keys in SPREAD {
         let in_turn = |_: &mut Random, index| keys.at(index);
         let in_any_order = |random: &mut Random, _| keys.at(random.below(keys.count));
         let mut push = |random: &mut Random, mix, key: &dyn Fn(&mut Random, u64) -> u64| {
