@@ -186,6 +186,23 @@ pub fn long(random: &mut Random) -> Vec<Vec<u8>> {
     lists
 }
 
+/// As long a list, of any kinds in any mix, on any number of items from one to as many as commands.
+pub fn any_long(random: &mut Random) -> Vec<u8> {
+    let mix = (
+        random.pick(&KINDS),
+        random.pick(&[0, 7, 60, SELDOM, SELDOM]),
+    );
+    let most = 1 << random.below(13);
+    let spread = random.pick(&SPREAD);
+    let pool = repeat(most, random, random_key);
+    match random.below(2) {
+        0 => list(random, MOST_COMMANDS, mix, |random, _| random.pick(&pool)),
+        _ => list(random, MOST_COMMANDS, mix, |random, _| {
+            spread.at(random.below(most as u64))
+        }),
+    }
+}
+
 impl Keys {
     /// The key of an index, which begins again behind the last.
     fn at(&self, index: u64) -> u64 {
