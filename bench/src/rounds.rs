@@ -7,6 +7,7 @@ use std::hint::black_box;
 use std::time::Duration;
 
 use second::command::{self, Command};
+use second::depot::Depot;
 
 use crate::clock::timed;
 use crate::lists::{accepted, same_bytes};
@@ -17,35 +18,6 @@ const TOGETHER: Duration = Duration::from_millis(10);
 const MOST_CALLS: u32 = 100;
 /// What a lent list holds where nothing is written: there is no such round.
 const UNWRITTEN: u8 = 255;
-
-unsafe extern "C" {
-    fn depot_rounds_needed(
-        commands: *const u8,
-        commands_length: usize,
-        rounds: *mut u8,
-        rounds_length: usize,
-        count: *mut u8,
-        count_length: usize,
-    ) -> u64;
-}
-
-/// The proved call.
-fn proved(commands: &[u8], rounds: &mut [u8], count: &mut [u8]) -> u64 {
-    let (rounds, rounds_length) = (rounds.as_mut_ptr(), rounds.len());
-    let (count, bytes) = (count.as_mut_ptr(), count.len());
-    // SAFETY: each pointer and length are those of one live slice, which the function does not keep;
-    // it reads, or writes where it is lent to be written, no byte outside it, and no two overlap.
-    unsafe {
-        depot_rounds_needed(
-            commands.as_ptr(),
-            commands.len(),
-            rounds,
-            rounds_length,
-            count,
-            bytes,
-        )
-    }
-}
 
 /// The lists that a call is lent.
 #[derive(Clone, Debug, PartialEq, Eq)]
@@ -117,7 +89,10 @@ impl Bench {
     pub fn rounds(&self, list: &[u8]) -> Result<RoundTimes, String> {
         let commands: &[Command] = &command::read_list(list).expect("the list is accepted");
         let calls: [&dyn Fn(&mut Lent) -> u64; 4] = [
-            &|lent| proved(black_box(list), &mut lent.rounds, &mut lent.count),
+            &|lent| {
+                self.proved
+                    .rounds_needed(black_box(list), &mut lent.rounds, &mut lent.count)
+            },
             &|lent| plain::rounds_needed(black_box(list), &mut lent.rounds, &mut lent.count),
             &|lent| plain::by_kept(black_box(commands), &mut lent.rounds, &mut lent.count),
             &|lent| plain::by_pairs(black_box(commands), &mut lent.rounds, &mut lent.count),
@@ -163,7 +138,10 @@ fn same(proved: &Lent, plain: &Lent) -> Result<(), String> {
 
 #[cfg(test)]
 mod tests {
+    use std::path::PathBuf;
+
     use super::*;
+    use crate::archive::Archive;
     use second::command::Kind;
     use second::identifier::NONE;
     use second::random::Random;
@@ -180,13 +158,19 @@ mod tests {
         }
     }
 
+    fn archive() -> Archive {
+        Archive {
+            program: PathBuf::new(), // the program is not run here
+        }
+    }
+
     /// The proved rounds of a list, which the plain ways find too.
     fn rounds_of(list: &[u8]) -> Lent {
         let commands = command::read_list(list).expect("the list is accepted");
         let first = Lent::new(commands.len());
         let [mut lent, mut calls, mut kept, mut pairs] = [&first; 4].map(Lent::clone);
         let answers = [
-            proved(list, &mut lent.rounds, &mut lent.count),
+            archive().rounds_needed(list, &mut lent.rounds, &mut lent.count),
             plain::rounds_needed(list, &mut calls.rounds, &mut calls.count),
             plain::by_kept(&commands, &mut kept.rounds, &mut kept.count),
             plain::by_pairs(&commands, &mut pairs.rounds, &mut pairs.count),
@@ -272,7 +256,7 @@ mod tests {
                     rounds: vec![UNWRITTEN; rounds],
                     count: vec![UNWRITTEN; count],
                 });
-                let answer = proved(&list, &mut one.rounds, &mut one.count);
+                let answer = archive().rounds_needed(&list, &mut one.rounds, &mut one.count);
                 let plain = plain::rounds_needed(&list, &mut two.rounds, &mut two.count);
                 assert_eq!((answer, &one), (plain, &two));
                 let unwritten = |it: &u8| *it == UNWRITTEN;
