@@ -22,6 +22,7 @@ pub fn cases(random: &mut Random) -> Vec<Case> {
         repeat(10, random, lists::alike).concat(),
         lists::long(random),
         repeat(30, random, lists::any_long),
+        lists::far_apart(random),
         super::lists::lists(random),
         counts::lists(random),
         checkpoints::lists(random),

@@ -5,7 +5,7 @@ use std::collections::BTreeSet;
 
 use crate::bytes::{MOST_COMMANDS, NUMBER};
 use crate::calls::ROUND_COUNT;
-use crate::command::{self, Command, Kind, LENGTH};
+use crate::command::{self, Command, Kind, LENGTH, dependent};
 use crate::host::Host;
 use crate::identifier;
 use crate::met::refused_kind;
@@ -25,6 +25,7 @@ named! {
     Most "rounds of 4096 commands",
     MostTogether "4096 commands in one round",
     MostApart "4096 rounds",
+    EndToEnd "the last of 4096 commands behind the first alone",
     Back "rounds that go back along the list",
     ReadsTogether "two reads of one item in one round",
     Passing "reads or updates in a round before that of an earlier insert or delete",
@@ -198,6 +199,7 @@ impl Rounds {
             (Sort::Most, longest),
             (Sort::MostTogether, longest && most == 1),
             (Sort::MostApart, longest && most == count),
+            (Sort::EndToEnd, longest && waits_for_first_alone(&commands)),
             (Sort::Back, !rounds.is_sorted()),
         ]);
         self.note_commands(&commands);
@@ -286,6 +288,14 @@ fn stands(place: usize, count: usize) -> Place {
 fn in_the_middle(commands: &[Command], kind: Kind) -> bool {
     let middle = commands.get(1..commands.len().saturating_sub(1));
     middle.is_some_and(|middle| middle.iter().any(|it| it.kind == kind))
+}
+
+/// Whether the last command depends on the first one and on no other.
+fn waits_for_first_alone(commands: &[Command]) -> bool {
+    let [first, between @ .., last] = commands else {
+        return false;
+    };
+    dependent(first, last) && !between.iter().any(|it| dependent(it, last))
 }
 
 /// Whether two items have different keys that are equal modulo a number.
@@ -380,7 +390,7 @@ mod tests {
     #[test]
     fn accepted_lists_are_told_apart() {
         let none = |kind: u8| encode(kind, &NONE, u16::from(kind == 5));
-        let cases: [(Vec<Vec<u8>>, &[Sort]); 8] = [
+        let cases: [(Vec<Vec<u8>>, &[Sort]); 9] = [
             (vec![], &[Sort::Empty]),
             (vec![of(1, 0)], &[Sort::Single]),
             (
@@ -408,6 +418,10 @@ mod tests {
             (
                 vec![of(4, 1); 4096],
                 &[Sort::Apart, Sort::PastAByte, Sort::Most, Sort::MostApart],
+            ),
+            (
+                [vec![of(4, 1)], vec![of(3, 2); 4094], vec![of(4, 1)]].concat(),
+                &[Sort::Between, Sort::Most, Sort::EndToEnd],
             ),
         ];
         for (list, sorts) in cases {

@@ -1,6 +1,7 @@
 //! Lists that are accepted: all short ones, and longer ones by kinds and keys.
 
 use super::super::commands::with_key;
+use super::super::lists::with_command;
 use super::super::pairs::other_keys;
 use super::super::{random_key, repeat};
 use crate::bytes::MOST_COMMANDS;
@@ -201,6 +202,37 @@ pub fn any_long(random: &mut Random) -> Vec<u8> {
             spread.at(random.below(most as u64))
         }),
     }
+}
+
+/// As long a list of reads, of which two are replaced by commands that depend on one another alone, as
+/// far apart as can be and less far.
+pub fn far_apart(random: &mut Random) -> Vec<Vec<u8>> {
+    let reads = list(random, MOST_COMMANDS, (READS, 0), |random, _| {
+        1 + random.below(LARGEST_KEY)
+    });
+    let last = MOST_COMMANDS - 1;
+    let indexes = [
+        [0, last],
+        [0, last - 1],
+        [1, last],
+        [0, 2048],
+        [2047, last],
+        [100, 356],
+        [last - 1, last],
+    ];
+    let kinds = [
+        [Kind::Update, Kind::Update],
+        [Kind::Insert, Kind::Read],
+        [Kind::Delete, Kind::Insert],
+    ];
+    let mut lists = Vec::new();
+    for [first, second] in kinds {
+        for [index, later] in indexes {
+            let once = with_command(&reads, index, &with_key(random, first, 0));
+            lists.push(with_command(&once, later, &with_key(random, second, 0)));
+        }
+    }
+    lists
 }
 
 impl Keys {
