@@ -23,6 +23,7 @@ pub fn cases(random: &mut Random) -> Vec<Case> {
         lists::long(random),
         repeat(30, random, lists::any_long),
         lists::far_apart(random),
+        lists::parted(random),
         super::lists::lists(random),
         counts::lists(random),
         checkpoints::lists(random),

@@ -26,6 +26,8 @@ named! {
     MostTogether "4096 commands in one round",
     MostApart "4096 rounds",
     EndToEnd "the last of 4096 commands behind the first alone",
+    FarBehind "a worker change or checkpoint more than 2048 places behind the round before",
+    AllBehind "4095 commands behind a worker change or checkpoint in one round",
     Back "rounds that go back along the list",
     ReadsTogether "two reads of one item in one round",
     Passing "reads or updates in a round before that of an earlier insert or delete",
@@ -203,6 +205,7 @@ impl Rounds {
             (Sort::Back, !rounds.is_sorted()),
         ]);
         self.note_commands(&commands);
+        self.note_parted(&commands, rounds);
         if count <= JUDGED {
             let any = |holds: fn([(&Command, u16); 2]) -> bool| pairs(&commands, rounds).any(holds);
             self.note_all(&[
@@ -223,6 +226,19 @@ impl Rounds {
             (Sort::Modulo4096, equal_modulo(commands, 4096)),
             (Sort::Modulo4093, equal_modulo(commands, 4093)),
         ]);
+    }
+
+    /// Notes what stands far behind a worker change or checkpoint of an accepted call, or before it.
+    fn note_parted(&mut self, commands: &[Command], rounds: &[u16]) {
+        let far = |at: usize| {
+            let near = &rounds[at.saturating_sub(2048)..at];
+            rounds[at] > 1 && !near.contains(&(rounds[at] - 1))
+        };
+        let none = |at: &usize| !commands[*at].kind.names_item();
+        let longest = commands.len() == MOST_COMMANDS;
+        let all = longest && none(&0) && rounds[1..].iter().all(|round| *round == 2);
+        let mut parting = (0..commands.len()).filter(none);
+        self.note_all(&[(Sort::FarBehind, parting.any(far)), (Sort::AllBehind, all)]);
     }
 
     /// Notes a call that is refused 6, by the lists that are at fault.
@@ -390,7 +406,7 @@ mod tests {
     #[test]
     fn accepted_lists_are_told_apart() {
         let none = |kind: u8| encode(kind, &NONE, u16::from(kind == 5));
-        let cases: [(Vec<Vec<u8>>, &[Sort]); 9] = [
+        let cases: [(Vec<Vec<u8>>, &[Sort]); 11] = [
             (vec![], &[Sort::Empty]),
             (vec![of(1, 0)], &[Sort::Single]),
             (
@@ -422,6 +438,14 @@ mod tests {
             (
                 [vec![of(4, 1)], vec![of(3, 2); 4094], vec![of(4, 1)]].concat(),
                 &[Sort::Between, Sort::Most, Sort::EndToEnd],
+            ),
+            (
+                [vec![none(6)], vec![of(4, 2)], vec![of(3, 1); 4094]].concat(),
+                &[Sort::Between, Sort::Most, Sort::EndToEnd, Sort::AllBehind],
+            ),
+            (
+                [vec![of(4, 2); 2], vec![of(3, 1); 2048], vec![none(5)]].concat(),
+                &[Sort::Between, Sort::FarBehind, Sort::Back],
             ),
         ];
         for (list, sorts) in cases {

@@ -204,12 +204,16 @@ pub fn any_long(random: &mut Random) -> Vec<u8> {
     }
 }
 
-/// As long a list of reads, of which two are replaced by commands that depend on one another alone, as
-/// far apart as can be and less far.
+/// As long a list of reads of any items but that of key 0.
+fn reads(random: &mut Random) -> Vec<u8> {
+    let key = |random: &mut Random, _| 1 + random.below(LARGEST_KEY);
+    list(random, MOST_COMMANDS, (READS, 0), key)
+}
+
+/// Such a list, of which two are replaced by commands that depend on one another alone, as far apart as
+/// can be and less far.
 pub fn far_apart(random: &mut Random) -> Vec<Vec<u8>> {
-    let reads = list(random, MOST_COMMANDS, (READS, 0), |random, _| {
-        1 + random.below(LARGEST_KEY)
-    });
+    let reads = reads(random);
     let last = MOST_COMMANDS - 1;
     let indexes = [
         [0, last],
@@ -231,6 +235,25 @@ pub fn far_apart(random: &mut Random) -> Vec<Vec<u8>> {
             let once = with_command(&reads, index, &with_key(random, first, 0));
             lists.push(with_command(&once, later, &with_key(random, second, 0)));
         }
+    }
+    lists
+}
+
+/// Such a list with a worker change or a checkpoint, far behind three updates of one item, which alone
+/// stand later than in round 1; and with one at the first place, behind which all others stand.
+pub fn parted(random: &mut Random) -> Vec<Vec<u8>> {
+    let reads = reads(random);
+    let last = MOST_COMMANDS - 1;
+    let mut lists = Vec::new();
+    for kind in [Kind::Workers, Kind::Checkpoint] {
+        let it = with_key(random, kind, 0);
+        for [first, at] in [[0, last], [0, last - 1], [0, 2048], [2000, last], [0, 300]] {
+            let updated = (first..first + 3).fold(reads.clone(), |list, index| {
+                with_command(&list, index, &with_key(random, Kind::Update, 0))
+            });
+            lists.push(with_command(&updated, at, &it));
+        }
+        lists.push(with_command(&reads, 0, &it));
     }
     lists
 }
