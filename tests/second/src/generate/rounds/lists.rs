@@ -204,9 +204,9 @@ pub fn any_long(random: &mut Random) -> Vec<u8> {
     }
 }
 
-/// As long a list of reads of any items but that of key 0.
+/// As long a list of reads of any items but the first and the last.
 fn reads(random: &mut Random) -> Vec<u8> {
-    let key = |random: &mut Random, _| 1 + random.below(LARGEST_KEY);
+    let key = |random: &mut Random, _| 1 + random.below(LARGEST_KEY - 1);
     list(random, MOST_COMMANDS, (READS, 0), key)
 }
 
@@ -224,16 +224,17 @@ pub fn far_apart(random: &mut Random) -> Vec<Vec<u8>> {
         [100, 356],
         [last - 1, last],
     ];
-    let kinds = [
-        [Kind::Update, Kind::Update],
-        [Kind::Insert, Kind::Read],
-        [Kind::Delete, Kind::Insert],
+    let pairs = [
+        (Kind::Update, Kind::Update, 0),
+        (Kind::Insert, Kind::Read, 0),
+        (Kind::Delete, Kind::Insert, LARGEST_KEY),
+        (Kind::Insert, Kind::Delete, LARGEST_KEY),
     ];
     let mut lists = Vec::new();
-    for [first, second] in kinds {
+    for (first, second, key) in pairs {
         for [index, later] in indexes {
             let once = with_command(&reads, index, &with_key(random, first, 0));
-            lists.push(with_command(&once, later, &with_key(random, second, 0)));
+            lists.push(with_command(&once, later, &with_key(random, second, key)));
         }
     }
     lists
