@@ -326,26 +326,12 @@ mod tests {
             Step::WorkerStatus(128),
             Step::ReadIdentifier(vec![65], 8),
             Step::WriteIdentifier(7, 13),
-            Step::RoundsNeeded(Plan {
-                commands: vec![],
-                length: 1,
-                seed: u64::MAX,
-                count: 8,
-            }),
-            Step::RoundsNeeded(Plan {
-                commands: vec![3, 255],
-                length: 0,
-                seed: 0,
-                count: 9,
-            }),
             Step::Change {
                 list: List::Commands,
                 offset: 5,
                 bits: 255,
             },
             Step::Resize(List::Out, 0),
-            Step::Resize(List::Planned, 1),
-            Step::Resize(List::Rounds, 2),
             Step::Keep,
             Step::Restore,
             Step::Serial,
@@ -358,8 +344,33 @@ mod tests {
     }
 
     #[test]
+    fn a_plan_is_read_from_the_line_that_shows_it() {
+        for commands in [vec![], vec![3, 255]] {
+            let step = Step::RoundsNeeded(Plan {
+                commands,
+                length: 1,
+                seed: u64::MAX,
+                count: 8,
+            });
+            assert_eq!(Step::parse(&step.to_string()), Some(step));
+        }
+        let step = Step::parse("rounds_needed 03ff 4 1 8").expect("a step");
+        assert_eq!(step.to_string(), "rounds_needed 03ff 4 1 8");
+    }
+
+    #[test]
+    fn every_list_is_read_by_its_name() {
+        for list in List::ALL {
+            let step = Step::Resize(list, 1);
+            assert_eq!(Step::parse(&step.to_string()), Some(step));
+        }
+    }
+
+    #[test]
     fn other_lines_are_no_step() {
-        for line in ["", "open", "advance", "advance 0", "change nothing 1 1"] {
+        let rounds = ["rounds_needed", "rounds_needed 0 0 0 8"];
+        let others = ["", "open", "advance", "advance 0", "change nothing 1 1"];
+        for line in others.into_iter().chain(rounds) {
             assert_eq!(Step::parse(line), None, "{line}");
         }
     }

@@ -78,7 +78,7 @@ pub fn random_command(random: &mut Random) -> Vec<u8> {
 }
 
 /// A right command of this kind.
-fn command(random: &mut Random, kind: Kind) -> Vec<u8> {
+pub fn command(random: &mut Random, kind: Kind) -> Vec<u8> {
     let key = random_key(random);
     with_key(random, kind, key)
 }

@@ -6,9 +6,9 @@ mod flaws;
 mod lengths;
 mod lists;
 
-use super::commands::{CHUTE, TEXT, checkpoint, each_character, random_count, with_key, workers};
+use super::commands::{CHUTE, TEXT, checkpoint, command, each_character, random_count, workers};
 use super::lists::with_command;
-use super::{Case, checkpoints, counts, random_key, repeat, with_byte};
+use super::{Case, checkpoints, counts, repeat, with_byte};
 use crate::bytes::{MOST_COMMANDS, NUMBER};
 use crate::calls::ROUND_COUNT;
 use crate::command::{Kind, LENGTH};
@@ -58,8 +58,8 @@ fn right_list(random: &mut Random, count: usize) -> Vec<u8> {
 }
 
 fn any_command(random: &mut Random) -> Vec<u8> {
-    let (kind, key) = (random.pick(&Kind::ALL), random_key(random));
-    with_key(random, kind, key)
+    let kind = random.pick(&Kind::ALL);
+    command(random, kind)
 }
 
 /// Each refused command at the first place, in the middle and at the last, of short lists and of the
@@ -69,14 +69,14 @@ fn refused_everywhere(random: &mut Random) -> Vec<Vec<u8>> {
     let mut lists = Vec::new();
     for count in [1, 7, MOST_COMMANDS] {
         let list = right_list(random, count);
-        let [first, middle, last] = [0, count / 2, count - 1];
+        let mut indexes = vec![0, count / 2, count - 1];
+        indexes.dedup();
         for it in &refused {
-            let at = |index: usize| with_command(&list, index, it);
-            lists.extend([first, middle, last].map(at));
+            lists.extend(indexes.iter().map(|at| with_command(&list, *at, it)));
         }
         for (it, other) in refused.iter().zip(refused.iter().rev()).step_by(3) {
-            let once = with_command(&list, last, other);
-            lists.push(with_command(&once, middle, it));
+            let once = with_command(&list, count - 1, other);
+            lists.push(with_command(&once, count / 2, it));
         }
     }
     lists
@@ -84,9 +84,7 @@ fn refused_everywhere(random: &mut Random) -> Vec<Vec<u8>> {
 
 /// Commands with each refusal that there is, and where an identifier is refused with each character.
 fn refused_commands(random: &mut Random) -> Vec<Vec<u8>> {
-    let right: Vec<Vec<u8>> = Kind::ALL
-        .map(|kind| with_key(random, kind, random_key(&mut Random::new(kind as u64))))
-        .to_vec();
+    let right = Kind::ALL.map(|kind| command(random, kind));
     let mut refused = Vec::new();
     for command in &right {
         refused.extend([0, 7, u8::MAX].map(|kind| with_byte(command, 0, kind)));

@@ -403,54 +403,51 @@ mod tests {
         encode(kind, &text, u16::from([1, 4].contains(&kind)))
     }
 
+    /// A right command that names no item.
+    fn none(kind: u8) -> Vec<u8> {
+        encode(kind, &NONE, u16::from(kind == 5))
+    }
+
+    fn assert_met(list: &[Vec<u8>], sorts: &[Sort]) {
+        assert_eq!(met(list.concat(), 0, 8).0, sorts);
+    }
+
     #[test]
-    fn accepted_lists_are_told_apart() {
-        let none = |kind: u8| encode(kind, &NONE, u16::from(kind == 5));
-        let cases: [(Vec<Vec<u8>>, &[Sort]); 11] = [
-            (vec![], &[Sort::Empty]),
-            (vec![of(1, 0)], &[Sort::Single]),
-            (
-                vec![of(3, 0), of(3, 0)],
-                &[Sort::Together, Sort::ReadsTogether],
-            ),
-            (vec![of(4, 0), of(3, 0)], &[Sort::Apart]),
-            (
-                vec![of(4, 0), of(1, 0), of(3, 4096)],
-                &[Sort::Between, Sort::Back, Sort::Passing, Sort::Modulo4096],
-            ),
-            (
-                vec![of(3, 0), none(5), of(3, 4093)],
-                &[
-                    Sort::Apart,
-                    Sort::Change,
-                    Sort::BesideKey0,
-                    Sort::Modulo4093,
-                ],
-            ),
-            (
-                vec![of(3, 1), none(6), none(5)],
-                &[Sort::Apart, Sort::Checkpoint],
-            ),
-            (
-                vec![of(4, 1); 4096],
-                &[Sort::Apart, Sort::PastAByte, Sort::Most, Sort::MostApart],
-            ),
-            (
-                [vec![of(4, 1)], vec![of(3, 2); 4094], vec![of(4, 1)]].concat(),
-                &[Sort::Between, Sort::Most, Sort::EndToEnd],
-            ),
-            (
-                [vec![none(6)], vec![of(4, 2)], vec![of(3, 1); 4094]].concat(),
-                &[Sort::Between, Sort::Most, Sort::EndToEnd, Sort::AllBehind],
-            ),
-            (
-                [vec![of(4, 2); 2], vec![of(3, 1); 2048], vec![none(5)]].concat(),
-                &[Sort::Between, Sort::FarBehind, Sort::Back],
-            ),
+    fn short_lists_are_told_apart() {
+        assert_met(&[], &[Sort::Empty]);
+        assert_met(&[of(1, 0)], &[Sort::Single]);
+        let sorts = [Sort::Together, Sort::ReadsTogether];
+        assert_met(&[of(3, 0), of(3, 0)], &sorts);
+        assert_met(&[of(4, 0), of(3, 0)], &[Sort::Apart]);
+        let sorts = [Sort::Between, Sort::Back, Sort::Passing, Sort::Modulo4096];
+        assert_met(&[of(4, 0), of(1, 0), of(3, 4096)], &sorts);
+        let sorts = [
+            Sort::Apart,
+            Sort::Change,
+            Sort::BesideKey0,
+            Sort::Modulo4093,
         ];
-        for (list, sorts) in cases {
-            assert_eq!(met(list.concat(), 0, 8).0, sorts);
-        }
+        assert_met(&[of(3, 0), none(5), of(3, 4093)], &sorts);
+        let sorts = [Sort::Apart, Sort::Checkpoint];
+        assert_met(&[of(3, 1), none(6), none(5)], &sorts);
+    }
+
+    #[test]
+    fn long_lists_are_told_apart() {
+        let list = [vec![of(3, 1)], vec![of(3, 2); 4095]].concat();
+        let sorts = [Sort::Together, Sort::Most, Sort::MostTogether];
+        assert_met(&list, &sorts);
+        let sorts = [Sort::Apart, Sort::PastAByte, Sort::Most, Sort::MostApart];
+        assert_met(&vec![of(4, 1); 4096], &sorts);
+        let list = [vec![of(4, 1)], vec![of(3, 2); 4094], vec![of(4, 1)]].concat();
+        let sorts = [Sort::Between, Sort::Most, Sort::EndToEnd];
+        assert_met(&list, &sorts);
+        let list = [vec![none(6)], vec![of(4, 2)], vec![of(3, 1); 4094]].concat();
+        let sorts = [Sort::Between, Sort::Most, Sort::EndToEnd, Sort::AllBehind];
+        assert_met(&list, &sorts);
+        let list = [vec![of(4, 2); 2], vec![of(3, 1); 2048], vec![none(5)]].concat();
+        let sorts = [Sort::Between, Sort::FarBehind, Sort::Back];
+        assert_met(&list, &sorts);
     }
 
     #[test]

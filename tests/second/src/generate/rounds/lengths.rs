@@ -97,7 +97,7 @@ fn too_many(random: &mut Random) -> Vec<Plan> {
     plans
 }
 
-/// Lengths of the two lent lists, first the right ones; one is as many rounds as two bytes tell.
+/// Lengths of the two lent lists, first the right ones; at last for as many commands as two bytes tell.
 fn lent(right: usize) -> impl Iterator<Item = (usize, usize)> {
     let lengths = [
         right,
