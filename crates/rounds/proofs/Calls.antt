@@ -11,7 +11,7 @@ use Rattle.command.specs.Read.{ListOutcome, allAccepted, listRefused, firstRefu
 use Rattle.command.proofs.Tests.{cond-cases, cond-same}
 use Rattle.command.proofs.Laws.{refused-begins-inside}
 use Rattle.rounds.specs.Rounds.{roundsOf, roundCount}
-use Rattle.rounds.proofs.Promise.{not-found}
+use Rattle.rounds.proofs.Promise.{found-so}
 use Rattle.rounds.specs.Calls.{Outcome, found, refused, refusalIn, foundIn, roundsOn, leftBy}
 
 module _ (commands : List ℕ) (lent : ℕ) where
@@ -52,12 +52,7 @@ refused-is commands r e = rw (← e)
 
 -- a list that has its rounds was lent one entry a command
 pub found-lent : (commands : List ℕ) (lent : ℕ) (rounds : List ℕ) (n : ℕ) → roundsOn commands lent ≡ found rounds n → (lent ≡ length commands / 16) × (lent ≤ 4096)
-unfolding roundsOn
-found-lent commands lent rounds n =
-    let P : Outcome → Type 0 = λ o. o ≡ found rounds n → (lent ≡ length commands / 16) × (lent ≤ 4096) in
-    cond-cases P (eqb (length commands % 16) 0) (λ _. cond-cases P (leb (length commands / 16) 4096) (λ few. cond-cases P (eqb lent (length commands / 16))
-    (λ long _. let same = eqb-true lent (length commands / 16) long in (same, omega (arith, same, leb-true (length commands / 16) 4096 few)))
-    (λ _ e. absurd (not-found e))) (λ _ e. absurd (not-found e))) (λ _ e. absurd (not-found e))
+found-lent commands lent rounds n e = let f = found-so commands lent rounds n e in (f .long, omega (arith, f .long, f .few))
 
 -- more entries than any list of commands asks for are one too many
 pub too-many : (commands : List ℕ) (lent : ℕ) → 4097 ≤ lent → roundsOn commands lent ≡ roundsOn commands 4097

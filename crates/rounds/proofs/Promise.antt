@@ -7,7 +7,7 @@ use mathlib.Core.Logic.{_⊎_, inl, inr}
 use mathlib.Core.Option.{Option, none, some}
 use native.Mathlib.Nat.{not-suc-le-zero}
 use native.Mathlib.Omega.{arith}
-use borrow.Author.Tests.{eqb-true, eqb-false, eq-eqb, ne-eqb}
+use borrow.Author.Tests.{eqb-true, eqb-false, eq-eqb, ne-eqb, leb-true}
 use lib.Dec.{eqb, leb}
 use lib.ListN.{length, getD, getElem?, length-append, List·getD-append}
 use Rattle.s10.specs.Refusal.{Refusal}
@@ -17,7 +17,7 @@ use Rattle.command.specs.Read.{ListOutcome, allAccepted, listRefused, firstRefu
 use Rattle.command.proofs.Tests.{cond-cases}
 use Rattle.rounds.specs.Rounds.{largestRound, roundsAfter, roundsOf, largestOf, roundCount}
 use Rattle.rounds.specs.Calls.{Outcome, found, refused, foundIn, roundsOn}
-use Rattle.rounds.specs.Promise.{Keeps, Needed, RoundsAreNeeded, RoundsOverCalls}
+use Rattle.rounds.specs.Promise.{Keeps, RoundsAreNeeded, RoundsOverCalls}
 
 -- ---- one more at the end of a list
 
@@ -387,18 +387,35 @@ rounds-are-needed cs = record {
 -- ---- over calls
 
 -- an outcome that has its rounds has those of the list
-pub of-list : (o : ListOutcome) (commands rounds : List ℕ) (n : ℕ) → foundIn o commands ≡ found rounds n → (roundsOf (commandsIn commands) ≡ rounds) × (roundCount (commandsIn commands) ≡ n)
+of-list : (o : ListOutcome) (commands rounds : List ℕ) (n : ℕ) → foundIn o commands ≡ found rounds n → (roundsOf (commandsIn commands) ≡ rounds) × (roundCount (commandsIn commands) ≡ n)
 unfolding foundIn
 of-list allAccepted commands rounds n e = (cc, cc)
 of-list (listRefused r) commands rounds n e = absurd (let z : _≡_ {A = ℕ} 0 1 = cc in omega arith)
 
-pub not-found : {r : Refusal} {rounds : List ℕ} {n : ℕ} → refused r ≡ found rounds n → ⊥
+not-found : {r : Refusal} {rounds : List ℕ} {n : ℕ} → refused r ≡ found rounds n → ⊥
 not-found e = let z : _≡_ {A = ℕ} 0 1 = cc in omega arith
 
-pub rounds-over-calls : RoundsOverCalls
+-- what a list that has its rounds was tested for, and what they are
+pub record Found (commands : List ℕ) (lent : ℕ) (rounds : List ℕ) (n : ℕ) : Type 0 where
+  pub whole : length commands % 16 ≡ 0
+  pub few : length commands / 16 ≤ 4096
+  pub long : lent ≡ length commands / 16
+  pub rounds-are : roundsOf (commandsIn commands) ≡ rounds
+  pub count-is : roundCount (commandsIn commands) ≡ n
+
+pub found-so : (commands : List ℕ) (lent : ℕ) (rounds : List ℕ) (n : ℕ) → roundsOn commands lent ≡ found rounds n → Found commands lent rounds n
 unfolding roundsOn
-rounds-over-calls commands lent rounds n =
-    let P : Outcome → Type 0 = λ o. o ≡ found rounds n → Needed (commandsIn commands) rounds n in
-    cond-cases P (eqb (length commands % 16) 0) (λ _. cond-cases P (leb (length commands / 16) 4096) (λ _. cond-cases P (eqb lent (length commands / 16))
-    (λ _ e. let is = of-list (firstRefusal 1 (readings commands)) commands rounds n e in rw (← is .0, ← is .1) (rounds-are-needed (commandsIn commands)))
+found-so commands lent rounds n =
+    let P : Outcome → Type 0 = λ o. o ≡ found rounds n → Found commands lent rounds n in
+    cond-cases P (eqb (length commands % 16) 0) (λ whole. cond-cases P (leb (length commands / 16) 4096) (λ few. cond-cases P (eqb lent (length commands / 16))
+    (λ long e. let is = of-list (firstRefusal 1 (readings commands)) commands rounds n e in record {
+      whole = eqb-true (length commands % 16) 0 whole;
+      few = leb-true (length commands / 16) 4096 few;
+      long = eqb-true lent (length commands / 16) long;
+      rounds-are = is .0;
+      count-is = is .1;
+    })
     (λ _ e. absurd (not-found e))) (λ _ e. absurd (not-found e))) (λ _ e. absurd (not-found e))
+
+pub rounds-over-calls : RoundsOverCalls
+rounds-over-calls commands lent rounds n e = let f = found-so commands lent rounds n e in rw (← f .rounds-are, ← f .count-is) (rounds-are-needed (commandsIn commands))

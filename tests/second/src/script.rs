@@ -40,7 +40,7 @@ impl List {
         List::Rounds,
         List::Out,
     ];
-    /// Those that are handed back to a dealing, all but the last five.
+    /// Those that are handed back with a schedule, all but the last five.
     pub const HANDED: [List; 6] = {
         let [handed @ .., _, _, _, _, _] = List::ALL;
         handed
