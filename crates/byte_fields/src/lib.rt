@@ -1,4 +1,6 @@
 // Numbers as bytes, the high byte first: read at an offset of a list, and written there.
+#![tactic(auto)]
+
 ghost use Rattle.std.specs.Prelude.{◌≡◌, ◌+◌, ◌≤◌, length};
 ghost use Rattle.byte_fields.specs.Bytes.{bytes_of, number_at, pasted};
 

@@ -1,4 +1,6 @@
 // The dispatcher's choice: which thread steps next, of the threads and of the few parts of the graph that it goes by.
+#![tactic(auto)]
+
 ghost use Rattle.std.specs.Prelude.{◌≡◌, false, ℕ, suc, ◌≤◌, get_or};
 ghost use Rattle.model.specs.declared.Thread.TheVariants.{Idle};
 ghost use Rattle.model.specs.Dispatch.{rank, foremost, goes_on};
@@ -9,7 +11,7 @@ use model::Thread;
 use node_set::Node;
 
 // What comes next: a step of a thread, or none where it is not going; settled once no other thread may be at work.
-#[derive(Drop)]
+#[derive(Clone, Copy)]
 pub struct Plan {
     pub going: bool,
     pub settled: bool,

@@ -1,4 +1,6 @@
 // A command of 16 bytes: kind, identifier and chute.
+#![tactic(auto)]
+
 ghost use Rattle.std.specs.Prelude.{◌≡◌, ℕ, ◌+◌, ◌*◌, ◌≤◌, min, max, cond, ◌&&◌, leb};
 ghost use Rattle.s10.specs.Text.{untested_key};
 ghost use Rattle.s10.specs.Outcome.{accepted};
@@ -10,10 +12,10 @@ ghost use Rattle.command.specs.Count.{count_after, largest_count};
 use s10::{Character, Identifier};
 
 // A command's place in the list, from 1 ("delivery place" of document 01); 0 is none.
-#[derive(Drop)]
+#[derive(Clone, Copy)]
 pub struct Seq(pub usize);
 
-#[derive(Drop)]
+#[derive(Clone, Copy)]
 pub enum Kind {
     Insert,
     Delete,
@@ -26,13 +28,13 @@ pub enum Kind {
 }
 
 // What the number of a kind stands for.
-#[derive(Drop)]
+#[derive(Clone, Copy)]
 pub enum AnyKind {
     Known(Kind),
     Unknown,
 }
 
-#[derive(Drop)]
+#[derive(Clone, Copy)]
 pub struct Command {
     pub kind: Kind,
     pub key: u64,
@@ -40,7 +42,7 @@ pub struct Command {
 }
 
 // Why a command is refused.
-#[derive(Drop)]
+#[derive(Clone, Copy)]
 pub enum Reason {
     UnknownKind,
     WrongIdentifier(s10::Reason),
@@ -51,14 +53,14 @@ pub enum Reason {
 }
 
 // What reading the identifier of a command finds.
-#[derive(Drop)]
+#[derive(Clone, Copy)]
 enum Named {
     Key(u64),
     Refused(Reason),
 }
 
 // What reading one command finds.
-#[derive(Drop)]
+#[derive(Clone, Copy)]
 pub enum Reading {
     Read(Command),
     Refused(Reason),
@@ -66,7 +68,7 @@ pub enum Reading {
 
 // What reading a list of commands finds: every command read, with the largest worker count that they set, 0 for none; or the
 // first that was refused.
-#[derive(Drop)]
+#[derive(Clone, Copy)]
 pub enum ListReading {
     AllRead(usize),
     RefusedAt(Seq, Reason),

@@ -18,7 +18,7 @@ use Rattle.model.specs.Image.{image_length, seq_in}
 use Rattle.model.specs.Step.{opened, steps}
 use Rattle.model.specs.Statement.{Accepted, wrote, serial_answer}
 use Rattle.model.specs.Checkpoint.{resumed, Resumes}
-use Rattle.model.specs.Proof.Checkpoint.{restart}
+use Rattle.model.proofs.Checkpoint.{restart}
 use Rattle.state_bytes.specs.Layout.{Lists, lists_of, lengths_fit, image_fits}
 use Rattle.state_bytes.specs.Outcome.{accepted}
 use Rattle.opening.specs.Calls.{image_from, source_long, source_chained, source_fits, first_entries, opened_with, open_on, setup_of}

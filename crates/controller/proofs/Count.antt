@@ -11,7 +11,7 @@ use Rattle.model.specs.Step.{State, opened, step, steps}
 use Rattle.model.specs.Statement.{Accepted, wrote}
 use Rattle.model.specs.Count as Model
 use Rattle.model.specs.Count.{node_of, with_limit}
-use Rattle.model.specs.Proof.Count.{count_is_kept}
+use Rattle.model.proofs.Count.{count_is_kept}
 use Rattle.state_bytes.specs.Layout.{Lists, state_in}
 use Rattle.controller.specs.Demand3.{lists_after, schedules}
 use Rattle.controller.specs.Count.{CountKept, CountIsKeptOverCalls}

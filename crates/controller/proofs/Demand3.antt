@@ -15,13 +15,13 @@ use Rattle.model.specs.Setup.{Setup, without_entries}
 use Rattle.model.specs.Step.{State, opened, steps}
 use Rattle.model.specs.Statement.{Accepted, all_within, Holds}
 use Rattle.model.specs.Serial.{Ascending}
-use Rattle.model.specs.Proof.Service.{entries_ascending, count_within}
-use Rattle.model.specs.Proof.Finish.Schedule.{steps_append, within_append}
-use Rattle.model.specs.Proof.Theorem.{reached, table_at_any_moment, demand_3}
-use Rattle.model.specs.Proof.Entries.{steps_without}
-use Rattle.model.specs.Proof.Formed.{Formed}
-use Rattle.model.specs.Proof.Formed.Keep.{steps_formed}
-use Rattle.model.specs.Proof.Formed.Opening.{opened_formed, accepted_formed}
+use Rattle.model.proofs.Service.{entries_ascending, count_within}
+use Rattle.model.proofs.Finish.Schedule.{steps_append, within_append}
+use Rattle.model.proofs.Theorem.{reached, table_at_any_moment, demand_3}
+use Rattle.model.proofs.Entries.{steps_without}
+use Rattle.model.proofs.Formed.{Formed}
+use Rattle.model.proofs.Formed.Keep.{steps_formed}
+use Rattle.model.proofs.Formed.Opening.{opened_formed, accepted_formed}
 use Rattle.s10.specs.Refusal.{plain}
 use Rattle.command.specs.Read.{commands_in}
 use Rattle.state_bytes.specs.Layout.{Lists, head_bytes, state_bytes, lists_of, setup_in, state_in, ascends, state_fits, handed_back_fit, image_fits}

@@ -12,7 +12,7 @@ use Rattle.model.specs.Setup.{Setup}
 use Rattle.model.specs.Step.{State, opened, command_of, steps}
 use Rattle.model.specs.Statement.{Accepted}
 use Rattle.model.specs.OneTurn as Model
-use Rattle.model.specs.Proof.OneTurn.{reads_in_one_turn}
+use Rattle.model.proofs.OneTurn.{reads_in_one_turn}
 use Rattle.state_bytes.specs.Layout.{Lists, state_in}
 use Rattle.controller.specs.Demand3.{lists_after, schedules}
 use Rattle.controller.specs.OneTurn.{InTurns, ReadsInOneTurnOverCalls}

@@ -9,7 +9,7 @@ use Rattle.command.specs.Read.{commands_in}
 use Rattle.model.specs.Setup.{Setup}
 use Rattle.model.specs.Step.{State, opened, step, steps}
 use Rattle.model.specs.Statement.{Accepted, all_within}
-use Rattle.model.specs.Proof.Finish.Schedule.{steps_append, within_append}
+use Rattle.model.proofs.Finish.Schedule.{steps_append, within_append}
 use Rattle.state_bytes.specs.Layout.{Lists, lists_of, state_in}
 use Rattle.state_bytes.specs.Outcome.{accepted}
 use Rattle.controller.specs.Calls.{advance_on, AfterTurn}

@@ -4,7 +4,7 @@ use mathlib.Core.Path.{refl, sym, ap, subst, ◌∙◌}
 use Rattle.model.specs.Setup.{Setup}
 use Rattle.model.specs.Step.{State}
 use Rattle.model.specs.WaitsFor.{WaitsFor}
-use Rattle.model.specs.Proof.WaitsFor.{waits_only_for_dependent}
+use Rattle.model.proofs.WaitsFor.{waits_only_for_dependent}
 use Rattle.controller.specs.Demand3.{lists_after, schedules}
 use Rattle.controller.specs.WaitsFor.{WaitsOnlyForDependentOverCalls}
 use Rattle.controller.proofs.Demand3.{state_is, opening_and_calls_reach}

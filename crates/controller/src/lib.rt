@@ -1,4 +1,6 @@
 // Advancing: the tests of a handed-back state, then the steps of a schedule.
+#![tactic(auto)]
+
 ghost use Rattle.std.specs.Prelude.{◌≡◌, ◌≤◌};
 ghost use Rattle.state_bytes.specs.Layout.{all_at_entry, all_at_exit};
 ghost use Rattle.state_bytes.specs.Outcome.{refusal_in, kept};
@@ -8,7 +10,7 @@ use runner::run;
 use state_bytes::{LARGEST, image_fits, lengths_fit, state_fits, threads_named};
 
 // What a call on a handed-back state answers.
-#[derive(Drop)]
+#[derive(Clone, Copy)]
 pub enum Advancing {
     Advanced,
     WrongLength,

@@ -7,8 +7,8 @@ use mathlib.Core.List.{List, [], ◌++◌, append_assoc}
 use lib.ListN.{length, get_or}
 use Rattle.model.specs.Store.{Store, lay_out}
 use Rattle.model.specs.Serial.{Entry, serial_answers}
-use Rattle.model.specs.Proof.Service.{serial_length}
-use Rattle.model.specs.Proof.Theorem.{all_serial, none_linked, demand_3}
+use Rattle.model.proofs.Service.{serial_length}
+use Rattle.model.proofs.Theorem.{all_serial, none_linked, demand_3}
 use Rattle.model.specs.Statement.{serial_answer}
 use Rattle.model.specs.Setup.{Setup}
 use Rattle.model.specs.Step.{State}

@@ -1,4 +1,6 @@
 // The program: reads settings, commands and a schedule from standard input, and writes the answers to standard output.
+#![tactic(auto)]
+
 ghost use Rattle.std.specs.Prelude.{◌≤◌, ◌≡◌, length, take};
 ghost use Rattle.io.specs.Counts.{IsPrefixLen};
 ghost use Rattle.depot.specs.Program.{output};

@@ -15,7 +15,7 @@ use Rattle.model.specs.Store.{Store}
 use Rattle.model.specs.Setup.{Setup}
 use Rattle.model.specs.Step.{State, opened, steps}
 use Rattle.model.specs.Statement.{Accepted, all_within, EachCommand}
-use Rattle.model.specs.Proof.Bounds.{reached_keys, reached_answers}
+use Rattle.model.proofs.Bounds.{reached_keys, reached_answers}
 use Rattle.state_bytes.specs.Layout.{Lists, thread_bytes, lists_of, state_in}
 use Rattle.byte_fields.proofs.Bytes.{below_or_past, lies_taken, lies_field, tabulate_length, tabulate_at, tabulate_past}
 use Rattle.state_bytes.proofs.StateParts.{thread_length, part_lies}
@@ -32,7 +32,7 @@ use Rattle.depot_c.specs.Demand3.{answer_to, after_call, bytes_after, ProperByte
 use Rattle.depot_c.proofs.Entries.{bytes_in_length, number_in_bytes, bytes_in_read_back}
 use Rattle.depot_c.proofs.Outcomes.{decoded_whole}
 use Rattle.depot_c.proofs.Accepted.{accepted_answers, opening_accepted, advance_accepted}
-use Rattle.model.specs.Proof.Service.{largest_fits}
+use Rattle.model.proofs.Service.{largest_fits}
 
 -- ---- lists of numbers and their bytes
 

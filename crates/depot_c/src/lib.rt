@@ -1,4 +1,6 @@
 // The depot's calls for C: numbers and byte lists in, the proved call, bytes out.
+#![tactic(auto)]
+
 mod advance_call;
 mod answer;
 mod dispatch_calls;
@@ -10,7 +12,7 @@ mod panel_calls;
 mod rounds_call;
 
 // Which of the panel's reports is asked for.
-#[derive(Drop)]
+#[derive(Clone, Copy)]
 pub enum Wanted {
     PendingCounts,
     WorkerStatus,

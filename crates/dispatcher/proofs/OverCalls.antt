@@ -14,15 +14,15 @@ use Rattle.model.specs.Setup.{Setup, without_entries}
 use Rattle.model.specs.Step.{State, opened, steps}
 use Rattle.model.specs.Statement.{Accepted, all_within, removed}
 use Rattle.model.specs.Dispatch.{commands_left, steps_needed, dispatched}
-use Rattle.model.specs.Proof.Dispatching.{dispatched_few, dispatched_within, dispatcher_finishes}
-use Rattle.model.specs.Proof.Entries.{needed_without, dispatched_without}
+use Rattle.model.proofs.Dispatching.{dispatched_few, dispatched_within, dispatcher_finishes}
+use Rattle.model.proofs.Entries.{needed_without, dispatched_without}
 use Rattle.state_bytes.specs.Layout.{Lists, lists_of, setup_in, state_in, state_fits, handed_back_fit, image_fits}
 use Rattle.state_bytes.specs.Outcome.{accepted}
 use Rattle.opening.proofs.Accepted.{accepted_opening, passed as call_passed}
 use Rattle.controller.specs.Calls.{advance_on}
 use Rattle.controller.specs.Demand3.{call_on}
-use Rattle.model.specs.Proof.Formed.Opening.{accepted_formed}
-use Rattle.model.specs.Proof.Finish.Schedule.{within_append}
+use Rattle.model.proofs.Formed.Opening.{accepted_formed}
+use Rattle.model.proofs.Finish.Schedule.{within_append}
 use Rattle.state_bytes.proofs.Passed.{state_passed}
 use Rattle.state_bytes.proofs.RoundTrip.{lists_state, setup_read_back}
 use Rattle.controller.proofs.Answer.{accepts}

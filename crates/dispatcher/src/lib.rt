@@ -1,4 +1,6 @@
 // The dispatcher: the tests of a handed-back state and of the list that is lent for the schedule, then the steps that it chooses.
+#![tactic(auto)]
+
 ghost use Rattle.std.specs.Prelude.{◌≡◌, cond, not, ℕ, suc, ◌+◌, ◌-◌, ◌*◌, ◌≤◌, length, eqb};
 ghost use Rattle.node_set.specs.Members.{count_below};
 ghost use Rattle.byte_fields.specs.Bytes.{number_at};
@@ -10,7 +12,7 @@ use runner::run;
 use state_bytes::{COUNT, LARGEST, LOADED, SEQ, SIZE, image_fits, lengths_fit, state_fits};
 
 // How many steps may be needed, or why it cannot be told.
-#[derive(Drop)]
+#[derive(Clone, Copy)]
 pub enum Needing {
     Needed(usize),
     WrongLength,
@@ -18,7 +20,7 @@ pub enum Needing {
 }
 
 // What dispatching answers: how many steps were made, or the refusal.
-#[derive(Drop)]
+#[derive(Clone, Copy)]
 pub enum Dispatching {
     Dispatched(usize),
     WrongLength,

@@ -10,7 +10,7 @@ use lib.Seq.{get_or-set_same, get_or-set_other}
 use Rattle.node_set.specs.Members.{member}
 use Rattle.model.specs.Upd.{upd}
 use Rattle.model.specs.Graph.{no_node}
-use Rattle.model.specs.Proof.Upd.{upd_at, upd_other, upd_cases, upd_map}
+use Rattle.model.proofs.Upd.{upd_at, upd_other, upd_cases, upd_map}
 use Rattle.command.proofs.Tests.{eqb_cases}
 use Rattle.graph.specs.Arrays.{numbers, sets, Nodes}
 

@@ -14,7 +14,7 @@ use Rattle.command.specs.Read.{parts, parts_of, command_in, commands_in}
 use Rattle.command.proofs.Laws.{length_parts_of}
 use Rattle.model.specs.Upd.{upd}
 use Rattle.model.specs.Setup.{command_at}
-use Rattle.model.specs.Proof.Upd.{upd_at, upd_other}
+use Rattle.model.proofs.Upd.{upd_at, upd_other}
 use Rattle.command.proofs.Tests.{eqb_cases}
 use Rattle.graph.specs.Arrays.{numbers}
 use Rattle.graph.specs.Items.{kept_at, Kept}

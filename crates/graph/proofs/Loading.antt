@@ -13,7 +13,7 @@ use Rattle.model.specs.Upd.{upd}
 use Rattle.model.specs.Setup.{both_dependent}
 use Rattle.model.specs.Graph.{Graph, graph_of, set_locked, set_executing, set_next, set_waits}
 use Rattle.model.specs.Step.{node, command_of, move_to, step_on, link, add_dependence, loader_walk}
-use Rattle.model.specs.Proof.Upd.{upd_at, upd_other, upd_id}
+use Rattle.model.proofs.Upd.{upd_at, upd_other, upd_id}
 use Rattle.command.proofs.Tests.{eqb_cases}
 use Rattle.graph.specs.Arrays.{numbers, flags, sets, Linked}
 use Rattle.graph.specs.Items.{kept_at}

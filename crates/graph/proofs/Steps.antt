@@ -14,7 +14,7 @@ use Rattle.model.specs.declared.Thread.TheVariants.{Idle, Searching, Holding, Wa
 use Rattle.model.specs.Upd.{upd}
 use Rattle.model.specs.Graph.{set_locked, set_executing, set_next, set_seq, set_free, set_waits}
 use Rattle.model.specs.Step.{State, node, move_to, step_on, enter, leave, ready, examine, searching, bypass, walking, return, clearing}
-use Rattle.model.specs.Proof.Upd.{upd_id}
+use Rattle.model.proofs.Upd.{upd_id}
 use Rattle.graph.specs.Arrays.{numbers, flags, sets, PutBack, Entered, Searches, Walks, ClearsOn}
 use Rattle.graph.proofs.Bridge.{value}
 

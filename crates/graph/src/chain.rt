@@ -106,7 +106,7 @@ pub fn walk(next: &mut [u8; 151], locked: &mut [bool; 151], at: Node, own: Node)
 }
 
 // What a clearing worker's step leaves: its thread and the first free node.
-#[derive(Drop)]
+#[derive(Clone, Copy)]
 pub struct Cleared {
     pub thread: Thread,
     pub free: Node,

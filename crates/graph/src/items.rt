@@ -9,7 +9,7 @@ use command::{AnyKind, Command, Kind, Seq};
 use node_set::Node;
 
 // The command of a node, if it has one.
-#[derive(Drop)]
+#[derive(Clone, Copy)]
 pub enum Item {
     Nothing,
     Of(Command),

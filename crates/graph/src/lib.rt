@@ -1,4 +1,6 @@
 // The kinds of step on the graph's arrays, the store and the answers.
+#![tactic(auto)]
+
 mod arrays;
 mod chain;
 mod fill;

@@ -44,7 +44,7 @@ pub fn in_one_step(item: Item) -> bool
 }
 
 // What a write answers, and the count in use after it.
-#[derive(Drop)]
+#[derive(Clone, Copy)]
 pub struct Written {
     pub answer: u16,
     pub used: usize,

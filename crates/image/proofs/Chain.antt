@@ -8,7 +8,7 @@ use mathlib.Core.List.{List, [], ◌∷◌, map}
 use borrow.Author.Tests.{le-leb, lt-leb, lt-ltb, le-ltb, ne_eqb}
 use lib.Dec.{leb}
 use Rattle.model.specs.Image.{next_in, key_in, chain_from, chain_in, all, strictly_ascend, chain_fits}
-use Rattle.model.specs.Proof.ImageChain.{chain_zero}
+use Rattle.model.proofs.ImageChain.{chain_zero}
 
 -- keys behind the last one that was met, where n were
 unfoldable pub behind : ℕ → ℕ → List ℕ → List ℕ

@@ -15,8 +15,8 @@ use Rattle.byte_fields.proofs.Bytes.{tabulate_elements}
 use Rattle.byte_fields.proofs.Fill.{Filled, filled_none, filled_more, filled_all}
 use Rattle.model.specs.Store.{lay_out}
 use Rattle.model.specs.Image.{image_length, next_in, chute_in, key_in, chain_from, chain_in, all, strictly_ascend, chain_fits, head_fits, slot_fits, slots_fit, entries_in}
-use Rattle.model.specs.Proof.ImageChain.{chain_zero}
-use Rattle.model.specs.Proof.ImageLaws.{chain_ends}
+use Rattle.model.proofs.ImageChain.{chain_zero}
+use Rattle.model.proofs.ImageLaws.{chain_ends}
 use Rattle.store.specs.Lists.{store_of}
 use Rattle.image.proofs.Chain.{chain_met}
 

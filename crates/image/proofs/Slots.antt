@@ -12,7 +12,7 @@ use Rattle.byte_fields.proofs.Fill.{number_two, number_more}
 use Rattle.byte_fields.proofs.Paste.{put_none, put_more, put_fields, put_whole}
 use Rattle.model.specs.Store.{Store, in_use}
 use Rattle.model.specs.Image.{image_length, slot_bytes, next_index, slot_of, image_of, rest_in}
-use Rattle.model.specs.Proof.Image.{slot_length}
+use Rattle.model.proofs.Image.{slot_length}
 
 -- ---- written
 

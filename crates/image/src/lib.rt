@@ -1,4 +1,6 @@
 // The image of the store: written at a checkpoint, tested and read when a run is opened from it.
+#![tactic(auto)]
+
 ghost use Rattle.std.specs.Prelude.{◌≡◌, true, ◌+◌, ◌*◌, ◌≤◌, length, eqb};
 ghost use Rattle.byte_fields.specs.Bytes.{pasted};
 ghost use Rattle.model.specs.Store.{lay_out};

@@ -1,4 +1,6 @@
 // The last of some keys that equals one, found along links between the keys of a bucket.
+#![tactic(auto)]
+
 ghost use Rattle.std.specs.Prelude.{◌≡◌, ℕ, suc, ◌≤◌, ◌<◌, length, get_or, set};
 ghost use Rattle.key_links.specs.Links.{bucket_of, last_in, last_of, Linked, Indexed};
 

@@ -15,4 +15,3 @@ pub mod OneTurn
 pub mod WaitsFor
 pub mod Count
 pub mod Checkpoint
-pub mod Proof

@@ -1,10 +1,12 @@
 // The set of nodes that a node waits for: three 64-bit words, taken and returned by value. A set has the nodes 0 to 191;
 // a larger number is never a member.
+#![tactic(auto)]
+
 ghost use Rattle.std.specs.Prelude.{◌≡◌, Bool, false, not, ◌&&◌, ◌||◌, ℕ, ◌-◌, ◌^◌, eqb, ltb};
 ghost use Rattle.node_set.specs.Members.{member, none_below, count_below, none_above};
 
 // A node of the graph, by its number ("record number" of document 01). Node 0 is the head.
-#[derive(Drop)]
+#[derive(Clone, Copy)]
 pub struct Node(pub u8);
 
 // The set with no member.

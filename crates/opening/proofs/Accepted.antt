@@ -16,7 +16,7 @@ use Rattle.model.specs.Serial.{Stored}
 use Rattle.model.specs.Setup.{Setup, command_at}
 use Rattle.model.specs.Step.{opened}
 use Rattle.model.specs.Statement.{Accepted}
-use Rattle.model.specs.Proof.ImageLaws.{accepted_is_stored}
+use Rattle.model.proofs.ImageLaws.{accepted_is_stored}
 use Rattle.graph.proofs.Commands.{commands_length}
 use Rattle.state_bytes.specs.Layout.{Lists, lists_of, lengths_fit, image_fits}
 use Rattle.state_bytes.specs.Outcome as Call

@@ -1,4 +1,6 @@
 // Opening: the tests in order, then the opening state, the store empty or with an image's entries, and lists of zeros.
+#![tactic(auto)]
+
 ghost use Rattle.std.specs.Prelude.{◌≡◌, true, ◌&&◌, ℕ, ◌≤◌, max, length, get_or, replicate, eqb, leb};
 ghost use Rattle.command.specs.Count.{largest_count};
 ghost use Rattle.command.specs.Read.{commands_in, list_outcome};
@@ -22,7 +24,7 @@ use node_set::Node;
 use state_bytes::{STATE_LENGTH, Settings, write_state};
 
 // Why an opening is refused.
-#[derive(Drop)]
+#[derive(Clone, Copy)]
 pub enum Reason {
     WrongGraphSize,
     WrongWorkers,
@@ -36,7 +38,7 @@ pub enum Reason {
 }
 
 // What opening answers.
-#[derive(Drop)]
+#[derive(Clone, Copy)]
 pub enum Opening {
     Opened,
     Refused(Reason),
@@ -44,7 +46,7 @@ pub enum Opening {
 
 // What the tests of an opening find: all passed, with the largest worker count of the opening and the list, or the first
 // refusal.
-#[derive(Drop)]
+#[derive(Clone, Copy)]
 enum Tested {
     Passed(u64),
     Refused(Reason),

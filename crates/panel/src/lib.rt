@@ -1,4 +1,6 @@
 // What a caller can ask of a state between calls: the panel's two reports, and the answers from a place on.
+#![tactic(auto)]
+
 mod pending;
 mod places;
 mod status;
@@ -10,7 +12,7 @@ pub use places::answers_from;
 pub use status::{worker_status, worker_status_bytes};
 
 // What a report answers.
-#[derive(Drop)]
+#[derive(Clone, Copy)]
 pub enum Report {
     Reported,
     WrongLength,
@@ -18,7 +20,7 @@ pub enum Report {
 }
 
 // A worker's state, document 01's turns of parties 1 and up.
-#[derive(Drop)]
+#[derive(Clone, Copy)]
 pub enum WorkerState {
     Idle,
     Searching,
@@ -30,7 +32,7 @@ pub enum WorkerState {
 }
 
 // What the panel shows of a worker (document 01's standing): its state, and its own node, 0 for none.
-#[derive(Drop)]
+#[derive(Clone, Copy)]
 pub struct WorkerStatus {
     pub state: WorkerState,
     pub own: Node,

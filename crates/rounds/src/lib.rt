@@ -1,4 +1,6 @@
 // The rounds of a list of commands: how far more workers could help.
+#![tactic(auto)]
+
 ghost use Rattle.std.specs.Prelude.{◌≡◌, cond, ℕ, suc, max, ◌%◌, ◌/◌, ◌≤◌, ◌<◌, length, get_or, take, List, [], ◌∷◌, ◌++◌};
 ghost use Rattle.command.specs.declared.Command.{Command};
 ghost use Rattle.command.specs.Read.{first_refusal, readings, commands_in};
@@ -11,7 +13,7 @@ ghost use Rattle.rounds.specs.Links.{bucket_of, last_in, last_of, at_link, Linke
 use command::{Command, Kind, Reading, Seq};
 
 // Why a list is refused.
-#[derive(Drop)]
+#[derive(Clone, Copy)]
 pub enum Reason {
     WrongListLength,
     TooManyCommands,
@@ -20,7 +22,7 @@ pub enum Reason {
 }
 
 // What the call answers: how many rounds there are, or why the list is refused.
-#[derive(Drop)]
+#[derive(Clone, Copy)]
 pub enum Finding {
     Found(u16),
     Refused(Reason),
@@ -113,7 +115,7 @@ const MOST: usize = 4096;
 const BUCKETS: u64 = 4093;
 
 // The largest rounds so far: of all commands, of those for no item, and of inserts and deletes.
-#[derive(Drop)]
+#[derive(Clone, Copy)]
 struct Largest {
     top: u16,
     fence: u16,
@@ -246,7 +248,7 @@ fn new_links() -> [u16; 4096]
 }
 
 // What giving every command its round finds: how many rounds there are, or the first command that was refused.
-#[derive(Drop)]
+#[derive(Clone, Copy)]
 enum Numbered {
     Count(u16),
     RefusedAt(Seq, command::Reason),

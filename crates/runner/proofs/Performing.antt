@@ -18,9 +18,9 @@ use Rattle.model.specs.Step.{State, step, steps}
 use Rattle.model.specs.Dispatch.{Next, step_of, fresh, following, goes_on, steps_from}
 use Rattle.model.specs.Statement.{all_within}
 use Rattle.command.proofs.Tests.{true_false, eqb_cases}
-use Rattle.model.specs.Proof.Upd.{upd_at, upd_other}
-use Rattle.model.specs.Proof.Finish.Schedule.{steps_append}
-use Rattle.model.specs.Proof.Finish.Ends.{steps_none}
+use Rattle.model.proofs.Upd.{upd_at, upd_other}
+use Rattle.model.proofs.Finish.Schedule.{steps_append}
+use Rattle.model.proofs.Finish.Ends.{steps_none}
 use Rattle.model.specs.declared.Counters.{Counters}
 use Rattle.graph.specs.Arrays.{NodesWithin}
 use Rattle.command.specs.Read.{commands_in}

@@ -1,5 +1,7 @@
 // The steps of a handed-back state: its bytes read into arrays, the steps of a schedule, or those that the dispatcher chooses, made on
 // these, and the bytes written again.
+#![tactic(auto)]
+
 ghost use Rattle.std.specs.Prelude.{◌≡◌, ◌≤◌, length};
 ghost use Rattle.choice.specs.declared.Plan.{Plan};
 ghost use Rattle.graph.specs.Memory.{memory};

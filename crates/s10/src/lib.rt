@@ -1,19 +1,21 @@
 // The postal item identifier (UPU S10): from text to key and back.
+#![tactic(auto)]
+
 ghost use Rattle.std.specs.Prelude.{◌≡◌, ◌+◌, ◌-◌, ◌*◌, ◌%◌, ◌≤◌, ◌<◌, ◌&&◌, leb, length};
 ghost use Rattle.s10.specs.Text.{asks_digit, is_allowed, first_fault, weighted, weights, excepted, check_digit, decimal_number, character_sum, least_sum, untested_key, letters, digits, largest_key, text_of};
 ghost use Rattle.s10.specs.Parts.{Serial, values, characters, serial_text};
 ghost use Rattle.s10.specs.Outcome.{refusal_for, fault_at, text_outcome, read_text, number, write_number, write_text};
 
 // An identifier, by its key.
-#[derive(Drop)]
+#[derive(Clone, Copy)]
 pub struct Identifier(pub u64);
 
 // A character's place in a text, from 1.
-#[derive(Drop)]
+#[derive(Clone, Copy)]
 pub struct Character(pub u8);
 
 // Why a text is refused; a wrong letter or digit is the first faulty character.
-#[derive(Drop)]
+#[derive(Clone, Copy)]
 pub enum Reason {
     WrongLength,
     WrongLetter(Character),
@@ -22,14 +24,14 @@ pub enum Reason {
 }
 
 // What reading a text finds.
-#[derive(Drop)]
+#[derive(Clone, Copy)]
 pub enum Reading {
     Key(u64),
     Refused(Reason),
 }
 
 // What writing a key does.
-#[derive(Drop)]
+#[derive(Clone, Copy)]
 pub enum Writing {
     Written,
     WrongLength,

@@ -7,7 +7,7 @@ use Rattle.command.specs.declared.Command.{Command}
 use Rattle.command.specs.Dependent.{are_dependent}
 use Rattle.command.proofs.Laws.{dependence_is_symmetric}
 use Rattle.model.specs.Serial.{Entry, serve, answers_after, entries_after, serial_answers, serial_entries}
-use Rattle.model.specs.Proof.Commute.{effect_of, reply_of, service_commutes}
+use Rattle.model.proofs.Commute.{effect_of, reply_of, service_commutes}
 use Rattle.same_work.specs.Exchange.{Exchange, ExchangedIn, SameWork}
 use Rattle.same_work.specs.Test.{is_equal, is_same_work}
 use Rattle.same_work.specs.Promise.{answers_to, SameAnswersAndTable}

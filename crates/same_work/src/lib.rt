@@ -1,4 +1,6 @@
 // Whether two lists of commands are one day's work.
+#![tactic(auto)]
+
 ghost use Rattle.std.specs.Prelude.{◌≡◌, Bool, true, false, cond, List, [], ◌∷◌, ◌++◌, ◌⊎◌, ℕ, suc, ◌*◌, ◌%◌, ◌/◌, ◌≤◌, ◌<◌, length, get_or};
 ghost use Rattle.std.proofs.Math.Option.{Option, some};
 ghost use Rattle.command.specs.declared.Command.{Command};
@@ -16,7 +18,7 @@ use command::{Command, Kind, Reading, Seq};
 use key_links::{enter as enter_key, find as find_key, new_keys, new_links};
 
 // Why a list is refused.
-#[derive(Drop)]
+#[derive(Clone, Copy)]
 pub enum Reason {
     WrongListLength,
     TooManyCommands,
@@ -24,7 +26,7 @@ pub enum Reason {
 }
 
 // What the call answers: whether the lists are the same work, or why one of them is refused.
-#[derive(Drop)]
+#[derive(Clone, Copy)]
 pub enum Comparing {
     Same,
     Other,
@@ -136,7 +138,7 @@ const MOST: usize = 4096;
 const NO_ITEM: u64 = 45_697_600_000_000;
 
 // The first places that are left: of a command for no item, and of an insert or delete; and one below which none is left.
-#[derive(Drop)]
+#[derive(Clone, Copy)]
 struct Fronts {
     fence: u16,
     writer: u16,
@@ -144,21 +146,21 @@ struct Fronts {
 }
 
 // What taking a command out of those that are left comes to.
-#[derive(Drop)]
+#[derive(Clone, Copy)]
 enum Taking {
     Taken(Fronts),
     Not,
 }
 
 // What loading the first list comes to.
-#[derive(Drop)]
+#[derive(Clone, Copy)]
 enum Loading {
     All,
     RefusedAt(Seq, command::Reason),
 }
 
 // What taking the commands of the second list out comes to: whether the lists are the same work.
-#[derive(Drop)]
+#[derive(Clone, Copy)]
 enum Matched {
     All(bool),
     RefusedAt(Seq, command::Reason),

@@ -14,8 +14,8 @@ use Rattle.model.specs.declared.Thread.{Thread}
 use Rattle.model.specs.declared.Thread.TheVariants.{Idle, Loading, Searching, Holding, LookedUp, Written, Walking, Clearing}
 use Rattle.model.specs.Setup.{Setup, without_entries}
 use Rattle.model.specs.Step.{State}
-use Rattle.model.specs.Proof.Chain.Invariant.{is_loader, is_worker}
-use Rattle.model.specs.Proof.Formed.{ThreadFormed, SetupFormed, Formed}
+use Rattle.model.proofs.Chain.Invariant.{is_loader, is_worker}
+use Rattle.model.proofs.Formed.{ThreadFormed, SetupFormed, Formed}
 use Rattle.command.specs.Read.{commands_in}
 use Rattle.byte_fields.specs.Bytes.{bytes_of, number_at, tabulate, fields, all_below}
 use Rattle.state_bytes.specs.Layout.{lock_coupled, head_fits, Lists, flag_byte, set_bytes, thread_bytes, state_bytes, lists_of, thread_at, set_at, setup_in, count_in, state_in, state_length, settings_fit, thread_fits, thread_fits_at, set_fits, node_fits_at, ascends, state_fits, lengths_fit, handed_back_fit, image_fits}

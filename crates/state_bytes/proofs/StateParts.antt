@@ -13,7 +13,7 @@ use Rattle.model.specs.declared.Thread.{Thread}
 use Rattle.model.specs.declared.Thread.TheVariants.{Idle, Loading, Searching, Holding, LookedUp, Written, Walking, Clearing}
 use Rattle.model.specs.Setup.{Setup}
 use Rattle.model.specs.Step.{State}
-use Rattle.model.specs.Proof.Formed.{ThreadFormed}
+use Rattle.model.proofs.Formed.{ThreadFormed}
 use Rattle.byte_fields.specs.Bytes.{bytes_of, fields}
 use Rattle.state_bytes.specs.Layout.{lock_coupled, flag_byte, set_bytes, thread_bytes, head_bytes, state_bytes, thread_of}
 use Rattle.byte_fields.proofs.Bytes.{◌▸◌, bytes_length, Lies, HaveLengths, joined, total, lies_part, lies_whole, joined_length, fields_length, below_or_past}

@@ -1,4 +1,6 @@
 // The state's bytes: where each field stands, read, written and tested on a state that is handed back.
+#![tactic(auto)]
+
 mod fits;
 mod layout;
 mod read;
@@ -15,7 +17,7 @@ pub use read::{
 pub use write::write_state;
 
 // What an opening fixes, as numbers.
-#[derive(Drop)]
+#[derive(Clone, Copy)]
 pub struct Settings {
     pub size: u8,
     pub workers: u8,

@@ -16,7 +16,7 @@ use byte_fields::put_number;
 use model::{Counters, Thread};
 
 // A thread as numbers: its state's, where it stands, its own node, what it found; 0 where its state has none.
-#[derive(Drop)]
+#[derive(Clone, Copy)]
 struct Parts(u8, u8, u8, u16);
 
 // Writes bytes from an offset on.

@@ -11,7 +11,7 @@ use Rattle.model.specs.Store.{Store, room, in_use, place_among, key_place, holds
 use Rattle.store.specs.declared.Found.{Found}
 use Rattle.store.specs.Lists.{store_of}
 use Rattle.store.specs.Find.{Finds}
-use Rattle.model.specs.Proof.Formed.Store.{held_in_use}
+use Rattle.model.proofs.Formed.Store.{held_in_use}
 
 -- Steps that go as the definitions do find what the definitions say: each result is put for the one before.
 pub finds : (key : ℕ) (st : Store) (found : Found) → found.in_use ≡ in_use st → found.at ≡ place_among found.in_use st.keys key

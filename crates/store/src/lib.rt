@@ -1,5 +1,7 @@
 // The sorted store on two lists that the caller lends, with the count of places in use. Each function is defined for any
 // contents and any count.
+#![tactic(auto)]
+
 ghost use Rattle.std.specs.Prelude.{◌≡◌, cond, ◌&&◌, min, ◌+◌, ◌-◌, ◌*◌, ◌/◌, ◌<◌, ◌≤◌, length, get_or, ltb, eqb};
 ghost use Rattle.model.specs.Store.{in_use, look_up, insert as inserted, remove as removed, replace as replaced};
 ghost use Rattle.model.specs.Store.{place_among, shift_up, shift_down};
@@ -8,7 +10,7 @@ ghost use Rattle.store.specs.Find.{Finds, Leads};
 
 // What the search for a key finds: how many places are in use, where the key stands, or belongs where it is absent, and
 // whether it stands there.
-#[derive(Drop)]
+#[derive(Clone, Copy)]
 struct Found {
     in_use: usize,
     at: usize,
@@ -31,7 +33,7 @@ pub fn in_use(keys: &[u64], chutes: &[u16], used: usize) -> usize
 }
 
 // The places left to a search: so many, from one on.
-#[derive(Drop)]
+#[derive(Clone, Copy)]
 struct Left {
     from: usize,
     size: usize,

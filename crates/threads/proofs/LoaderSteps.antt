@@ -19,7 +19,7 @@ use Rattle.model.specs.Upd.{upd}
 use Rattle.model.specs.Setup.{Setup, command_at}
 use Rattle.model.specs.Graph.{set_locked, set_loaded, set_seq, set_next, set_free}
 use Rattle.model.specs.Step.{State, node, step, loader_step, loader_idle, load, move_to}
-use Rattle.model.specs.Proof.Upd.{upd_id}
+use Rattle.model.proofs.Upd.{upd_id}
 use Rattle.graph.specs.Arrays.{numbers, flags, Nodes, NodesWithin, Loaded}
 use Rattle.graph.specs.Items.{kept_at}
 use Rattle.graph.specs.Memory.{Memory, shown, Ready, Steps, LoaderWalks}

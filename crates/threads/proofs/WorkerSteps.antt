@@ -22,7 +22,7 @@ use Rattle.model.specs.Graph.{set_seq, set_free, set_next, set_executing, set_lo
 use Rattle.model.specs.Service.{found_for, in_one_step}
 use Rattle.model.specs.Step.{State, node, is_allowed, idle, step, worker_step, move_to, serve_to, enter, command_of, holding, looked_up, return, clearing, step_on}
 use Rattle.command.proofs.Tests.{true_false}
-use Rattle.model.specs.Proof.Upd.{upd_id, upd_same}
+use Rattle.model.proofs.Upd.{upd_id, upd_same}
 use Rattle.store.specs.Lists.{store_of}
 use Rattle.graph.specs.Arrays.{numbers, flags, Nodes, NodesWithin, Shows, Entered, Searches, Walks, ClearsOn}
 use Rattle.command.specs.Read.{commands_in}

@@ -1,4 +1,6 @@
 // A thread's step: which kind of step on the graph's arrays its state asks for. Together they are the model's `step`.
+#![tactic(auto)]
+
 ghost use Rattle.std.specs.Prelude.{◌≡◌, length, leb};
 ghost use Rattle.model.specs.Image.{image_length};
 ghost use Rattle.graph.specs.Memory.{Ready, Steps, memory};
@@ -11,7 +13,7 @@ use model::{Counters, Thread};
 use worker_thread::worker_step;
 
 // A thread after its step, with the counters.
-#[derive(Drop)]
+#[derive(Clone, Copy)]
 pub struct Stepped {
     pub thread: Thread,
     pub counters: Counters,

@@ -13,7 +13,7 @@ use Rattle.model.specs.declared.Thread.TheVariants.{Idle}
 use Rattle.model.specs.Setup.{Setup}
 use Rattle.model.specs.Step.{State}
 use Rattle.model.specs.Dispatch as Dispatch
-use Rattle.model.specs.Proof.Finish.Foremost.{foremost_within}
+use Rattle.model.proofs.Finish.Foremost.{foremost_within}
 use Rattle.graph.specs.Arrays.{numbers}
 use Rattle.choice.proofs.look_around.Statement.{statement}
 use Rattle.choice.proofs.look_around.Tie as tie

@@ -10,7 +10,7 @@ use Rattle.byte_fields.specs.Bytes.{pasted}
 use Rattle.byte_fields.proofs.Paste.{pasted_length, PutFields, fields_none, fields_put, fields_all, fields_put_length}
 use Rattle.model.specs.Store.{Store}
 use Rattle.model.specs.Image.{image_length, slot_of}
-use Rattle.model.specs.Proof.Image.{slot_length}
+use Rattle.model.proofs.Image.{slot_length}
 use Rattle.store.specs.Lists.{store_of}
 use Rattle.image.proofs.Slots.{slot_entry, slot_zeros, image_put}
 use Rattle.image.proofs.write_image.Statement.{statement}

@@ -3,7 +3,7 @@ use native.Mathlib.Omega.{arith}
 use Prim.Native.Nat.{ℕ}
 use mathlib.Core.Path.{◌≡◌, refl, sym, ap, ◌∙◌}
 use borrow.Author.Rules.{rules}
-use Rattle.model.specs.Proof.Service.{largest_fits}
+use Rattle.model.proofs.Service.{largest_fits}
 use Rattle.model.specs.Setup.{Setup}
 use Rattle.state_bytes.specs.Layout.{Lists, all_lists, state_length}
 use Rattle.opening.specs.Calls.{Source, source_long, source_chained, setup_of}

@@ -9,7 +9,7 @@ use borrow.Author.Tests.{ne_eqb, eq-eqb}
 use lib.ListN.{length, get_or}
 use lib.Dec.{ltb}
 use Rattle.model.specs.Store.{halve, place_among}
-use Rattle.model.specs.Proof.Formed.Store.{place_within}
+use Rattle.model.proofs.Formed.Store.{place_within}
 use Rattle.store.specs.declared.Left.{Left}
 use Rattle.store.specs.Find.{Leads}
 use Rattle.store.proofs.Halve.{halve_rest, leads_trans}
