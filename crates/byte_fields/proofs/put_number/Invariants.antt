@@ -1,0 +1,10 @@
+-- `byte_fields::put_number` meets its contract. The loop's invariant: the bytes from k on are put. Assumes nothing.
+use native.Mathlib.Omega.{arith}
+use Rattle.byte_fields.proofs.Paste.{PutBytes, bytes_none, bytes_more, bytes_all, bytes_put_length}
+use Rattle.byte_fields.proofs.put_number.Given as goal
+
+abbrev pub invariant-loop-k : goal.invariant-loop-k
+invariant-loop-k l = PutBytes l.at l.width l.n l.initial.list l.list l.rest l.k
+
+abbrev pub decreases-loop-k : goal.decreases-loop-k
+decreases-loop-k l = l.k

@@ -1,0 +1,34 @@
+-- `Kind::of` meets its contract: each arm answers the definition's kind. Assumes nothing.
+use borrow.Author.Tests.{ne_eqb}
+use Rattle.command.specs.Read.{kind_of}
+use Rattle.command.proofs.Kind.of.Goals as goal
+
+pub returns-in-1 : goal.returns-in-1
+unfolding kind_of
+returns-in-1 c = simp c.in-1.is
+
+pub returns-in-2 : goal.returns-in-2
+unfolding kind_of
+returns-in-2 c = simp c.in-2.is
+
+pub returns-in-3 : goal.returns-in-3
+unfolding kind_of
+returns-in-3 c = simp c.in-3.is
+
+pub returns-in-4 : goal.returns-in-4
+unfolding kind_of
+returns-in-4 c = simp c.in-4.is
+
+pub returns-in-5 : goal.returns-in-5
+unfolding kind_of
+returns-in-5 c = simp c.in-5.is
+
+pub returns-in-6 : goal.returns-in-6
+unfolding kind_of
+returns-in-6 c = simp c.in-6.is
+
+pub returns-in_default : goal.returns-in_default
+unfolding kind_of
+returns-in_default c =
+    let r = c.in_default.rest in
+    simp (ne_eqb _ _ r.0.0.0.0.0.1, ne_eqb _ _ r.0.0.0.0.1, ne_eqb _ _ r.0.0.0.1, ne_eqb _ _ r.0.0.1, ne_eqb _ _ r.0.1, ne_eqb _ _ r.1)

@@ -1,0 +1,85 @@
+-- `depot_c::dispatch_calls::depot_steps_needed` meets its contract: lists that end within a number or are too long are refused, others are lent
+-- rooms, and the number is put into the count. Assumes nothing.
+use Prim.Native.Nat.{ℕ, ◌*◌, ◌/◌, ◌≤◌}
+use mathlib.Core.List.{[]}
+use mathlib.Core.Path.{◌≡◌, refl, sym, ap, ◌∙◌}
+use mathlib.Core.Bool.{true, false, cond}
+use lib.ListN.{length}
+use lib.Seq.{length-take-le}
+use borrow.Author.Rules.{rules}
+use borrow.Author.Tests.{eq-eqb, ne_eqb, not-true, not-false}
+use Rattle.state_bytes.specs.Layout.{Lists, lists, handed_back_fit}
+use Rattle.dispatcher.specs.Calls.{needed_on, count_needed}
+use Rattle.depot_c.specs.Boundary.{are_whole, decoded, number_lists}
+use Rattle.depot_c.proofs.Outcomes.{of_entries, decoded_none, decoded_whole, whole_lengths, room_bounds}
+use Rattle.depot_c.proofs.Dispatched.{nonzero, uncounted, put_count, nothing_needed, long_needed, needed_short, needed_told}
+use Rattle.depot_c.proofs.dispatch_calls.depot_steps_needed.Goals as goal
+
+pub returns-then-count-ne-KEY : goal.returns-then-count-ne-KEY
+returns-then-count-ne-KEY c =
+    let args = c.args in
+    let l = decoded ((lists c.args.state.now c.args.keys.now c.args.chutes.now c.args.answers.now)) in
+    needed_short (needed_on l args.commands.now) (count_needed l args.commands.now) args.count.now (ne_eqb _ _ c.if-count-ne-KEY.true)
+
+pub returns-then-not-are_whole : goal.returns-then-not-are_whole
+returns-then-not-are_whole c =
+    let args = c.args in
+    let b = (lists c.args.state.now c.args.keys.now c.args.chutes.now c.args.answers.now) in
+    let none = decoded_none b (sym c.are_whole.ensures ∙ not-true _ c.if-not-are_whole.true-raw) in
+    let turns = count_needed (decoded b) args.commands.now in
+    let six = ap (λ (l : Lists). needed_on l args.commands.now) none ∙ nothing_needed args.commands.now in
+    needed_told turns args.count.now (eq-eqb _ _ c.if-count-ne-KEY.false) (sym six) (uncounted turns args.count.now (nonzero false refl))
+
+pub returns-then-not-have_room : goal.returns-then-not-have_room
+returns-then-not-have_room c =
+    let args = c.args in
+    let b = (lists c.args.state.now c.args.keys.now c.args.chutes.now c.args.answers.now) in
+    let turns = count_needed (decoded b) args.commands.now in
+    let answer = of_entries args.state.now args.keys.now args.chutes.now args.answers.now [] args.commands.now
+    {P = λ l list. c.long_answer.result ≡ cond (handed_back_fit l list) 12 6} (λ l list s a k h n _. c.long_answer.ensures l list s a k h n) in
+    let long = long_needed b args.commands.now (sym c.have_room.ensures ∙ not-true _ c.if-not-have_room.true-raw) in
+    let same = ap (λ (l : Lists). needed_on l args.commands.now) (sym (decoded_whole b ((sym c.are_whole.ensures ∙ not-false _ c.if-not-are_whole.false-raw)))) in
+    needed_told turns args.count.now (eq-eqb _ _ c.if-count-ne-KEY.left) (answer ∙ long ∙ same) (uncounted turns args.count.now (nonzero (handed_back_fit (number_lists b) args.commands.now) answer))
+
+pub slice_bounds-key_room-end : goal.slice_bounds-key_room-end
+slice_bounds-key_room-end c = ((room_bounds _ _ _ (sym c.have_room.ensures ∙ not-false _ c.if-not-have_room.false-raw))).0
+
+pub slice_bounds-needed_within-end : goal.slice_bounds-needed_within-end
+slice_bounds-needed_within-end c = sym (length-take-le _ _ ((room_bounds _ _ _ (sym c.have_room.ensures ∙ not-false _ c.if-not-have_room.false-raw))).0)
+
+pub slice_bounds-chute_room-end : goal.slice_bounds-chute_room-end
+slice_bounds-chute_room-end c = ((room_bounds _ _ _ (sym c.have_room.ensures ∙ not-false _ c.if-not-have_room.false-raw))).1
+
+pub slice_bounds-needed_within-end-2 : goal.slice_bounds-needed_within-end-2
+slice_bounds-needed_within-end-2 c = sym (length-take-le _ _ ((room_bounds _ _ _ (sym c.have_room.ensures ∙ not-false _ c.if-not-have_room.false-raw))).1)
+
+pub slice_bounds-answer_room-end : goal.slice_bounds-answer_room-end
+slice_bounds-answer_room-end c = ((room_bounds _ _ _ (sym c.have_room.ensures ∙ not-false _ c.if-not-have_room.false-raw))).2
+
+pub slice_bounds-needed_within-end-3 : goal.slice_bounds-needed_within-end-3
+slice_bounds-needed_within-end-3 c = sym (length-take-le _ _ ((room_bounds _ _ _ (sym c.have_room.ensures ∙ not-false _ c.if-not-have_room.false-raw))).2)
+
+pub needed_within-needing-requires : goal.needed_within-needing-requires
+needed_within-needing-requires c =
+    let fit = (room_bounds _ _ _ (sym c.have_room.ensures ∙ not-false _ c.if-not-have_room.false-raw)) in
+    let long = whole_lengths _ _ _ ((sym c.are_whole.ensures ∙ not-false _ c.if-not-are_whole.false-raw)) in
+    record {
+      keys_fit = long.0 ∙ ap (λ (m : ℕ). 8 * m) (sym (length-take-le _ _ fit.0));
+      chutes_fit = long.1 ∙ ap (λ (m : ℕ). 2 * m) (sym (length-take-le _ _ fit.1));
+      answers_fit = long.2 ∙ ap (λ (m : ℕ). 2 * m) (sym (length-take-le _ _ fit.2));
+    }
+
+pub returns-then-answer-eq0 : goal.returns-then-answer-eq0
+returns-then-answer-eq0 c =
+    let args = c.args in
+    let b = (lists c.args.state.now c.args.keys.now c.args.chutes.now c.args.answers.now) in
+    let is = c.count.ensures ∙ c.needed_within-needing.ensures.counted
+    ∙ ap (λ (l : Lists). count_needed l args.commands.now) (sym (decoded_whole b ((sym c.are_whole.ensures ∙ not-false _ c.if-not-are_whole.false-raw)))) in
+    let put = put_count args.count.now c.if-answer-eq0.true c.if-count-ne-KEY.left c.put_number.ensures is in
+    needed_told (count_needed (decoded b) args.commands.now) args.count.now (eq-eqb _ _ c.if-count-ne-KEY.left) ((c.number-answer.ensures.0 ∙ c.needed_within-needing.ensures.number ∙ ap (λ (l : Lists). needed_on l c.args.commands.now) (sym (decoded_whole ((lists c.args.state.now c.args.keys.now c.args.chutes.now c.args.answers.now)) ((sym c.are_whole.ensures ∙ not-false _ c.if-not-are_whole.false-raw)))))) put
+
+pub returns-else-answer-eq0 : goal.returns-else-answer-eq0
+returns-else-answer-eq0 c =
+    let args = c.args in
+    let turns = count_needed (decoded ((lists c.args.state.now c.args.keys.now c.args.chutes.now c.args.answers.now))) args.commands.now in
+    needed_told turns args.count.now (eq-eqb _ _ c.if-count-ne-KEY.left) ((c.number-answer.ensures.0 ∙ c.needed_within-needing.ensures.number ∙ ap (λ (l : Lists). needed_on l c.args.commands.now) (sym (decoded_whole ((lists c.args.state.now c.args.keys.now c.args.chutes.now c.args.answers.now)) ((sym c.are_whole.ensures ∙ not-false _ c.if-not-are_whole.false-raw)))))) (uncounted turns args.count.now c.if-answer-eq0.false)

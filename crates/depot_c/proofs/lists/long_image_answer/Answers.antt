@@ -1,0 +1,18 @@
+-- `depot_c::lists::long_image_answer` meets its contract: the tests are the definition's. Assumes nothing.
+use mathlib.Core.Path.{◌∙◌}
+use borrow.Author.Rules.{rules}
+use borrow.Author.Tests.{not-true, not-false}
+use Rattle.depot_c.proofs.lists.long_image_answer.Goals as goal
+
+pub returns-then-not-lengths_fit : goal.returns-then-not-lengths_fit
+returns-then-not-lengths_fit c = rw (c.lengths_fit.ensures l list state answers keys chutes commands ∙ not-true _ c.if-not-lengths_fit.true-raw)
+
+pub returns-then-image_fits : goal.returns-then-image_fits
+returns-then-image_fits c =
+    let fit = c.lengths_fit.ensures l list state answers keys chutes commands ∙ not-false _ c.if-not-lengths_fit.false-raw in
+    rw (fit, c.image_fits.ensures l list state image fit, c.if-image_fits.true)
+
+pub returns-else-image_fits : goal.returns-else-image_fits
+returns-else-image_fits c =
+    let fit = c.lengths_fit.ensures l list state answers keys chutes commands ∙ not-false _ c.if-not-lengths_fit.false-raw in
+    rw (fit, c.image_fits.ensures l list state image fit, c.if-image_fits.false)

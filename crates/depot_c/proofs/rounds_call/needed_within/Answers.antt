@@ -1,0 +1,45 @@
+-- `depot_c::rounds_call::needed_within` meets its contract: what was found in the room is written into the lists. Assumes nothing.
+use Prim.Native.Nat.{ℕ, ◌*◌}
+use mathlib.Core.Path.{◌≡◌, sym, ap, ◌∙◌}
+use mathlib.Core.List.{List}
+use native.Mathlib.Omega.{arith}
+use lib.ListN.{length}
+use borrow.Author.Rules.{rules}
+use Rattle.byte_fields.specs.Bytes.{bytes_of}
+use Rattle.byte_fields.proofs.Bytes.{bytes_length}
+use Rattle.byte_fields.proofs.Paste.{pasted_whole}
+use Rattle.rounds.specs.declared.Finding.{Finding}
+use Rattle.rounds.specs.declared.Finding.TheVariants.{Refused}
+use Rattle.rounds.specs.declared.Reason.{Reason}
+use Rattle.rounds.specs.Calls.{found, refused, finding_refusal, answer_of, rounds_on}
+use Rattle.depot_c.proofs.RoundsLent.{told_found, found_in_order, told_refused, refused_place}
+use Rattle.depot_c.proofs.rounds_call.needed_within.Goals as goal
+
+refused_as : (x : Finding) (reason : Reason) (room : List ℕ) → x ≡ Refused reason → refused (finding_refusal x) ≡ answer_of x room
+refused_as x reason room e = rw e
+
+pub write_shorts-requires : goal.write_shorts-requires
+write_shorts-requires c =
+    ((let a = c.args in found_in_order a.commands.now a.rounds.now a.count.now a.room.now c.requires _ _ ((sym (ap (λ (x : Finding). answer_of x c.find-finding.last.1.0) c.finding.given.1) ∙ c.find-finding.ensures.answer)))).0 ∙ ap (λ (n : ℕ). 2 * n) (sym c.find-finding.auto.1.0)
+
+pub put_number-requires : goal.put_number-requires
+put_number-requires c = omega (arith, ((let a = c.args in found_in_order a.commands.now a.rounds.now a.count.now a.room.now c.requires _ _ ((sym (ap (λ (x : Finding). answer_of x c.find-finding.last.1.0) c.finding.given.1) ∙ c.find-finding.ensures.answer)))).1)
+
+pub finding_answer-requires : goal.finding_answer-requires
+finding_answer-requires c =
+    let a = c.args in
+    refused_place a.commands.now a.rounds.now a.count.now a.room.now c.requires _ ((refused_as c.find-finding.result _ c.find-finding.last.1.0 c.in-Refused.is ∙ c.find-finding.ensures.answer))
+
+pub returns-in-Found : goal.returns-in-Found
+returns-in-Found c =
+    let a = c.args in
+    let n = c.finding.given.0.0 in
+    let told = told_found a.commands.now a.rounds.now a.count.now a.room.now c.requires _ n ((sym (ap (λ (x : Finding). answer_of x c.find-finding.last.1.0) c.finding.given.1) ∙ c.find-finding.ensures.answer)) in
+    let put = c.put_number.ensures ∙ pasted_whole (bytes_of 8 n) a.count.now (bytes_length 8 n ∙ sym ((let a = c.args in found_in_order a.commands.now a.rounds.now a.count.now a.room.now c.requires _ _ ((sym (ap (λ (x : Finding). answer_of x c.find-finding.last.1.0) c.finding.given.1) ∙ c.find-finding.ensures.answer)))).1) in
+    (told.0, (c.write_shorts.ensures ∙ told.1, put ∙ told.2))
+
+pub returns-in-Refused : goal.returns-in-Refused
+returns-in-Refused c =
+    let a = c.args in
+    let told = told_refused a.commands.now a.rounds.now a.count.now a.room.now c.requires _ ((refused_as c.find-finding.result _ c.find-finding.last.1.0 c.in-Refused.is ∙ c.find-finding.ensures.answer)) in
+    (c.finding_answer.ensures ∙ told.0, (told.1, told.2))

@@ -1,0 +1,71 @@
+-- `dispatcher::needed` meets its contract: the parts of the bound are read, and their product is small. Assumes nothing.
+use Prim.Native.Nat.{ℕ, ◌+◌, ◌-◌, ◌*◌, ◌≤◌}
+use native.Mathlib.Nat.{mul-le-mul}
+use native.Mathlib.Omega.{arith}
+use mathlib.Core.Path.{◌≡◌, sym, ap₂, ◌∙◌}
+use lib.ListN.{get_or}
+use borrow.Author.Rules.{rules}
+use Rattle.byte_fields.specs.Bytes.{number_at}
+use Rattle.byte_fields.proofs.Fill.{number_one}
+use Rattle.state_bytes.specs.Layout.{state_length}
+use Rattle.dispatcher.proofs.Bound.{needed_in}
+use Rattle.dispatcher.proofs.needed.Goals as goal
+
+-- a product of numbers so small fits
+product_fits : (a b : ℕ) → a ≤ 65750 → b ≤ 456 → a * b ≤ 29982000
+product_fits a b h k = mul-le-mul {n₁ = a} {m₁ = b} {n₂ = 65750} {m₂ = 456} h k
+
+pub bounds-state-1 : goal.bounds-state-1
+unfolding state_length
+bounds-state-1 c = omega arith
+
+pub overflow_cast-size : goal.overflow_cast-size
+overflow_cast-size c = omega (arith, c.shared_slice_known-2-1.given 1)
+
+pub bounds-state-3 : goal.bounds-state-3
+unfolding state_length
+bounds-state-3 c = omega arith
+
+pub overflow_cast-largest : goal.overflow_cast-largest
+overflow_cast-largest c = omega (arith, c.shared_slice_known-3-1.given 3)
+
+pub number_at-requires : goal.number_at-requires
+unfolding state_length
+number_at-requires c = omega arith
+
+pub number_at-requires-2 : goal.number_at-requires-2
+unfolding state_length
+number_at-requires-2 c = omega arith
+
+pub used_nodes-used-requires : goal.used_nodes-used-requires
+used_nodes-used-requires c =
+    (c.requires.0, omega (arith, (number_one 1 c.args.state.now (omega arith)), c.requires))
+
+pub overflow_add-result-2 : goal.overflow_add-result-2
+overflow_add-result-2 c = omega (arith, (number_one 3 c.args.state.now (omega arith)), c.requires)
+
+pub overflow_mul-result : goal.overflow_mul-result
+overflow_mul-result c = omega (arith, (number_one 1 c.args.state.now (omega arith)), c.requires)
+
+pub overflow_add-result-3 : goal.overflow_add-result-3
+overflow_add-result-3 c = omega (arith, (number_one 1 c.args.state.now (omega arith)), c.requires)
+
+pub overflow_mul-result-2 : goal.overflow_mul-result-2
+overflow_mul-result-2 c =
+    let size = get_or c.args.state.now 1 0 in
+    let largest = get_or c.args.state.now 3 0 in
+    let few : size ≤ 150 = omega (arith, (number_one 1 c.args.state.now (omega arith)), c.requires) in
+    let workers : largest ≤ 64 = omega (arith, (number_one 3 c.args.state.now (omega arith)), c.requires) in
+    omega (arith, product_fits (c.not_loaded-left.result + c.used_nodes-used.result + largest) (3 * size + 6) (omega arith) (omega arith))
+
+pub returns : goal.returns
+returns c =
+    let count = c.number_at.ensures in
+    let loaded = c.number_at-2.ensures in
+    needed_in (record {
+      left_is = c.not_loaded-left.ensures.0 ∙ ap₂ ◌-◌ count loaded;
+      used_is = c.used_nodes-used.ensures.0;
+      size_is = sym ((number_one 1 c.args.state.now (omega arith)));
+      size_fits = omega (arith, (number_one 1 c.args.state.now (omega arith)), c.requires);
+      largest_is = sym ((number_one 3 c.args.state.now (omega arith)));
+    })

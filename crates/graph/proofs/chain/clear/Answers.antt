@@ -1,0 +1,54 @@
+-- `graph::chain::clear` meets its contract: each return is one of the cases of clearing. The next index is one of a node, so that it is
+-- within every array. Assumes nothing.
+use native.Mathlib.Omega.{arith}
+use mathlib.Core.Path.{refl}
+use borrow.Author.Rules.{rules}
+use Rattle.graph.proofs.Bridge.{nodes_stored, removed_is_upd}
+use Rattle.graph.proofs.Steps.{clear_returns, clear_waits, clear_steps}
+use Rattle.graph.proofs.chain.clear.Goals as goal
+
+pub overflow_cast-n : goal.overflow_cast-n
+overflow_cast-n c = omega (arith, c.requires.0 c.args.at.0)
+
+pub returns-then-n-eq0 : goal.returns-then-n-eq0
+returns-then-n-eq0 c =
+    let a = c.args in
+    let left = c.put_back.new in (
+      (
+        tt,
+        c.requires.2,
+        nodes_stored a.next.now left.0 a.own.0 a.free.0 c.requires.0 c.requires.3 c.put_back.ensures.next_is,
+      ),
+      clear_returns a.at a.own a.free.0 a.next.now a.seq.now a.executing.now a.locked.now a.waits.now _ refl left.0 left.1.0 left.1.1.0 c.set_flag.last.0 left.1.1.1.0 left.1.1.1.1.0
+          c.if-n-eq0.taken c.set_flag.ensures c.put_back.ensures,
+    )
+
+pub bounds-locked-n : goal.bounds-locked-n
+bounds-locked-n c = omega (arith, c.requires.0 c.args.at.0)
+
+pub returns-then-locked-n : goal.returns-then-locked-n
+returns-then-locked-n c =
+    let a = c.args in (
+      ((c.requires.1, c.requires.2), c.requires.3, c.requires.0),
+      clear_waits a.at a.own a.free.0 a.next.now a.seq.now a.executing.now a.locked.now a.waits.now _ refl c.if-n-eq0.false c.if-locked-n.true,
+    )
+
+pub step_on-requires : goal.step_on-requires
+step_on-requires c = omega (arith, c.requires.0 c.args.at.0)
+
+pub offset_bounds-waits-n : goal.offset_bounds-waits-n
+offset_bounds-waits-n c = omega (arith, c.requires.0 c.args.at.0)
+
+pub bounds-waits-n : goal.bounds-waits-n
+bounds-waits-n c = omega (arith, c.requires.0 c.args.at.0)
+
+pub set_waits-requires : goal.set_waits-requires
+set_waits-requires c = omega (arith, c.requires.0 c.args.at.0)
+
+pub returns : goal.returns
+returns c =
+    let a = c.args in (
+      ((c.requires.0 a.at.0, c.requires.2), c.requires.3, c.requires.0),
+      clear_steps a.at a.own a.free.0 a.next.now a.seq.now a.executing.now a.locked.now a.waits.now _ refl c.if-n-eq0.false c.step_on.last.0 c.set_waits.new.0 c.if-locked-n.left
+          c.step_on.ensures (rw (c.set_waits.ensures, removed_is_upd _ _ _ c.remove-set.ensures)),
+    )

@@ -1,0 +1,33 @@
+-- `fill::keep_all` meets its contract. The loop's invariant: the first n nodes have their commands, and the others none. Assumes nothing.
+use Prim.Native.Nat.{◌-◌, ◌<◌}
+use native.Mathlib.Omega.{arith}
+use mathlib.Core.Option.{some}
+use mathlib.Core.Logic.{⊎_elim}
+use borrow.Author.Rules.{rules}
+use Rattle.graph.specs.Arrays.{numbers}
+use Rattle.command.specs.Read.{commands_in}
+use Rattle.graph.proofs.Filled.{KeptBelow, none_kept, kept_without, kept_with, all_kept}
+use Rattle.graph.proofs.fill.keep_all.Goals as goal
+
+pub loop-n-init : goal.loop-n-init
+loop-n-init c = none_kept _ _ _ _ _ c.requires.1
+
+pub overflow_cast-place : goal.overflow_cast-place
+overflow_cast-place c = omega (arith, c.requires.0 c.loop-n.n)
+
+pub command_at-command-requires : goal.command_at-command-requires
+command_at-command-requires c =
+    let fits = c.requires.0 c.loop-n.n in
+    (omega arith, omega arith)
+
+pub loop-n-preserved : goal.loop-n-preserved
+loop-n-preserved c =
+    let pass = c.loop-n in
+    let h : pass.n < 151 = omega arith in
+    ⊎_elim
+    (λ w. rw (w.6, w.7, w.8) (kept_with _ _ pass.inv h _ _ _ (some w.1.result) w.1.ensures w.5.ensures))
+    (λ w. rw (w.1, w.2, w.3) (kept_without _ _ pass.inv h (omega (arith, w.0.left))))
+    c.if-place-gt0.branch
+
+pub returns : goal.returns
+returns c = all_kept _ _ c.loop-n.invariant (omega arith)

@@ -1,0 +1,16 @@
+-- `fill::keep_all` meets its contract. The loop's invariant: the first n nodes have their commands, and the others none. Assumes nothing.
+use Prim.Native.Nat.{◌-◌, ◌<◌}
+use native.Mathlib.Omega.{arith}
+use mathlib.Core.Option.{some}
+use mathlib.Core.Logic.{⊎_elim}
+use borrow.Author.Rules.{rules}
+use Rattle.graph.specs.Arrays.{numbers}
+use Rattle.command.specs.Read.{commands_in}
+use Rattle.graph.proofs.Filled.{KeptBelow, none_kept, kept_without, kept_with, all_kept}
+use Rattle.graph.proofs.fill.keep_all.Given as goal
+
+abbrev pub invariant-loop-n : goal.invariant-loop-n
+invariant-loop-n l = KeptBelow (commands_in l.list) (numbers l.seq) l.kinds l.keys l.chutes l.n
+
+abbrev pub decreases-loop-n : goal.decreases-loop-n
+decreases-loop-n l = 151 - l.n

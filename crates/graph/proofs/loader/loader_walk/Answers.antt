@@ -1,0 +1,42 @@
+-- `loader::loader_walk` meets its contract: each way out is a case of the model's walk. Assumes nothing.
+use Prim.Native.Nat.{◌≤◌}
+use mathlib.Core.Path.{refl}
+use native.Mathlib.Omega.{arith}
+use borrow.Author.Rules.{rules}
+use lib.ListN.{get_or}
+use Rattle.graph.proofs.Bridge.{nodes_stored}
+use Rattle.graph.proofs.Loading.{loader_links, loader_waits, loader_steps}
+use Rattle.graph.proofs.loader.loader_walk.Goals as goal
+
+pub overflow_cast-n : goal.overflow_cast-n
+overflow_cast-n c = omega (arith, (c.requires.0 c.args.at.0))
+
+pub returns-then-y-eq0 : goal.returns-then-y-eq0
+returns-then-y-eq0 c =
+    let a = c.args in (
+      (tt, nodes_stored a.next.now c.link.new.0 a.at.0 a.own.0 c.requires.0 c.requires.2 c.link.ensures.next_is),
+      loader_links a.at a.own a.next.now a.executing.now a.locked.now a.waits.now a.kinds.now a.keys.now a.chutes.now _ refl _ _ _ c.if-y-eq0.taken c.link.ensures,
+    )
+
+pub bounds-locked-n : goal.bounds-locked-n
+bounds-locked-n c = omega (arith, (c.requires.0 c.args.at.0))
+
+pub returns-then-locked-n : goal.returns-then-locked-n
+returns-then-locked-n c =
+    let a = c.args in (
+      ((c.requires.1, c.requires.2), c.requires.0),
+      loader_waits a.at a.own a.next.now a.executing.now a.locked.now a.waits.now a.kinds.now a.keys.now a.chutes.now _ refl c.if-y-eq0.false c.if-locked-n.true,
+    )
+
+pub step_on-requires : goal.step_on-requires
+step_on-requires c = omega (arith, (c.requires.0 c.args.at.0))
+
+pub add_dependence-requires : goal.add_dependence-requires
+add_dependence-requires c = omega (arith, (c.requires.0 c.args.at.0))
+
+pub returns : goal.returns
+returns c =
+    let a = c.args in (
+      (((c.requires.0 c.args.at.0), c.requires.2), c.requires.0),
+      loader_steps a.at a.own a.next.now a.executing.now a.locked.now a.waits.now a.kinds.now a.keys.now a.chutes.now _ refl c.if-y-eq0.false c.step_on.new.0 c.add_dependence.new.0 c.if-locked-n.false c.requires.2 ((c.requires.0 c.args.at.0)) c.step_on.ensures c.add_dependence.ensures,
+    )

@@ -1,0 +1,61 @@
+-- `image::read_image` meets its contract. The loops' invariants: the chain was followed for `used` indexes, whose entries are laid out; and behind
+-- them zeros are. Assumes nothing.
+use Prim.Native.Nat.{◌+◌, ◌*◌, ◌-◌, ◌≤◌}
+use native.Mathlib.Omega.{arith}
+use mathlib.Core.Path.{◌≡◌, refl, sym, ◌∙◌}
+use mathlib.Core.Logic.{⊎_elim}
+use borrow.Author.Tests.{eqb-true, eqb-false, not-true, not-false}
+use lib.ListN.{length}
+use Rattle.model.specs.Image.{image_length, chain_in}
+use Rattle.image.proofs.Reading.{Along, along_begins, along_in_image, along_goes_on, along_ends, along_full, Laid, laid_none, laid_entry, laid_zero, laid_all}
+use Rattle.image.proofs.read_image.Goals as goal
+
+pub next_in-index-requires : goal.next_in-index-requires
+unfolding image_length
+next_in-index-requires c = omega arith
+
+pub loop-used-init : goal.loop-used-init
+loop-used-init c =
+    (along_begins _ _ c.requires.2 c.next_in-index.ensures, laid_none _ refl c.requires.1)
+
+pub key_in-requires : goal.key_in-requires
+key_in-requires c = (along_in_image c.loop-used.invariant.0 c.loop-used-test.true ((eqb-false c.loop-used.index 0 (not-true _ c.if-index-ne0.true-raw))) c.requires.0)
+
+pub chute_in-requires : goal.chute_in-requires
+chute_in-requires c = (along_in_image c.loop-used.invariant.0 c.loop-used-test.true ((eqb-false c.loop-used.index 0 (not-true _ c.if-index-ne0.true-raw))) c.requires.0)
+
+pub next_in-index-requires-in-loop-used : goal.next_in-index-requires-in-loop-used
+unfolding image_length
+next_in-index-requires-in-loop-used c = omega (arith, (along_in_image c.loop-used.invariant.0 c.loop-used-test.true ((eqb-false c.loop-used.index 0 (not-true _ c.if-index-ne0.true-raw))) c.requires.0))
+
+pub loop-used-preserved : goal.loop-used-preserved
+loop-used-preserved c =
+    let inv = c.loop-used.invariant in
+    let met = c.loop-used-test.true in (
+      along_goes_on inv.0 met ((eqb-false c.loop-used.index 0 (not-true _ c.if-index-ne0.true-raw))) c.next_in-index-in-loop-used.ensures,
+      laid_entry inv.1 inv.0 met ((eqb-false c.loop-used.index 0 (not-true _ c.if-index-ne0.true-raw))) c.key_in.ensures c.chute_in.ensures,
+    )
+
+pub loop-k-init : goal.loop-k-init
+loop-k-init c =
+    let inv = c.loop-used.invariant in (
+      ⊎_elim (λ w. along_ends inv.0 (eqb-true _ _ (not-false _ w.1.left))) (λ w. along_full inv.0 w.left) c.loop-used-test.branch,
+      omega arith,
+      inv.1,
+    )
+
+pub loop-k-preserved : goal.loop-k-preserved
+loop-k-preserved c =
+    let inv = c.loop-k.invariant in
+    (inv.0, omega arith, laid_zero inv.2 (omega arith) c.loop-k-test.true)
+
+pub shape_of-keys : goal.shape_of-keys
+shape_of-keys c = c.loop-k.invariant.2.keys_laid.long
+
+pub shape_of-chutes : goal.shape_of-chutes
+shape_of-chutes c = c.loop-k.invariant.2.chutes_laid.long ∙ sym c.requires.1
+
+pub returns : goal.returns
+returns c =
+    let inv = c.loop-k.invariant in
+    laid_all inv.2 inv.0 (omega (arith, inv.2.keys_laid.within)) c.loop-k-test.false

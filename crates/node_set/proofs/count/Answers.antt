@@ -1,0 +1,30 @@
+-- `node_set::count` meets its contract: the set bits of the three words are as many as the members, at most 64 for each word.
+-- Assumes nothing.
+use borrow.Author.Rules.{rules}
+use mathlib.Core.List.{List}
+use mathlib.Core.Path.{ap, sym, ◌∙◌}
+use native.Mathlib.Omega.{arith}
+use Prim.Native.Nat.{ℕ, ◌≤◌}
+use lib.Count.{ones, ones-le}
+use lib.ListN.{get_or}
+use Rattle.node_set.specs.Laws.{NodeSet}
+use Rattle.node_set.specs.Members.{member, count_below}
+use Rattle.node_set.proofs.Laws.{ones_count_members}
+use Rattle.node_set.proofs.Words.{array_is_a_set, three_words}
+use Rattle.node_set.proofs.count.Goals as goal
+
+-- a word has at most 64 set bits
+few_ones : (c : tie.Start) (i : ℕ) → ones (get_or c.args.t1 i 0) ≤ 64
+few_ones c i = ones-le 64 (get_or c.args.t1 i 0) ((words c).ranges i)
+
+pub overflow_add-result : goal.overflow_add-result
+overflow_add-result c = omega (arith, few_ones c 0, few_ones c 1)
+
+pub overflow_add-result-2 : goal.overflow_add-result-2
+overflow_add-result-2 c = omega (arith, few_ones c 0, few_ones c 1, few_ones c 2)
+
+pub returns : goal.returns
+returns c =
+    ones_count_members (get_or c.args.t1 0 0) (get_or c.args.t1 1 0) (get_or c.args.t1 2 0)
+    (((array_is_a_set c.args.t1 (search rules) (λ i. search rules))).ranges 0) (((array_is_a_set c.args.t1 (search rules) (λ i. search rules))).ranges 1) (((array_is_a_set c.args.t1 (search rules) (λ i. search rules))).ranges 2)
+    ∙ ap (λ (s : List ℕ). count_below 192 (member s)) (sym (three_words c.args.t1 ((array_is_a_set c.args.t1 (search rules) (λ i. search rules))).three))

@@ -1,0 +1,34 @@
+-- `node_set::is_within` meets its contract: no member is above the limit exactly if each word has only the places that the limit leaves it. Assumes nothing.
+use borrow.Author.Rules.{rules}
+use borrow.Author.Tests.{not-true, not-false}
+use mathlib.Core.Path.{refl, sym, ◌∙◌}
+use Prim.Native.Nat.{◌+◌}
+use native.Mathlib.Omega.{arith}
+use Rattle.node_set.specs.Laws.{NodeSet}
+use Rattle.node_set.proofs.Words.{array_is_a_set}
+use Rattle.node_set.proofs.Within.{tested_word, word_above, third_word_decides}
+use Rattle.node_set.proofs.is_within.Goals as goal
+
+pub returns-then-not-has_places : goal.returns-then-not-has_places
+returns-then-not-has_places c =
+    let set = c.args.t1 in
+    let limit = c.args.limit in
+    word_above set ((array_is_a_set c.args.t1 (search rules) (λ i. search rules))) limit 0 (omega arith)
+    (tested_word set ((array_is_a_set c.args.t1 (search rules) (λ i. search rules))) limit 0 {places = limit + 1} (omega arith) c.has_places.ensures (not-true _ c.if-not-has_places.true-raw))
+
+pub returns-then-not-has_places-2 : goal.returns-then-not-has_places-2
+returns-then-not-has_places-2 c =
+    let set = c.args.t1 in
+    let limit = c.args.limit in
+    word_above set ((array_is_a_set c.args.t1 (search rules) (λ i. search rules))) limit 1 (omega arith)
+    (tested_word set ((array_is_a_set c.args.t1 (search rules) (λ i. search rules))) limit 1 c.left_after.ensures c.has_places-2.ensures (not-true _ c.if-not-has_places-2.true-raw))
+
+pub returns : goal.returns
+returns c =
+    let set = c.args.t1 in
+    let is = (array_is_a_set c.args.t1 (search rules) (λ i. search rules)) in
+    let limit = c.args.limit in
+    let first = tested_word set is limit 0 {places = limit + 1} (omega arith) c.has_places.ensures (not-false _ c.if-not-has_places.false-raw) in
+    let second = tested_word set is limit 1 c.left_after.ensures c.has_places-2.ensures (not-false _ c.if-not-has_places-2.false-raw) in
+    let third = tested_word set is limit 2 c.left_after-2.ensures c.has_places-3.ensures refl in
+    sym third ∙ third_word_decides set is limit first second

@@ -1,0 +1,93 @@
+-- `opening::answer_for` meets its contract: the tests come in the definition's order, and each answer is the definition's there.
+-- Assumes nothing.
+use mathlib.Core.Path.{◌≡◌, sym, ap, ◌∙◌}
+use mathlib.Core.Bool.{true, ◌&&◌, and-eq-true_iff}
+use mathlib.Core.List.{List}
+use Prim.Native.Nat.{ℕ, ◌/◌, ◌%◌, ◌≤◌, max}
+use native.Mathlib.Omega.{arith}
+use lib.ListN.{length}
+use lib.Dec.{eqb, leb}
+use borrow.Author.Rules.{rules}
+use borrow.Author.Tests.{eq-eqb, ne_eqb, le-leb, lt-leb, leb-true, not-true, not-false}
+use Rattle.command.specs.declared.Command.{Command}
+use Rattle.command.specs.Count.{largest_count}
+use Rattle.command.specs.Read.{ListOutcome}
+use Rattle.command.proofs.Count.{largest_max}
+use Rattle.state_bytes.specs.Layout.{Lists, all_lists, lengths_fit, image_fits}
+use Rattle.opening.specs.Calls.{Source, source_long, source_chained, opened_with, open_on, setup_of}
+use Rattle.opening.specs.Opened.{source_of}
+use Rattle.opening.proofs.Answer.{no_refusal_passes}
+use Rattle.opening.proofs.Tests.{after_five, five_passed, refuses_lengths, refuses_source, refuses_chain, refuses_slot, reads_list}
+use Rattle.opening.proofs.answer_for.Goals as goal
+
+-- the larger of the opening's count and the list's largest is the largest of both
+largest_of_lem : (workers most n : ℕ) (cs : List Command) → n ≡ max workers most → most ≡ largest_count 0 cs → n ≡ largest_count workers cs
+largest_of_lem workers most n cs e f =
+    let zero : max workers 0 ≡ workers = omega arith in
+    e ∙ (ap (max workers) f ∙ (sym (largest_max workers 0 cs) ∙ ap (λ (m : ℕ). largest_count m cs) zero))
+
+pub returns-then-not-is_within : goal.returns-then-not-is_within
+unfolding open_on
+returns-then-not-is_within c = (rw (← c.is_within.ensures, not-true c.is_within.result c.if-not-is_within.true-raw), λ n e. absurd (no_refusal_passes e))
+
+pub returns-then-not-is_within-2 : goal.returns-then-not-is_within-2
+unfolding open_on
+returns-then-not-is_within-2 c = (rw ((sym c.is_within.ensures ∙ not-false _ c.if-not-is_within.false-raw), ← c.is_within-2.ensures, not-true c.is_within-2.result c.if-not-is_within-2.true-raw), λ n e. absurd (no_refusal_passes e))
+
+pub returns-then-not-is_within-3 : goal.returns-then-not-is_within-3
+unfolding open_on
+returns-then-not-is_within-3 c =
+    (rw ((sym c.is_within.ensures ∙ not-false _ c.if-not-is_within.false-raw), (sym c.is_within-2.ensures ∙ not-false _ c.if-not-is_within-2.false-raw), ← c.is_within-3.ensures, not-true c.is_within-3.result c.if-not-is_within-3.true-raw), λ n e. absurd (no_refusal_passes e))
+
+pub returns-then-commands-ne0 : goal.returns-then-commands-ne0
+unfolding open_on
+returns-then-commands-ne0 c =
+    (rw ((sym c.is_within.ensures ∙ not-false _ c.if-not-is_within.false-raw), (sym c.is_within-2.ensures ∙ not-false _ c.if-not-is_within-2.false-raw), (sym c.is_within-3.ensures ∙ not-false _ c.if-not-is_within-3.false-raw), ne_eqb _ _ c.if-commands-ne0.true), λ n e. absurd (no_refusal_passes e))
+
+pub returns-then-count-gt-MOST_COMMANDS : goal.returns-then-count-gt-MOST_COMMANDS
+unfolding open_on
+returns-then-count-gt-MOST_COMMANDS c =
+    (rw ((sym c.is_within.ensures ∙ not-false _ c.if-not-is_within.false-raw), (sym c.is_within-2.ensures ∙ not-false _ c.if-not-is_within-2.false-raw), (sym c.is_within-3.ensures ∙ not-false _ c.if-not-is_within-3.false-raw), (eq-eqb _ _ c.if-commands-ne0.false), lt-leb _ _ c.if-count-gt-MOST_COMMANDS.true), λ n e. absurd (no_refusal_passes e))
+
+pub lengths_fit-requires : goal.lengths_fit-requires
+lengths_fit-requires c = (leb-true _ _ ((and-eq-true_iff (leb 1 c.args.capacity) (leb c.args.capacity 4096)).0 ((sym c.is_within-3.ensures ∙ not-false _ c.if-not-is_within-3.false-raw))).1)
+
+pub returns-then-not-lengths_fit : goal.returns-then-not-lengths_fit
+returns-then-not-lengths_fit c =
+    let a = c.args in
+    ((let a = c.args in five_passed a.size a.workers a.capacity a.commands.now ((source_of c.args.from c.args.source.now)) ((all_lists c.args.state.now c.args.keys.now c.args.chutes.now c.args.answers.now c.args.image.now)) ((sym c.is_within.ensures ∙ not-false _ c.if-not-is_within.false-raw)) ((sym c.is_within-2.ensures ∙ not-false _ c.if-not-is_within-2.false-raw)) ((sym c.is_within-3.ensures ∙ not-false _ c.if-not-is_within-3.false-raw)) ((eq-eqb _ _ c.if-commands-ne0.false)) ((le-leb _ _ c.if-count-gt-MOST_COMMANDS.false))) ∙ refuses_lengths a.size a.workers a.capacity a.commands.now ((source_of c.args.from c.args.source.now)) ((all_lists c.args.state.now c.args.keys.now c.args.chutes.now c.args.answers.now c.args.image.now)) (sym c.lengths_fit.ensures ∙ not-true c.lengths_fit.result c.if-not-lengths_fit.true-raw), λ n e. absurd (no_refusal_passes e))
+
+pub source_long-requires : goal.source_long-requires
+source_long-requires c = (leb-true _ _ ((and-eq-true_iff (leb 1 c.args.capacity) (leb c.args.capacity 4096)).0 ((sym c.is_within-3.ensures ∙ not-false _ c.if-not-is_within-3.false-raw))).1)
+
+pub returns-then-not-source_long : goal.returns-then-not-source_long
+returns-then-not-source_long c =
+    let a = c.args in
+    ((let a = c.args in five_passed a.size a.workers a.capacity a.commands.now ((source_of c.args.from c.args.source.now)) ((all_lists c.args.state.now c.args.keys.now c.args.chutes.now c.args.answers.now c.args.image.now)) ((sym c.is_within.ensures ∙ not-false _ c.if-not-is_within.false-raw)) ((sym c.is_within-2.ensures ∙ not-false _ c.if-not-is_within-2.false-raw)) ((sym c.is_within-3.ensures ∙ not-false _ c.if-not-is_within-3.false-raw)) ((eq-eqb _ _ c.if-commands-ne0.false)) ((le-leb _ _ c.if-count-gt-MOST_COMMANDS.false))) ∙ refuses_source a.size a.workers a.capacity a.commands.now ((source_of c.args.from c.args.source.now)) ((all_lists c.args.state.now c.args.keys.now c.args.chutes.now c.args.answers.now c.args.image.now)) ((sym c.lengths_fit.ensures ∙ not-false c.lengths_fit.result c.if-not-lengths_fit.false-raw)) (sym c.source_long.ensures ∙ not-true c.source_long.result c.if-not-source_long.true-raw), λ n e. absurd (no_refusal_passes e))
+
+pub source_chained-requires : goal.source_chained-requires
+source_chained-requires c = ((leb-true _ _ ((and-eq-true_iff (leb 1 c.args.capacity) (leb c.args.capacity 4096)).0 ((sym c.is_within-3.ensures ∙ not-false _ c.if-not-is_within-3.false-raw))).1), (sym c.source_long.ensures ∙ not-false c.source_long.result c.if-not-source_long.false-raw))
+
+pub returns-then-not-source_chained : goal.returns-then-not-source_chained
+returns-then-not-source_chained c =
+    let a = c.args in
+    ((let a = c.args in five_passed a.size a.workers a.capacity a.commands.now ((source_of c.args.from c.args.source.now)) ((all_lists c.args.state.now c.args.keys.now c.args.chutes.now c.args.answers.now c.args.image.now)) ((sym c.is_within.ensures ∙ not-false _ c.if-not-is_within.false-raw)) ((sym c.is_within-2.ensures ∙ not-false _ c.if-not-is_within-2.false-raw)) ((sym c.is_within-3.ensures ∙ not-false _ c.if-not-is_within-3.false-raw)) ((eq-eqb _ _ c.if-commands-ne0.false)) ((le-leb _ _ c.if-count-gt-MOST_COMMANDS.false))) ∙ refuses_chain a.size a.workers a.capacity a.commands.now ((source_of c.args.from c.args.source.now)) ((all_lists c.args.state.now c.args.keys.now c.args.chutes.now c.args.answers.now c.args.image.now)) ((sym c.lengths_fit.ensures ∙ not-false c.lengths_fit.result c.if-not-lengths_fit.false-raw)) ((sym c.source_long.ensures ∙ not-false c.source_long.result c.if-not-source_long.false-raw)) (sym c.source_chained.ensures ∙ not-true c.source_chained.result c.if-not-source_chained.true-raw), λ n e. absurd (no_refusal_passes e))
+
+pub source_fits-requires : goal.source_fits-requires
+source_fits-requires c =
+    ((leb-true _ _ ((and-eq-true_iff (leb 1 c.args.capacity) (leb c.args.capacity 4096)).0 ((sym c.is_within-3.ensures ∙ not-false _ c.if-not-is_within-3.false-raw))).1), (sym c.source_long.ensures ∙ not-false c.source_long.result c.if-not-source_long.false-raw), (sym c.source_chained.ensures ∙ not-false c.source_chained.result c.if-not-source_chained.false-raw))
+
+pub returns-then-not-source_fits : goal.returns-then-not-source_fits
+returns-then-not-source_fits c =
+    let a = c.args in
+    ((let a = c.args in five_passed a.size a.workers a.capacity a.commands.now ((source_of c.args.from c.args.source.now)) ((all_lists c.args.state.now c.args.keys.now c.args.chutes.now c.args.answers.now c.args.image.now)) ((sym c.is_within.ensures ∙ not-false _ c.if-not-is_within.false-raw)) ((sym c.is_within-2.ensures ∙ not-false _ c.if-not-is_within-2.false-raw)) ((sym c.is_within-3.ensures ∙ not-false _ c.if-not-is_within-3.false-raw)) ((eq-eqb _ _ c.if-commands-ne0.false)) ((le-leb _ _ c.if-count-gt-MOST_COMMANDS.false))) ∙ refuses_slot a.size a.workers a.capacity a.commands.now ((source_of c.args.from c.args.source.now)) ((all_lists c.args.state.now c.args.keys.now c.args.chutes.now c.args.answers.now c.args.image.now)) ((sym c.lengths_fit.ensures ∙ not-false c.lengths_fit.result c.if-not-lengths_fit.false-raw)) ((sym c.source_long.ensures ∙ not-false c.source_long.result c.if-not-source_long.false-raw)) ((sym c.source_chained.ensures ∙ not-false c.source_chained.result c.if-not-source_chained.false-raw)) (sym c.source_fits.ensures ∙ not-true c.source_fits.result c.if-not-source_fits.true-raw), λ n e. absurd (no_refusal_passes e))
+
+pub returns : goal.returns
+returns c =
+    let listed = c.read_list-reading in
+    let a = c.args in
+    let o = setup_of a.size a.workers a.capacity a.commands.now ((source_of c.args.from c.args.source.now)) in
+    let fits = sym c.source_fits.ensures ∙ not-false c.source_fits.result c.if-not-source_fits.false-raw in (
+      (let a = c.args in five_passed a.size a.workers a.capacity a.commands.now ((source_of c.args.from c.args.source.now)) ((all_lists c.args.state.now c.args.keys.now c.args.chutes.now c.args.answers.now c.args.image.now)) ((sym c.is_within.ensures ∙ not-false _ c.if-not-is_within.false-raw)) ((sym c.is_within-2.ensures ∙ not-false _ c.if-not-is_within-2.false-raw)) ((sym c.is_within-3.ensures ∙ not-false _ c.if-not-is_within-3.false-raw)) ((eq-eqb _ _ c.if-commands-ne0.false)) ((le-leb _ _ c.if-count-gt-MOST_COMMANDS.false))) ∙ reads_list a.size a.workers a.capacity a.commands.now ((source_of c.args.from c.args.source.now)) ((all_lists c.args.state.now c.args.keys.now c.args.chutes.now c.args.answers.now c.args.image.now)) ((sym c.lengths_fit.ensures ∙ not-false c.lengths_fit.result c.if-not-lengths_fit.false-raw)) ((sym c.source_long.ensures ∙ not-false c.source_long.result c.if-not-source_long.false-raw)) ((sym c.source_chained.ensures ∙ not-false c.source_chained.result c.if-not-source_chained.false-raw)) fits ∙ sym (ap (λ (x : ListOutcome). opened_with x o) listed.ensures.0) ∙ c.answer_of.ensures.outcome o,
+      λ n e. let most = c.answer_of.ensures.largest n e in largest_of_lem a.workers most.0 n _ most.2 (listed.ensures.1 most.0 most.1),
+    )

@@ -1,0 +1,16 @@
+-- `opening::answer_of` meets its contract: each arm's answer is the one of its reading. Assumes nothing.
+use mathlib.Core.Path.{◌≡◌, sym, ◌∙◌}
+use borrow.Author.Rules.{rules}
+use Rattle.opening.specs.Calls.{opened_with}
+use Rattle.opening.proofs.Answer.{no_refusal_passes}
+use Rattle.opening.proofs.answer_of.Goals as goal
+
+pub returns-in-AllRead : goal.returns-in-AllRead
+unfolding opened_with
+returns-in-AllRead c =
+    let read = c.reading-1.given in
+    (λ o. rw read.1, λ n e. let same : c.larger.result ≡ n = cc in (read.0.0, read.1, sym same ∙ c.larger.ensures))
+
+pub returns-in-RefusedAt : goal.returns-in-RefusedAt
+unfolding opened_with
+returns-in-RefusedAt c = (λ o. rw c.in-RefusedAt.is, λ n e. absurd (no_refusal_passes e))

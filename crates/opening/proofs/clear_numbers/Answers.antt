@@ -1,0 +1,20 @@
+-- `opening::clear_numbers` meets its contract. The loop's invariant: the first i numbers are 0. Assumes nothing.
+use Prim.Native.Nat.{ℕ, ◌-◌}
+use native.Mathlib.Omega.{arith}
+use mathlib.Core.Path.{refl, ◌∙◌}
+use lib.ListN.{length}
+use Rattle.byte_fields.proofs.Fill.{Filled, filled_none, filled_more, filled_all}
+use Rattle.opening.proofs.FirstState.{tabulate_constant}
+use Rattle.opening.proofs.clear_numbers.Goals as goal
+
+pub loop-i-init : goal.loop-i-init
+loop-i-init c = filled_none refl
+
+pub loop-i-preserved : goal.loop-i-preserved
+loop-i-preserved c = filled_more 0 c.loop-i.invariant (omega arith) refl
+
+pub shape_of-numbers : goal.shape_of-numbers
+shape_of-numbers c = c.loop-i.invariant.long
+
+pub returns : goal.returns
+returns c = filled_all c.loop-i.invariant (omega arith) ∙ tabulate_constant _ 0

@@ -1,0 +1,44 @@
+-- `panel::pending::write_counts` meets its contract. The loop's invariant: the first i entries are the counts of the first i nodes, with 0 past the
+-- last, and node is the one after them. The measure is what is left of the entries, so a chain that runs in a circle ends too. Assumes nothing.
+use Prim.Native.Nat.{◌-◌}
+use native.Mathlib.Omega.{arith}
+use mathlib.Core.Path.{◌≡◌, refl, sym, ◌∙◌}
+use mathlib.Core.Logic.{⊎_elim}
+use mathlib.Core.List.{[]}
+use lib.ListN.{length}
+use Rattle.state_bytes.specs.Layout.{Lists, lists, state_in}
+use Rattle.panel.proofs.Counts.{Counted, counted_none, counted_end, counted_more, counted_all}
+use Rattle.panel.proofs.pending.write_counts.Goals as goal
+
+pub next_at-node-requires : goal.next_at-node-requires
+next_at-node-requires c = c.requires.0
+
+pub loop-i-init : goal.loop-i-init
+loop-i-init c = counted_none (c.next_at-node.ensures l same) c.requires.1
+
+pub bounds-counts-i : goal.bounds-counts-i
+bounds-counts-i c = omega (arith, ((c.loop-i.invariant (lists c.args.state.now [] [] []) refl).filled.long))
+
+pub count_of-requires : goal.count_of-requires
+count_of-requires c = c.requires.0
+
+pub bounds-counts-i-else-node-eq0 : goal.bounds-counts-i-else-node-eq0
+bounds-counts-i-else-node-eq0 c = omega (arith, ((c.loop-i.invariant (lists c.args.state.now [] [] []) refl).filled.long))
+
+pub next_at-node-requires-else-node-eq0 : goal.next_at-node-requires-else-node-eq0
+next_at-node-requires-else-node-eq0 c = c.requires.0
+
+pub loop-i-preserved : goal.loop-i-preserved
+loop-i-preserved c =
+    let counted = c.loop-i.invariant l same in
+    let more = c.loop-i-test.true in
+    ⊎_elim
+    (λ w. rw (w.1, w.2) (counted_end counted more w.0.taken))
+    (λ w. rw (w.3, w.4) (counted_more counted more w.0.left (w.1.ensures l same) (w.2.ensures l same)))
+    c.if-node-eq0.branch
+
+pub shape_of-counts : goal.shape_of-counts
+shape_of-counts c = ((c.loop-i.invariant (lists c.args.state.now [] [] []) refl).filled.long) ∙ sym c.requires.1
+
+pub returns : goal.returns
+returns c = counted_all (c.loop-i.invariant l same) c.loop-i-test.false

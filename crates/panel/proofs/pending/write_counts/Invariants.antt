@@ -1,0 +1,17 @@
+-- `panel::pending::write_counts` meets its contract. The loop's invariant: the first i entries are the counts of the first i nodes, with 0 past the
+-- last, and node is the one after them. The measure is what is left of the entries, so a chain that runs in a circle ends too. Assumes nothing.
+use Prim.Native.Nat.{◌-◌}
+use native.Mathlib.Omega.{arith}
+use mathlib.Core.Path.{◌≡◌, refl, sym, ◌∙◌}
+use mathlib.Core.Logic.{⊎_elim}
+use mathlib.Core.List.{[]}
+use lib.ListN.{length}
+use Rattle.state_bytes.specs.Layout.{Lists, lists, state_in}
+use Rattle.panel.proofs.Counts.{Counted, counted_none, counted_end, counted_more, counted_all}
+use Rattle.panel.proofs.pending.write_counts.Given as goal
+
+abbrev pub invariant-loop-i : goal.invariant-loop-i
+invariant-loop-i l = (l : Lists) → l.state ≡ l.state → Counted (state_in l) l.counts l.node.0 l.i
+
+abbrev pub decreases-loop-i : goal.decreases-loop-i
+decreases-loop-i l = 150 - l.i

@@ -1,0 +1,21 @@
+-- `panel::status::status_at` meets its contract: a worker past the count is idle, any other as the state has it. Assumes nothing.
+use borrow.Author.Rules.{rules}
+use native.Mathlib.Omega.{arith}
+use Rattle.state_bytes.specs.Layout.{state_length, state_in}
+use Rattle.panel.proofs.Showing.{past_shown, worker_shown}
+use Rattle.panel.proofs.status.status_at.Goals as goal
+
+pub bounds-state-3 : goal.bounds-state-3
+unfolding state_length
+bounds-state-3 c = omega arith
+
+pub overflow_cast-largest : goal.overflow_cast-largest
+overflow_cast-largest c = omega (arith, c.shared_slice_known-2-1.given 3)
+
+pub returns-then-worker-largest : goal.returns-then-worker-largest
+returns-then-worker-largest c =
+    past_shown c.args.state.now (state_in l) c.args.worker c.requires.0 c.if-worker-largest.true
+
+pub returns : goal.returns
+returns c =
+    worker_shown c.args.state.now l c.args.worker same c.requires.0 c.if-worker-largest.false c.requires.1 c.thread_at.ensures c.status_of.ensures

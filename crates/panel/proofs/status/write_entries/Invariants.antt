@@ -1,0 +1,17 @@
+-- `panel::status::write_entries` meets its contract. The loop's invariant: the bytes of the first i workers are put. Assumes nothing.
+use borrow.Author.Rules.{rules}
+use Prim.Native.Nat.{ℕ, ◌-◌}
+use native.Mathlib.Omega.{arith}
+use mathlib.Core.Path.{◌≡◌, sym, ◌∙◌}
+use lib.ListN.{length, length-set}
+use Rattle.model.specs.Step.{State}
+use Rattle.byte_fields.proofs.Paste.{fields_none}
+use Rattle.panel.specs.Reports.{worker_status}
+use Rattle.panel.proofs.Showing.{BytesPut, bytes_more, bytes_all}
+use Rattle.panel.proofs.status.write_entries.Given as goal
+
+abbrev pub invariant-loop-i : goal.invariant-loop-i
+invariant-loop-i l = (length l.bytes ≡ 128) × ((workers : ℕ) (s : State) → l.status ≡ worker_status workers s → BytesPut workers s l.initial.bytes l.bytes l.i)
+
+abbrev pub decreases-loop-i : goal.decreases-loop-i
+decreases-loop-i l = 64 - l.i

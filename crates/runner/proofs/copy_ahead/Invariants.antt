@@ -1,0 +1,22 @@
+-- `runner::copy_ahead` meets its contract. The loop's invariant: the first k threads are the schedule's. The measure is how many are left to
+-- copy. Assumes nothing.
+use Prim.Native.Nat.{ℕ, ◌+◌, ◌-◌, ◌≤◌, ◌<◌}
+use native.Mathlib.Omega.{arith}
+use mathlib.Core.Path.{◌≡◌, sym, ◌∙◌}
+use borrow.Author.Rules.{rules}
+use mathlib.Core.List.{List}
+use mathlib.Core.Logic.{⊎_elim}
+use lib.ListN.{length, get_or, set, length-set}
+use lib.Seq.{get_or-set_same, get_or-set_other}
+use Rattle.command.proofs.Tests.{eqb_cases, le_cases}
+use Rattle.runner.proofs.copy_ahead.Given as goal
+
+-- so many threads are the schedule's from a place on
+abbrev Copied : List ℕ → ℕ → List ℕ → ℕ → Type 0
+Copied schedule done ahead k = (i : ℕ) → i < k → get_or ahead i 0 ≡ get_or schedule (done + i) 0
+
+abbrev pub invariant-loop-k : goal.invariant-loop-k
+invariant-loop-k l = (l.k ≤ l.n) × (length l.ahead ≡ 256) × Copied l.schedule l.done l.ahead l.k
+
+abbrev pub decreases-loop-k : goal.decreases-loop-k
+decreases-loop-k l = l.n - l.k

@@ -1,0 +1,24 @@
+-- `s10::write_digits` meets its contract. The loop's invariant: the last digits stand from `i` on, and the rest is still to be written.
+-- Assumes nothing.
+use Prim.Native.Nat.{ℕ, suc, ◌+◌, ◌-◌, ◌/◌, ◌%◌, ◌^◌, ◌≤◌, ◌<◌}
+use mathlib.Core.Path.{◌≡◌, refl}
+use mathlib.Core.List.{List}
+use native.Mathlib.Nat.{div-div-eq-div-mul, div-one, pow-suc, sub_self, sub-zero}
+use native.Mathlib.Omega.{arith}
+use lib.ListN.{length, drop, set, length-set}
+use lib.Seq.{drop-cons, drop-length, get_or-set_same, drop-set-lt}
+use Rattle.s10.specs.Text.{digits}
+use Rattle.s10.specs.Parts.{characters}
+use Rattle.s10.proofs.write_digits.Given as goal
+
+-- from place i on the list holds the last digits, and the rest is the number without them
+record Filled (number : ℕ) (text : List ℕ) (rest i : ℕ) : Type 0 where
+  within : i ≤ length text
+  quotient : rest ≡ number / 10 ^ (length text - i)
+  written : drop i text ≡ characters (digits (length text - i) number)
+
+abbrev pub invariant-loop-i : goal.invariant-loop-i
+invariant-loop-i l = (length l.text ≡ length l.initial.text) × Filled l.number l.text l.rest l.i
+
+abbrev pub decreases-loop-i : goal.decreases-loop-i
+decreases-loop-i l = l.i

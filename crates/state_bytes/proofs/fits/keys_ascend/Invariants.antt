@@ -1,0 +1,25 @@
+-- `state_bytes::fits::keys_ascend` meets its contract: the loop has passed the places before `place`, and ends at the first whose key is not below the next. Assumes nothing.
+use borrow.Author.Rules.{rules}
+use borrow.Author.Tests.{lt-leb, le-leb, lt-ltb, le-ltb}
+use Prim.Native.Nat.{ℕ, ◌+◌, ◌-◌, ◌≤◌, ◌<◌}
+use native.Mathlib.Omega.{arith}
+use mathlib.Core.Bool.{Bool, true, false, ◌||◌, or-true}
+use mathlib.Core.List.{List}
+use mathlib.Core.Path.{◌≡◌, refl, sym, ◌∙◌}
+use lib.Dec.{leb, ltb}
+use lib.ListN.{get_or}
+use Rattle.byte_fields.specs.Bytes.{all_below}
+use Rattle.state_bytes.specs.Layout.{ascends}
+use Rattle.state_bytes.proofs.Below.{all_below_none, all_below_more, one_fails}
+use Rattle.byte_fields.proofs.Bytes.{below_or_past, all_below_each, each_all_below}
+use Rattle.state_bytes.proofs.fits.keys_ascend.Given as goal
+
+-- whether place i is the last, or its key is below the next
+abbrev ascending : ℕ → List ℕ → ℕ → Bool
+ascending used keys i = leb used (i + 1) || ltb (get_or keys i 0) (get_or keys (i + 1) 0)
+
+abbrev pub invariant-loop-place : goal.invariant-loop-place
+invariant-loop-place l = (l.place ≤ l.used-2) × (all_below l.place (ascending l.used-2 l.keys) ≡ true)
+
+abbrev pub decreases-loop-place : goal.decreases-loop-place
+decreases-loop-place l = l.used-2 - l.place

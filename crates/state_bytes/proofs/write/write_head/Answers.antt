@@ -1,0 +1,32 @@
+-- `state_bytes::write::write_head` meets its contract: ten fields, one after the other. Assumes nothing.
+use native.Mathlib.Omega.{arith}
+use mathlib.Core.Path.{refl}
+use mathlib.Core.List.{◌++◌}
+use Rattle.byte_fields.specs.Bytes.{bytes_of}
+use Rattle.state_bytes.specs.Layout.{lock_coupled}
+use Rattle.state_bytes.specs.Head.{head_of}
+use Rattle.byte_fields.proofs.Bytes.{bytes_length}
+use Rattle.byte_fields.proofs.Paste.{Put, put_none, put_more, put_length}
+use borrow.Author.Rules.{rules}
+use Rattle.state_bytes.proofs.write.write_head.Goals as goal
+
+pub put_number-requires-6 : goal.put_number-requires-6
+put_number-requires-6 c = omega (arith, put_length ((put_more ((put_more ((put_more ((put_more ((put_more (put_none 0 c.args.state.now) _ 0 1 refl (bytes_length 1 _) c.put_number.ensures)) _ 1 1 refl (bytes_length 1 _) c.put_number-2.ensures)) _ 2 1 refl (bytes_length 1 _) c.put_number-3.ensures)) _ 3 1 refl (bytes_length 1 _) c.put_number-4.ensures)) _ 4 2 refl (bytes_length 2 _) c.put_number-5.ensures)), c.requires)
+
+pub put_number-requires-7 : goal.put_number-requires-7
+put_number-requires-7 c = omega (arith, put_length ((put_more ((put_more ((put_more ((put_more ((put_more ((put_more (put_none 0 c.args.state.now) _ 0 1 refl (bytes_length 1 _) c.put_number.ensures)) _ 1 1 refl (bytes_length 1 _) c.put_number-2.ensures)) _ 2 1 refl (bytes_length 1 _) c.put_number-3.ensures)) _ 3 1 refl (bytes_length 1 _) c.put_number-4.ensures)) _ 4 2 refl (bytes_length 2 _) c.put_number-5.ensures)) _ 6 2 refl (bytes_length 2 _) c.put_number-6.ensures)), c.requires)
+
+pub put_number-requires-8 : goal.put_number-requires-8
+put_number-requires-8 c = omega (arith, put_length ((put_more ((put_more ((put_more ((put_more ((put_more ((put_more ((put_more (put_none 0 c.args.state.now) _ 0 1 refl (bytes_length 1 _) c.put_number.ensures)) _ 1 1 refl (bytes_length 1 _) c.put_number-2.ensures)) _ 2 1 refl (bytes_length 1 _) c.put_number-3.ensures)) _ 3 1 refl (bytes_length 1 _) c.put_number-4.ensures)) _ 4 2 refl (bytes_length 2 _) c.put_number-5.ensures)) _ 6 2 refl (bytes_length 2 _) c.put_number-6.ensures)) _ 8 2 refl (bytes_length 2 _) c.put_number-7.ensures)), c.requires)
+
+pub put_number-requires-9 : goal.put_number-requires-9
+put_number-requires-9 c = omega (arith, put_length ((put_more ((put_more ((put_more ((put_more ((put_more ((put_more ((put_more ((put_more (put_none 0 c.args.state.now) _ 0 1 refl (bytes_length 1 _) c.put_number.ensures)) _ 1 1 refl (bytes_length 1 _) c.put_number-2.ensures)) _ 2 1 refl (bytes_length 1 _) c.put_number-3.ensures)) _ 3 1 refl (bytes_length 1 _) c.put_number-4.ensures)) _ 4 2 refl (bytes_length 2 _) c.put_number-5.ensures)) _ 6 2 refl (bytes_length 2 _) c.put_number-6.ensures)) _ 8 2 refl (bytes_length 2 _) c.put_number-7.ensures)) _ 10 2 refl (bytes_length 2 _) c.put_number-8.ensures)), c.requires)
+
+pub put_number-requires-10 : goal.put_number-requires-10
+put_number-requires-10 c = omega (arith, put_length ((put_more ((put_more ((put_more ((put_more ((put_more ((put_more ((put_more ((put_more ((put_more (put_none 0 c.args.state.now) _ 0 1 refl (bytes_length 1 _) c.put_number.ensures)) _ 1 1 refl (bytes_length 1 _) c.put_number-2.ensures)) _ 2 1 refl (bytes_length 1 _) c.put_number-3.ensures)) _ 3 1 refl (bytes_length 1 _) c.put_number-4.ensures)) _ 4 2 refl (bytes_length 2 _) c.put_number-5.ensures)) _ 6 2 refl (bytes_length 2 _) c.put_number-6.ensures)) _ 8 2 refl (bytes_length 2 _) c.put_number-7.ensures)) _ 10 2 refl (bytes_length 2 _) c.put_number-8.ensures)) _ 12 1 refl (bytes_length 1 _) c.put_number-9.ensures)), c.requires)
+
+pub shape_of-state : goal.shape_of-state
+shape_of-state c = put_length ((put_more ((put_more ((put_more ((put_more ((put_more ((put_more ((put_more ((put_more ((put_more ((put_more (put_none 0 c.args.state.now) _ 0 1 refl (bytes_length 1 _) c.put_number.ensures)) _ 1 1 refl (bytes_length 1 _) c.put_number-2.ensures)) _ 2 1 refl (bytes_length 1 _) c.put_number-3.ensures)) _ 3 1 refl (bytes_length 1 _) c.put_number-4.ensures)) _ 4 2 refl (bytes_length 2 _) c.put_number-5.ensures)) _ 6 2 refl (bytes_length 2 _) c.put_number-6.ensures)) _ 8 2 refl (bytes_length 2 _) c.put_number-7.ensures)) _ 10 2 refl (bytes_length 2 _) c.put_number-8.ensures)) _ 12 1 refl (bytes_length 1 _) c.put_number-9.ensures)) _ 13 1 refl (bytes_length 1 _) c.put_number-10.ensures))
+
+pub returns : goal.returns
+returns c = ((put_more ((put_more ((put_more ((put_more ((put_more ((put_more ((put_more ((put_more ((put_more ((put_more (put_none 0 c.args.state.now) _ 0 1 refl (bytes_length 1 _) c.put_number.ensures)) _ 1 1 refl (bytes_length 1 _) c.put_number-2.ensures)) _ 2 1 refl (bytes_length 1 _) c.put_number-3.ensures)) _ 3 1 refl (bytes_length 1 _) c.put_number-4.ensures)) _ 4 2 refl (bytes_length 2 _) c.put_number-5.ensures)) _ 6 2 refl (bytes_length 2 _) c.put_number-6.ensures)) _ 8 2 refl (bytes_length 2 _) c.put_number-7.ensures)) _ 10 2 refl (bytes_length 2 _) c.put_number-8.ensures)) _ 12 1 refl (bytes_length 1 _) c.put_number-9.ensures)) _ 13 1 refl (bytes_length 1 _) c.put_number-10.ensures)).is

@@ -1,0 +1,54 @@
+-- `state_bytes::write::write_state` meets its contract: the head, five arrays and the threads, one after the other, are all state bytes. Assumes nothing.
+use native.Mathlib.Omega.{arith}
+use mathlib.Core.Path.{◌≡◌, refl, sym, ◌∙◌}
+use lib.ListN.{length, get_or}
+use mathlib.Core.Bool.{false}
+use Rattle.state_bytes.specs.Layout.{state_length}
+use Rattle.state_bytes.specs.Head.{head_of}
+use Rattle.state_bytes.proofs.StateParts.{flag_length, set_length, thread_length}
+use Rattle.byte_fields.proofs.Bytes.{bytes_length}
+use Rattle.byte_fields.proofs.Paste.{put_none, put_more, put_fields, put_whole}
+use Rattle.state_bytes.proofs.Shown.{head_length, shown_bytes}
+use borrow.Author.Rules.{rules}
+use Rattle.state_bytes.proofs.write.write_state.Goals as goal
+
+pub write_head-requires : goal.write_head-requires
+unfolding state_length
+write_head-requires c = omega (arith, c.requires)
+
+pub write_bytes-requires : goal.write_bytes-requires
+unfolding state_length
+write_bytes-requires c = omega (arith, (c.write_head.auto.0 ∙ c.requires))
+
+pub write_numbers-requires : goal.write_numbers-requires
+unfolding state_length
+write_numbers-requires c = omega (arith, (c.write_bytes.auto.0 ∙ (c.write_head.auto.0 ∙ c.requires)))
+
+pub write_flags-requires : goal.write_flags-requires
+unfolding state_length
+write_flags-requires c = omega (arith, (c.write_numbers.auto.0 ∙ (c.write_bytes.auto.0 ∙ (c.write_head.auto.0 ∙ c.requires))))
+
+pub write_flags-requires-2 : goal.write_flags-requires-2
+unfolding state_length
+write_flags-requires-2 c = omega (arith, (c.write_flags.auto.0 ∙ (c.write_numbers.auto.0 ∙ (c.write_bytes.auto.0 ∙ (c.write_head.auto.0 ∙ c.requires)))))
+
+pub write_sets-requires : goal.write_sets-requires
+unfolding state_length
+write_sets-requires c = omega (arith, (c.write_flags-2.auto.0 ∙ (c.write_flags.auto.0 ∙ (c.write_numbers.auto.0 ∙ (c.write_bytes.auto.0 ∙ (c.write_head.auto.0 ∙ c.requires))))))
+
+pub write_threads-requires : goal.write_threads-requires
+unfolding state_length
+write_threads-requires c = omega (arith, (c.write_sets.auto.0 ∙ (c.write_flags-2.auto.0 ∙ (c.write_flags.auto.0 ∙ (c.write_numbers.auto.0 ∙ (c.write_bytes.auto.0 ∙ (c.write_head.auto.0 ∙ c.requires)))))))
+
+pub returns : goal.returns
+unfolding state_length
+returns c =
+    let args = c.args in
+    let one = put_more (put_none 0 args.state.now) (head_of args.settings args.counters) 0 14 refl (head_length _ _) c.write_head.ensures in
+    let two = put_fields one 1 151 _ (λ n. bytes_length 1 _) c.write_bytes-arg-2-1.given.0 c.write_bytes.ensures in
+    let three = put_fields two 2 151 _ (λ n. bytes_length 2 _) c.write_numbers-arg-2-1.given.0 c.write_numbers.ensures in
+    let four = put_fields three 1 151 _ (λ n. flag_length (get_or args.executing.now n false)) c.write_flags-arg-2-1.given.0 c.write_flags.ensures in
+    let five = put_fields four 1 151 _ (λ n. flag_length (get_or args.locked.now n false)) c.write_flags-arg-4-1.given.0 c.write_flags-2.ensures in
+    let six = put_fields five 24 151 _ (λ n. set_length _) c.write_sets-arg-2-1.given.0 c.write_sets.ensures in
+    let seven = put_fields six 5 65 _ (λ n. thread_length _) refl c.write_threads.ensures in
+    put_whole seven refl c.requires ∙ sym (shown_bytes o s args.settings args.counters _ _ _ _ _ _ h i)

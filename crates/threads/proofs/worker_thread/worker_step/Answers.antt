@@ -1,0 +1,114 @@
+-- `threads::worker_thread::worker_step` meets its contract, by the worker's state. Assumes nothing.
+use Prim.Native.Nat.{◌≤◌}
+use mathlib.Core.Path.{◌≡◌, sym, ◌∙◌}
+use mathlib.Core.Bool.{true}
+use native.Mathlib.Omega.{arith}
+use borrow.Author.Tests.{not-true, not-false}
+use borrow.Author.Rules.{rules}
+use Rattle.model.specs.Service.{in_one_step}
+use Rattle.graph.specs.Items.{item_of}
+use Rattle.threads.proofs.Readiness.{from_known}
+use Rattle.threads.proofs.WorkerSteps.{worker_waits, idle_waits, idle_enters, written_enters, one_step_command, holding_looks_up, holding_writes, looked_up_writes, searching_steps, walking_steps, clearing_steps}
+use Rattle.threads.proofs.worker_thread.worker_step.Goals as goal
+
+pub returns-then-not-allowed : goal.returns-then-not-allowed
+returns-then-not-allowed c =
+    λ list t other al. idle_waits _ _ _ _ _ other _ _ c.in-Idle.is (al ∙ not-true c.args.allowed c.if-not-allowed.true-raw)
+
+pub search-thread-requires : goal.search-thread-requires
+search-thread-requires c =
+    (c.requires.nodes, rw c.in-Searching.is at c.requires.within)
+
+pub item_of-item-requires : goal.item_of-item-requires
+item_of-item-requires c =
+    rw c.thread2.given.1 at c.requires.within
+
+pub bounds-seq-own : goal.bounds-seq-own
+bounds-seq-own c =
+    let within : c.in-Holding.own.0 ≤ 150 = rw c.in-Holding.is at c.requires.within in
+    omega arith
+
+pub write_read-requires : goal.write_read-requires
+write_read-requires c =
+    let within : c.in-Holding.own.0 ≤ 150 = rw c.in-Holding.is at c.requires.within in
+    let command = one_step_command _ ((sym c.in_one_step.ensures ∙ c.if-in_one_step.true)) in
+    rw c.place_of-place.ensures (c.requires.placed c.in-Holding.own.0 command.0 within (sym c.item_of-item.ensures ∙ command.1))
+
+pub returns-then-in_one_step : goal.returns-then-in_one_step
+returns-then-in_one_step c =
+    λ list t other al. from_known c.in-Holding.is (λ ready.
+    holding_writes _ _ _ _ _ other _ c.in-Holding.own _ c.item_of-item.ensures ready _ c.look_up-found.ensures ((sym c.in_one_step.ensures ∙ c.if-in_one_step.true))
+    _ c.place_of-place.ensures _ (c.write_read.ensures _ _ _ _ ((sym c.in_one_step.ensures ∙ c.if-in_one_step.true))) c.write_read.auto.1.1.0)
+
+pub item_of-item-requires-in-LookedUp : goal.item_of-item-requires-in-LookedUp
+item_of-item-requires-in-LookedUp c =
+    rw c.thread3.given.1 at c.requires.within
+
+pub bounds-seq-own-in-LookedUp : goal.bounds-seq-own-in-LookedUp
+bounds-seq-own-in-LookedUp c =
+    let within : c.in-LookedUp.own.0 ≤ 150 = rw c.in-LookedUp.is at c.requires.within in
+    omega arith
+
+pub save-requires : goal.save-requires
+save-requires c =
+    c.requires.imaged
+
+pub write-used-requires : goal.write-used-requires
+write-used-requires c =
+    λ command e.
+    let within : c.in-LookedUp.own.0 ≤ 150 = rw c.in-LookedUp.is at c.requires.within in
+    rw c.place_of-place-in-LookedUp.ensures (c.requires.placed c.in-LookedUp.own.0 command within (sym c.item_of-item-in-LookedUp.ensures ∙ e))
+
+pub returns-in-LookedUp : goal.returns-in-LookedUp
+returns-in-LookedUp c =
+    let fields = c.thread-in-LookedUp-1.given.0 in
+    λ list t other al. rw (c.limit_after-limit.ensures, c.save.ensures) (from_known c.in-LookedUp.is
+    (looked_up_writes _ _ _ _ _ other _ fields.0 _ c.item_of-item-in-LookedUp.ensures _ c.place_of-place-in-LookedUp.ensures fields.1.0 _ _ _ _
+    c.write-used.ensures c.write-used.kept.1.1.1.1.1.0))
+
+pub walk-thread-requires : goal.walk-thread-requires
+walk-thread-requires c =
+    let within = rw c.in-Walking.is at c.requires.within in
+    (c.requires.nodes, within.0, within.1)
+
+pub clear_own-cleared-requires : goal.clear_own-cleared-requires
+clear_own-cleared-requires c =
+    let within = rw c.in-Clearing.is at c.requires.within in
+    (c.requires.nodes, within.0, within.1, c.requires.free)
+
+pub returns-in-Clearing : goal.returns-in-Clearing
+returns-in-Clearing c =
+    let fields = c.thread-in-Clearing-1.given.0 in
+    let does = c.clear_own-cleared.ensures in
+    λ list t other al. from_known c.in-Clearing.is (λ ready.
+    clearing_steps _ _ _ _ _ other _ fields.0 fields.1.0 _ _ _ _ _ _ _ _ does.1.0 does.0.0 does.0.1 does.0.2 (does.1.1 _ _ _ ready.kept) ready)
+
+pub returns-else-not-allowed : goal.returns-else-not-allowed
+returns-else-not-allowed c =
+    λ list t other al. from_known c.in-Idle.is
+    (idle_enters _ _ _ _ _ other _ (al ∙ not-false c.args.allowed c.if-not-allowed.false-raw) _ _ (rw c.in-Idle.is at c.enter-thread.ensures))
+
+pub returns-in-Loading : goal.returns-in-Loading
+returns-in-Loading c =
+    let fields = c.enum_told-in-Loading-1.given.0 in
+    λ list t other al. worker_waits _ _ _ _ _ other _ fields.0 fields.1.0 _ c.in-Loading.is
+
+pub returns-in-Searching : goal.returns-in-Searching
+returns-in-Searching c =
+    λ list t other al. from_known c.in-Searching.is
+    (searching_steps _ _ _ _ _ other _ c.in-Searching.at _ al _ _ _ c.search-thread.ensures.steps c.search-thread.ensures.within)
+
+pub returns-else-in_one_step : goal.returns-else-in_one_step
+returns-else-in_one_step c =
+    λ list t other al. from_known c.thread2.given.1 (λ ready.
+    holding_looks_up _ _ _ _ _ other _ c.thread2.given.0.0 _ c.item_of.ensures ready _ c.look_up-found.ensures (sym c.in_one_step.ensures ∙ c.if-in_one_step.false))
+
+pub returns-in-Written : goal.returns-in-Written
+returns-in-Written c =
+    λ list t other al. from_known c.in-Written.is (written_enters _ _ _ _ _ other _ c.in-Written.own _ _ c.enter-thread-in-Written.ensures)
+
+pub returns-in-Walking : goal.returns-in-Walking
+returns-in-Walking c =
+    let fields = c.thread-in-Walking-1.given.0 in
+    λ list t other al. from_known c.in-Walking.is
+    (walking_steps _ _ _ _ _ other _ fields.0 fields.1.0 _ _ _ c.walk-thread.ensures.steps c.walk-thread.ensures.within.0 c.walk-thread.ensures.within.1)
