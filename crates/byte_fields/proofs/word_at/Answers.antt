@@ -16,19 +16,22 @@ overflow_mul-n c =
     omega (arith, byte_fits s.i s.n 0 s.invariant.2 (omega arith) (omega arith))
 
 pub overflow_cast-n : goal.overflow_cast-n
-overflow_cast-n c = omega (arith, (omega (arith, c.shared_slice_known-1.given (c.args.at + c.loop-i.i))))
+overflow_cast-n c = let byte : get_or c.args.list.now (c.args.at + c.loop-i.i) 0 < 256 = omega (arith, c.shared_slice_known-1.given (c.args.at + c.loop-i.i)) in
+    omega (arith, byte)
 
 pub overflow_add-n-in-loop-i : goal.overflow_add-n-in-loop-i
 overflow_add-n-in-loop-i c =
+    let byte : get_or c.args.list.now (c.args.at + c.loop-i.i) 0 < 256 = omega (arith, c.shared_slice_known-1.given (c.args.at + c.loop-i.i)) in
     let s = c.loop-i in
-    omega (arith, byte_fits s.i s.n _ s.invariant.2 ((omega (arith, c.shared_slice_known-1.given (c.args.at + c.loop-i.i)))) (omega arith))
+    omega (arith, byte_fits s.i s.n _ s.invariant.2 (byte) (omega arith))
 
 pub loop-i-preserved : goal.loop-i-preserved
 loop-i-preserved c =
+    let byte : get_or c.args.list.now (c.args.at + c.loop-i.i) 0 < 256 = omega (arith, c.shared_slice_known-1.given (c.args.at + c.loop-i.i)) in
     let s = c.loop-i in
     let args = c.args in
     let more = number_more s.i args.at args.list.now (omega arith) in
-    (omega arith, rw (more, ← s.invariant.1), byte_more s.i s.n _ s.invariant.2 ((omega (arith, c.shared_slice_known-1.given (c.args.at + c.loop-i.i)))))
+    (omega arith, rw (more, ← s.invariant.1), byte_more s.i s.n _ s.invariant.2 (byte))
 
 pub returns : goal.returns
 returns c =

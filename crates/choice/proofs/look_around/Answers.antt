@@ -28,7 +28,8 @@ by_foremost o s seq threads {largest} {t} largest_is seq_is threads_are is has =
     rw (chosen, seq_is, threads_are t, ← has)
 
 pub bounds-threads-t : goal.bounds-threads-t
-bounds-threads-t c = omega (arith, (let a = c.args in omega (arith, c.requires.1, c.foremost_of-t.ensures, foremost_within (λ u. Dispatch.rank (numbers a.seq.now) (get_or a.t3 u Idle)) a.largest)))
+bounds-threads-t c = let few : c.foremost_of-t.result ≤ 64 = let a = c.args in omega (arith, c.requires.1, c.foremost_of-t.ensures, foremost_within (λ u. Dispatch.rank (numbers a.seq.now) (get_or a.t3 u Idle)) a.largest) in
+    omega (arith, few)
 
 pub rank_of-requires : goal.rank_of-requires
 rank_of-requires c = c.requires.0 _
@@ -44,8 +45,9 @@ returns-then-rank_of-eq0 c =
 
 pub returns : goal.returns
 returns c =
+    let few : c.foremost_of-t.result ≤ 64 = let a = c.args in omega (arith, c.requires.1, c.foremost_of-t.ensures, foremost_within (λ u. Dispatch.rank (numbers a.seq.now) (get_or a.t3 u Idle)) a.largest) in
     let a = c.args in (
-      (let a = c.args in omega (arith, c.requires.1, c.foremost_of-t.ensures, foremost_within (λ u. Dispatch.rank (numbers a.seq.now) (get_or a.t3 u Idle)) a.largest)),
+      few,
       λ o s first loaded count largest seq threads.
           rw (by_foremost o s a.seq.now a.t3 largest seq threads c.foremost_of-t.ensures c.rank_of.ensures, ne_eqb _ 0 c.if-rank_of-eq0.false),
     )

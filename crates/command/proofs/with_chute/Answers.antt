@@ -14,7 +14,9 @@ unfolding with_chute
 returns-then-bytes c = rw (ne_eqb (length c.args.bytes.now) 2 c.if-bytes.true, c.chute_reason.ensures)
 
 pub returns-then-not-takes : goal.returns-then-not-takes
-returns-then-not-takes c = rw ((rw (eq-eqb (length c.args.bytes.now) 2 c.if-bytes.false, ← c.number_of-chute.ensures, ← c.takes.ensures)), not-true c.takes.result c.if-not-takes.true-raw, c.chute_reason-then-not-takes.ensures)
+returns-then-not-takes c = let tested : let a = c.args in with_chute a.kind (Identifier.accepted a.key) a.bytes.now ≡ cond c.takes.result (accepted (record { kind = a.kind; key = a.key; chute = c.number_of-chute.result })) (refused (chute_refusal a.kind)) = rw (eq-eqb (length c.args.bytes.now) 2 c.if-bytes.false, ← c.number_of-chute.ensures, ← c.takes.ensures) in
+    rw (tested, not-true c.takes.result c.if-not-takes.true-raw, c.chute_reason-then-not-takes.ensures)
 
 pub returns : goal.returns
-returns c = rw ((rw (eq-eqb (length c.args.bytes.now) 2 c.if-bytes.false, ← c.number_of-chute.ensures, ← c.takes.ensures)), not-false c.takes.result c.if-not-takes.false-raw)
+returns c = let tested : let a = c.args in with_chute a.kind (Identifier.accepted a.key) a.bytes.now ≡ cond c.takes.result (accepted (record { kind = a.kind; key = a.key; chute = c.number_of-chute.result })) (refused (chute_refusal a.kind)) = rw (eq-eqb (length c.args.bytes.now) 2 c.if-bytes.false, ← c.number_of-chute.ensures, ← c.takes.ensures) in
+    rw (tested, not-false c.takes.result c.if-not-takes.false-raw)

@@ -15,33 +15,93 @@ use Rattle.dispatcher.proofs.dispatch.Goals as goal
 
 pub returns-then-not-lengths_fit : goal.returns-then-not-lengths_fit
 returns-then-not-lengths_fit c =
-    refused_so ((all_lists c.args.state.now c.args.keys.now c.args.chutes.now c.args.answers.now c.args.image.now)) ((c.args.commands.now)) ((c.args.schedule.now)) 6 (decided _ _ _ ((c.lengths_fit.ensures ((all_lists c.args.state.now c.args.keys.now c.args.chutes.now c.args.answers.now c.args.image.now)) ((c.args.commands.now)) refl refl refl refl refl) ∙ not-true _ c.if-not-lengths_fit.true-raw) refl refl refl)
+    let given : Lists = all_lists c.args.state.now c.args.keys.now c.args.chutes.now c.args.answers.now c.args.image.now in
+    let commands_of : List ℕ = c.args.commands.now in
+    let lengths_is : handed_back_fit (given) (commands_of) ≡ c.lengths_fit.result = c.lengths_fit.ensures (given) (commands_of) refl refl refl refl refl in
+    let lent_of : List ℕ = c.args.schedule.now in
+    refused_so (given) (commands_of) (lent_of) 6 (decided _ _ _ (lengths_is ∙ not-true _ c.if-not-lengths_fit.true-raw) refl refl refl)
 
 pub returns-then-not-image_fits : goal.returns-then-not-image_fits
 returns-then-not-image_fits c =
-    refused_so ((all_lists c.args.state.now c.args.keys.now c.args.chutes.now c.args.answers.now c.args.image.now)) ((c.args.commands.now)) ((c.args.schedule.now)) 6 (decided _ _ _ (((c.lengths_fit.ensures ((all_lists c.args.state.now c.args.keys.now c.args.chutes.now c.args.answers.now c.args.image.now)) ((c.args.commands.now)) refl refl refl refl refl) ∙ not-false _ c.if-not-lengths_fit.false-raw)) ((c.image_fits.ensures ((all_lists c.args.state.now c.args.keys.now c.args.chutes.now c.args.answers.now c.args.image.now)) ((c.args.commands.now)) refl refl (((c.lengths_fit.ensures ((all_lists c.args.state.now c.args.keys.now c.args.chutes.now c.args.answers.now c.args.image.now)) ((c.args.commands.now)) refl refl refl refl refl) ∙ not-false _ c.if-not-lengths_fit.false-raw))) ∙ not-true _ c.if-not-image_fits.true-raw) refl refl)
+    let given : Lists = all_lists c.args.state.now c.args.keys.now c.args.chutes.now c.args.answers.now c.args.image.now in
+    let commands_of : List ℕ = c.args.commands.now in
+    let lengths_is : handed_back_fit (given) (commands_of) ≡ c.lengths_fit.result = c.lengths_fit.ensures (given) (commands_of) refl refl refl refl refl in
+    let lengths_passed : handed_back_fit (given) (commands_of) ≡ true = lengths_is ∙ not-false _ c.if-not-lengths_fit.false-raw in
+    let image_is : image_fits (setup_in (given).state (commands_of)).capacity (given) ≡ c.image_fits.result = c.image_fits.ensures (given) (commands_of) refl refl (lengths_passed) in
+    let lent_of : List ℕ = c.args.schedule.now in
+    refused_so (given) (commands_of) (lent_of) 6 (decided _ _ _ (lengths_passed) (image_is ∙ not-true _ c.if-not-image_fits.true-raw) refl refl)
 
 pub state_fits-requires : goal.state_fits-requires
 state_fits-requires c =
-    (Passed.lengths_passed ((all_lists c.args.state.now c.args.keys.now c.args.chutes.now c.args.answers.now c.args.image.now)) ((c.args.commands.now)) (((c.lengths_fit.ensures ((all_lists c.args.state.now c.args.keys.now c.args.chutes.now c.args.answers.now c.args.image.now)) ((c.args.commands.now)) refl refl refl refl refl) ∙ not-false _ c.if-not-lengths_fit.false-raw))).state
+    let given : Lists = all_lists c.args.state.now c.args.keys.now c.args.chutes.now c.args.answers.now c.args.image.now in
+    let commands_of : List ℕ = c.args.commands.now in
+    let lengths_is : handed_back_fit (given) (commands_of) ≡ c.lengths_fit.result = c.lengths_fit.ensures (given) (commands_of) refl refl refl refl refl in
+    let lengths_passed : handed_back_fit (given) (commands_of) ≡ true = lengths_is ∙ not-false _ c.if-not-lengths_fit.false-raw in
+    (Passed.lengths_passed (given) (commands_of) (lengths_passed)).state
 
 pub returns-then-not-state_fits : goal.returns-then-not-state_fits
 returns-then-not-state_fits c =
-    refused_so ((all_lists c.args.state.now c.args.keys.now c.args.chutes.now c.args.answers.now c.args.image.now)) ((c.args.commands.now)) ((c.args.schedule.now)) 12
-    (decided _ _ _ (((c.lengths_fit.ensures ((all_lists c.args.state.now c.args.keys.now c.args.chutes.now c.args.answers.now c.args.image.now)) ((c.args.commands.now)) refl refl refl refl refl) ∙ not-false _ c.if-not-lengths_fit.false-raw)) (((c.image_fits_lem.ensures ((all_lists c.args.state.now c.args.keys.now c.args.chutes.now c.args.answers.now c.args.image.now)) ((c.args.commands.now)) refl refl (((c.lengths_fit.ensures ((all_lists c.args.state.now c.args.keys.now c.args.chutes.now c.args.answers.now c.args.image.now)) ((c.args.commands.now)) refl refl refl refl refl) ∙ not-false _ c.if-not-lengths_fit.false-raw))) ∙ not-false _ c.if2.false)) ((c.state_fits.ensures ((all_lists c.args.state.now c.args.keys.now c.args.chutes.now c.args.answers.now c.args.image.now)) refl refl) ∙ not-true _ c.if-not-state_fits.true-raw) refl)
+    let given : Lists = all_lists c.args.state.now c.args.keys.now c.args.chutes.now c.args.answers.now c.args.image.now in
+    let commands_of : List ℕ = c.args.commands.now in
+    let lengths_is : handed_back_fit (given) (commands_of) ≡ c.lengths_fit.result = c.lengths_fit.ensures (given) (commands_of) refl refl refl refl refl in
+    let lengths_passed : handed_back_fit (given) (commands_of) ≡ true = lengths_is ∙ not-false _ c.if-not-lengths_fit.false-raw in
+    let image_is : image_fits (setup_in (given).state (commands_of)).capacity (given) ≡ c.image_fits_lem.result = c.image_fits_lem.ensures (given) (commands_of) refl refl (lengths_passed) in
+    let image_passed : image_fits (setup_in (given).state (commands_of)).capacity (given) ≡ true = image_is ∙ not-false _ c.if2.false in
+    let state_is : state_fits (given) ≡ c.state_fits.result = c.state_fits.ensures (given) refl refl in
+    let lent_of : List ℕ = c.args.schedule.now in
+    refused_so (given) (commands_of) (lent_of) 12
+    (decided _ _ _ (lengths_passed) (image_passed) (state_is ∙ not-true _ c.if-not-state_fits.true-raw) refl)
 
 pub needed-limit-requires : goal.needed-limit-requires
 needed-limit-requires c =
-    can_need ((all_lists c.args.state.now c.args.keys.now c.args.chutes.now c.args.answers.now c.args.image.now)) ((c.args.commands.now)) (((c.lengths_fit.ensures ((all_lists c.args.state.now c.args.keys.now c.args.chutes.now c.args.answers.now c.args.image.now)) ((c.args.commands.now)) refl refl refl refl refl) ∙ not-false _ c.if-not-lengths_fit.false-raw)) (((c.state_fits_lem.ensures ((all_lists c.args.state.now c.args.keys.now c.args.chutes.now c.args.answers.now c.args.image.now)) refl refl) ∙ not-false _ c.if3.false))
+    let given : Lists = all_lists c.args.state.now c.args.keys.now c.args.chutes.now c.args.answers.now c.args.image.now in
+    let state_is : state_fits (given) ≡ c.state_fits_lem.result = c.state_fits_lem.ensures (given) refl refl in
+    let state_passed : state_fits (given) ≡ true = state_is ∙ not-false _ c.if3.false in
+    let commands_of : List ℕ = c.args.commands.now in
+    let lengths_is : handed_back_fit (given) (commands_of) ≡ c.lengths_fit.result = c.lengths_fit.ensures (given) (commands_of) refl refl refl refl refl in
+    let lengths_passed : handed_back_fit (given) (commands_of) ≡ true = lengths_is ∙ not-false _ c.if-not-lengths_fit.false-raw in
+    can_need (given) (commands_of) (lengths_passed) (state_passed)
 
 pub returns-then-schedule-limit : goal.returns-then-schedule-limit
 returns-then-schedule-limit c =
-    refused_so ((all_lists c.args.state.now c.args.keys.now c.args.chutes.now c.args.answers.now c.args.image.now)) ((c.args.commands.now)) ((c.args.schedule.now)) 6
-    (decided _ _ _ (((c.lengths_fit.ensures ((all_lists c.args.state.now c.args.keys.now c.args.chutes.now c.args.answers.now c.args.image.now)) ((c.args.commands.now)) refl refl refl refl refl) ∙ not-false _ c.if-not-lengths_fit.false-raw)) (((c.image_fits_lem.ensures ((all_lists c.args.state.now c.args.keys.now c.args.chutes.now c.args.answers.now c.args.image.now)) ((c.args.commands.now)) refl refl (((c.lengths_fit.ensures ((all_lists c.args.state.now c.args.keys.now c.args.chutes.now c.args.answers.now c.args.image.now)) ((c.args.commands.now)) refl refl refl refl refl) ∙ not-false _ c.if-not-lengths_fit.false-raw))) ∙ not-false _ c.if2.false)) (((c.state_fits_lem.ensures ((all_lists c.args.state.now c.args.keys.now c.args.chutes.now c.args.answers.now c.args.image.now)) refl refl) ∙ not-false _ c.if3.false)) (too_short ((all_lists c.args.state.now c.args.keys.now c.args.chutes.now c.args.answers.now c.args.image.now)) ((c.args.commands.now)) ((c.args.schedule.now)) ((c.needed-limit.ensures ((all_lists c.args.state.now c.args.keys.now c.args.chutes.now c.args.answers.now c.args.image.now)) ((c.args.commands.now)) refl (all_there ((all_lists c.args.state.now c.args.keys.now c.args.chutes.now c.args.answers.now c.args.image.now)) ((c.args.commands.now)) (((c.lengths_fit.ensures ((all_lists c.args.state.now c.args.keys.now c.args.chutes.now c.args.answers.now c.args.image.now)) ((c.args.commands.now)) refl refl refl refl refl) ∙ not-false _ c.if-not-lengths_fit.false-raw))))) c.if-schedule-limit.true))
+    let given : Lists = all_lists c.args.state.now c.args.keys.now c.args.chutes.now c.args.answers.now c.args.image.now in
+    let state_is : state_fits (given) ≡ c.state_fits_lem.result = c.state_fits_lem.ensures (given) refl refl in
+    let state_passed : state_fits (given) ≡ true = state_is ∙ not-false _ c.if3.false in
+    let commands_of : List ℕ = c.args.commands.now in
+    let lengths_is : handed_back_fit (given) (commands_of) ≡ c.lengths_fit.result = c.lengths_fit.ensures (given) (commands_of) refl refl refl refl refl in
+    let lengths_passed : handed_back_fit (given) (commands_of) ≡ true = lengths_is ∙ not-false _ c.if-not-lengths_fit.false-raw in
+    let needed_is : c.needed-limit.result ≡ needed_now (given) (commands_of) = c.needed-limit.ensures (given) (commands_of) refl (all_there (given) (commands_of) (lengths_passed)) in
+    let lent_of : List ℕ = c.args.schedule.now in
+    let image_is : image_fits (setup_in (given).state (commands_of)).capacity (given) ≡ c.image_fits_lem.result = c.image_fits_lem.ensures (given) (commands_of) refl refl (lengths_passed) in
+    let image_passed : image_fits (setup_in (given).state (commands_of)).capacity (given) ≡ true = image_is ∙ not-false _ c.if2.false in
+    refused_so (given) (commands_of) (lent_of) 6
+    (decided _ _ _ (lengths_passed) (image_passed) (state_passed) (too_short (given) (commands_of) (lent_of) (needed_is) c.if-schedule-limit.true))
 
 pub run-made-requires : goal.run-made-requires
-run-made-requires c = (record { lengths = ((c.lengths_fit.ensures ((all_lists c.args.state.now c.args.keys.now c.args.chutes.now c.args.answers.now c.args.image.now)) ((c.args.commands.now)) refl refl refl refl refl) ∙ not-false _ c.if-not-lengths_fit.false-raw); image = ((c.image_fits_lem.ensures ((all_lists c.args.state.now c.args.keys.now c.args.chutes.now c.args.answers.now c.args.image.now)) ((c.args.commands.now)) refl refl (((c.lengths_fit.ensures ((all_lists c.args.state.now c.args.keys.now c.args.chutes.now c.args.answers.now c.args.image.now)) ((c.args.commands.now)) refl refl refl refl refl) ∙ not-false _ c.if-not-lengths_fit.false-raw))) ∙ not-false _ c.if2.false); state = ((c.state_fits_lem.ensures ((all_lists c.args.state.now c.args.keys.now c.args.chutes.now c.args.answers.now c.args.image.now)) refl refl) ∙ not-false _ c.if3.false); named = c.if-schedule-limit.false })
+run-made-requires c =
+    let given : Lists = all_lists c.args.state.now c.args.keys.now c.args.chutes.now c.args.answers.now c.args.image.now in
+    let state_is : state_fits (given) ≡ c.state_fits_lem.result = c.state_fits_lem.ensures (given) refl refl in
+    let state_passed : state_fits (given) ≡ true = state_is ∙ not-false _ c.if3.false in
+    let commands_of : List ℕ = c.args.commands.now in
+    let lengths_is : handed_back_fit (given) (commands_of) ≡ c.lengths_fit.result = c.lengths_fit.ensures (given) (commands_of) refl refl refl refl refl in
+    let lengths_passed : handed_back_fit (given) (commands_of) ≡ true = lengths_is ∙ not-false _ c.if-not-lengths_fit.false-raw in
+    let image_is : image_fits (setup_in (given).state (commands_of)).capacity (given) ≡ c.image_fits_lem.result = c.image_fits_lem.ensures (given) (commands_of) refl refl (lengths_passed) in
+    let image_passed : image_fits (setup_in (given).state (commands_of)).capacity (given) ≡ true = image_is ∙ not-false _ c.if2.false in
+    let lent_of : List ℕ = c.args.schedule.now in
+    let passes : CallPasses (given) (commands_of) (chosen c.needed-limit.result) (lent_of) = record { lengths = lengths_passed; image = image_passed; state = state_passed; named = c.if-schedule-limit.false } in
+    passes
 
 pub returns : goal.returns
 returns c =
-    accepted_so ((all_lists c.args.state.now c.args.keys.now c.args.chutes.now c.args.answers.now c.args.image.now)) ((c.args.commands.now)) ((c.args.schedule.now)) ((c.needed-limit.ensures ((all_lists c.args.state.now c.args.keys.now c.args.chutes.now c.args.answers.now c.args.image.now)) ((c.args.commands.now)) refl (all_there ((all_lists c.args.state.now c.args.keys.now c.args.chutes.now c.args.answers.now c.args.image.now)) ((c.args.commands.now)) (((c.lengths_fit.ensures ((all_lists c.args.state.now c.args.keys.now c.args.chutes.now c.args.answers.now c.args.image.now)) ((c.args.commands.now)) refl refl refl refl refl) ∙ not-false _ c.if-not-lengths_fit.false-raw))))) ((record { lengths = ((c.lengths_fit.ensures ((all_lists c.args.state.now c.args.keys.now c.args.chutes.now c.args.answers.now c.args.image.now)) ((c.args.commands.now)) refl refl refl refl refl) ∙ not-false _ c.if-not-lengths_fit.false-raw); image = ((c.image_fits_lem.ensures ((all_lists c.args.state.now c.args.keys.now c.args.chutes.now c.args.answers.now c.args.image.now)) ((c.args.commands.now)) refl refl (((c.lengths_fit.ensures ((all_lists c.args.state.now c.args.keys.now c.args.chutes.now c.args.answers.now c.args.image.now)) ((c.args.commands.now)) refl refl refl refl refl) ∙ not-false _ c.if-not-lengths_fit.false-raw))) ∙ not-false _ c.if2.false); state = ((c.state_fits_lem.ensures ((all_lists c.args.state.now c.args.keys.now c.args.chutes.now c.args.answers.now c.args.image.now)) refl refl) ∙ not-false _ c.if3.false); named = c.if-schedule-limit.false })) c.run-made.ensures
+    let given : Lists = all_lists c.args.state.now c.args.keys.now c.args.chutes.now c.args.answers.now c.args.image.now in
+    let commands_of : List ℕ = c.args.commands.now in
+    let lengths_is : handed_back_fit (given) (commands_of) ≡ c.lengths_fit.result = c.lengths_fit.ensures (given) (commands_of) refl refl refl refl refl in
+    let lengths_passed : handed_back_fit (given) (commands_of) ≡ true = lengths_is ∙ not-false _ c.if-not-lengths_fit.false-raw in
+    let needed_is : c.needed-limit.result ≡ needed_now (given) (commands_of) = c.needed-limit.ensures (given) (commands_of) refl (all_there (given) (commands_of) (lengths_passed)) in
+    let state_is : state_fits (given) ≡ c.state_fits_lem.result = c.state_fits_lem.ensures (given) refl refl in
+    let state_passed : state_fits (given) ≡ true = state_is ∙ not-false _ c.if3.false in
+    let image_is : image_fits (setup_in (given).state (commands_of)).capacity (given) ≡ c.image_fits_lem.result = c.image_fits_lem.ensures (given) (commands_of) refl refl (lengths_passed) in
+    let image_passed : image_fits (setup_in (given).state (commands_of)).capacity (given) ≡ true = image_is ∙ not-false _ c.if2.false in
+    let lent_of : List ℕ = c.args.schedule.now in
+    let passes : CallPasses (given) (commands_of) (chosen c.needed-limit.result) (lent_of) = record { lengths = lengths_passed; image = image_passed; state = state_passed; named = c.if-schedule-limit.false } in
+    accepted_so (given) (commands_of) (lent_of) (needed_is) (passes) c.run-made.ensures

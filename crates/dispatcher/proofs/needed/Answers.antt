@@ -39,33 +39,41 @@ number_at-requires-2 c = omega arith
 
 pub used_nodes-used-requires : goal.used_nodes-used-requires
 used_nodes-used-requires c =
-    (c.requires.0, omega (arith, (number_one 1 c.args.state.now (omega arith)), c.requires))
+    let size_in : number_at 1 1 c.args.state.now ≡ get_or c.args.state.now 1 0 = number_one 1 c.args.state.now (omega arith) in
+    (c.requires.0, omega (arith, size_in, c.requires))
 
 pub overflow_add-result-2 : goal.overflow_add-result-2
-overflow_add-result-2 c = omega (arith, (number_one 3 c.args.state.now (omega arith)), c.requires)
+overflow_add-result-2 c = let largest_in_lem : number_at 1 3 c.args.state.now ≡ get_or c.args.state.now 3 0 = number_one 3 c.args.state.now (omega arith) in
+    omega (arith, largest_in_lem, c.requires)
 
 pub overflow_mul-result : goal.overflow_mul-result
-overflow_mul-result c = omega (arith, (number_one 1 c.args.state.now (omega arith)), c.requires)
+overflow_mul-result c = let size_in : number_at 1 1 c.args.state.now ≡ get_or c.args.state.now 1 0 = number_one 1 c.args.state.now (omega arith) in
+    omega (arith, size_in, c.requires)
 
 pub overflow_add-result-3 : goal.overflow_add-result-3
-overflow_add-result-3 c = omega (arith, (number_one 1 c.args.state.now (omega arith)), c.requires)
+overflow_add-result-3 c = let size_in : number_at 1 1 c.args.state.now ≡ get_or c.args.state.now 1 0 = number_one 1 c.args.state.now (omega arith) in
+    omega (arith, size_in, c.requires)
 
 pub overflow_mul-result-2 : goal.overflow_mul-result-2
 overflow_mul-result-2 c =
+    let size_in : number_at 1 1 c.args.state.now ≡ get_or c.args.state.now 1 0 = number_one 1 c.args.state.now (omega arith) in
+    let largest_in_lem : number_at 1 3 c.args.state.now ≡ get_or c.args.state.now 3 0 = number_one 3 c.args.state.now (omega arith) in
     let size = get_or c.args.state.now 1 0 in
     let largest = get_or c.args.state.now 3 0 in
-    let few : size ≤ 150 = omega (arith, (number_one 1 c.args.state.now (omega arith)), c.requires) in
-    let workers : largest ≤ 64 = omega (arith, (number_one 3 c.args.state.now (omega arith)), c.requires) in
+    let few : size ≤ 150 = omega (arith, size_in, c.requires) in
+    let workers : largest ≤ 64 = omega (arith, largest_in_lem, c.requires) in
     omega (arith, product_fits (c.not_loaded-left.result + c.used_nodes-used.result + largest) (3 * size + 6) (omega arith) (omega arith))
 
 pub returns : goal.returns
 returns c =
+    let size_in : number_at 1 1 c.args.state.now ≡ get_or c.args.state.now 1 0 = number_one 1 c.args.state.now (omega arith) in
+    let largest_in_lem : number_at 1 3 c.args.state.now ≡ get_or c.args.state.now 3 0 = number_one 3 c.args.state.now (omega arith) in
     let count = c.number_at.ensures in
     let loaded = c.number_at-2.ensures in
     needed_in (record {
       left_is = c.not_loaded-left.ensures.0 ∙ ap₂ ◌-◌ count loaded;
       used_is = c.used_nodes-used.ensures.0;
-      size_is = sym ((number_one 1 c.args.state.now (omega arith)));
-      size_fits = omega (arith, (number_one 1 c.args.state.now (omega arith)), c.requires);
-      largest_is = sym ((number_one 3 c.args.state.now (omega arith)));
+      size_is = sym (size_in);
+      size_fits = omega (arith, size_in, c.requires);
+      largest_is = sym (largest_in_lem);
     })

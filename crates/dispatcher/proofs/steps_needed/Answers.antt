@@ -12,21 +12,45 @@ use Rattle.dispatcher.proofs.steps_needed.Goals as goal
 
 pub returns-then-not-lengths_fit : goal.returns-then-not-lengths_fit
 returns-then-not-lengths_fit c =
-    needs_lengths ((lists c.args.state.now c.args.keys.now c.args.chutes.now c.args.answers.now)) ((c.args.commands.now)) ((c.lengths_fit.ensures ((lists c.args.state.now c.args.keys.now c.args.chutes.now c.args.answers.now)) ((c.args.commands.now)) refl refl refl refl refl) ∙ not-true _ c.if-not-lengths_fit.true-raw)
+    let given : Lists = lists c.args.state.now c.args.keys.now c.args.chutes.now c.args.answers.now in
+    let commands_of : List ℕ = c.args.commands.now in
+    let lengths_is : handed_back_fit (given) (commands_of) ≡ c.lengths_fit.result = c.lengths_fit.ensures (given) (commands_of) refl refl refl refl refl in
+    needs_lengths (given) (commands_of) (lengths_is ∙ not-true _ c.if-not-lengths_fit.true-raw)
 
 pub state_fits-requires : goal.state_fits-requires
 state_fits-requires c =
-    (Passed.lengths_passed ((lists c.args.state.now c.args.keys.now c.args.chutes.now c.args.answers.now)) ((c.args.commands.now)) (((c.lengths_fit.ensures ((lists c.args.state.now c.args.keys.now c.args.chutes.now c.args.answers.now)) ((c.args.commands.now)) refl refl refl refl refl) ∙ not-false _ c.if-not-lengths_fit.false-raw))).state
+    let given : Lists = lists c.args.state.now c.args.keys.now c.args.chutes.now c.args.answers.now in
+    let commands_of : List ℕ = c.args.commands.now in
+    let lengths_is : handed_back_fit (given) (commands_of) ≡ c.lengths_fit.result = c.lengths_fit.ensures (given) (commands_of) refl refl refl refl refl in
+    let lengths_passed : handed_back_fit (given) (commands_of) ≡ true = lengths_is ∙ not-false _ c.if-not-lengths_fit.false-raw in
+    (Passed.lengths_passed (given) (commands_of) (lengths_passed)).state
 
 pub returns-then-not-state_fits : goal.returns-then-not-state_fits
 returns-then-not-state_fits c =
-    needs_state ((lists c.args.state.now c.args.keys.now c.args.chutes.now c.args.answers.now)) ((c.args.commands.now)) (((c.lengths_fit.ensures ((lists c.args.state.now c.args.keys.now c.args.chutes.now c.args.answers.now)) ((c.args.commands.now)) refl refl refl refl refl) ∙ not-false _ c.if-not-lengths_fit.false-raw)) ((c.state_fits.ensures ((lists c.args.state.now c.args.keys.now c.args.chutes.now c.args.answers.now)) refl refl) ∙ not-true _ c.if-not-state_fits.true-raw)
+    let given : Lists = lists c.args.state.now c.args.keys.now c.args.chutes.now c.args.answers.now in
+    let commands_of : List ℕ = c.args.commands.now in
+    let lengths_is : handed_back_fit (given) (commands_of) ≡ c.lengths_fit.result = c.lengths_fit.ensures (given) (commands_of) refl refl refl refl refl in
+    let lengths_passed : handed_back_fit (given) (commands_of) ≡ true = lengths_is ∙ not-false _ c.if-not-lengths_fit.false-raw in
+    let state_is : state_fits (given) ≡ c.state_fits.result = c.state_fits.ensures (given) refl refl in
+    needs_state (given) (commands_of) (lengths_passed) (state_is ∙ not-true _ c.if-not-state_fits.true-raw)
 
 pub needed-requires : goal.needed-requires
 needed-requires c =
-    can_need ((lists c.args.state.now c.args.keys.now c.args.chutes.now c.args.answers.now)) ((c.args.commands.now)) (((c.lengths_fit.ensures ((lists c.args.state.now c.args.keys.now c.args.chutes.now c.args.answers.now)) ((c.args.commands.now)) refl refl refl refl refl) ∙ not-false _ c.if-not-lengths_fit.false-raw)) (((c.state_fits.ensures ((lists c.args.state.now c.args.keys.now c.args.chutes.now c.args.answers.now)) refl refl) ∙ not-false _ c.if-not-state_fits.false-raw))
+    let given : Lists = lists c.args.state.now c.args.keys.now c.args.chutes.now c.args.answers.now in
+    let commands_of : List ℕ = c.args.commands.now in
+    let lengths_is : handed_back_fit (given) (commands_of) ≡ c.lengths_fit.result = c.lengths_fit.ensures (given) (commands_of) refl refl refl refl refl in
+    let lengths_passed : handed_back_fit (given) (commands_of) ≡ true = lengths_is ∙ not-false _ c.if-not-lengths_fit.false-raw in
+    let state_is : state_fits (given) ≡ c.state_fits.result = c.state_fits.ensures (given) refl refl in
+    let state_passed : state_fits (given) ≡ true = state_is ∙ not-false _ c.if-not-state_fits.false-raw in
+    can_need (given) (commands_of) (lengths_passed) (state_passed)
 
 pub returns : goal.returns
 returns c =
-    let fit = ((c.lengths_fit.ensures ((lists c.args.state.now c.args.keys.now c.args.chutes.now c.args.answers.now)) ((c.args.commands.now)) refl refl refl refl refl) ∙ not-false _ c.if-not-lengths_fit.false-raw) in
-    needs_so ((lists c.args.state.now c.args.keys.now c.args.chutes.now c.args.answers.now)) ((c.args.commands.now)) fit (((c.state_fits.ensures ((lists c.args.state.now c.args.keys.now c.args.chutes.now c.args.answers.now)) refl refl) ∙ not-false _ c.if-not-state_fits.false-raw)) (c.needed.ensures ((lists c.args.state.now c.args.keys.now c.args.chutes.now c.args.answers.now)) ((c.args.commands.now)) refl (all_there ((lists c.args.state.now c.args.keys.now c.args.chutes.now c.args.answers.now)) ((c.args.commands.now)) fit))
+    let given : Lists = lists c.args.state.now c.args.keys.now c.args.chutes.now c.args.answers.now in
+    let commands_of : List ℕ = c.args.commands.now in
+    let lengths_is : handed_back_fit (given) (commands_of) ≡ c.lengths_fit.result = c.lengths_fit.ensures (given) (commands_of) refl refl refl refl refl in
+    let lengths_passed : handed_back_fit (given) (commands_of) ≡ true = lengths_is ∙ not-false _ c.if-not-lengths_fit.false-raw in
+    let state_is : state_fits (given) ≡ c.state_fits.result = c.state_fits.ensures (given) refl refl in
+    let state_passed : state_fits (given) ≡ true = state_is ∙ not-false _ c.if-not-state_fits.false-raw in
+    let fit = lengths_passed in
+    needs_so (given) (commands_of) fit (state_passed) (c.needed.ensures (given) (commands_of) refl (all_there (given) (commands_of) fit))

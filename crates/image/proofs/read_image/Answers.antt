@@ -19,21 +19,30 @@ loop-used-init c =
     (along_begins _ _ c.requires.2 c.next_in-index.ensures, laid_none _ refl c.requires.1)
 
 pub key_in-requires : goal.key_in-requires
-key_in-requires c = (along_in_image c.loop-used.invariant.0 c.loop-used-test.true ((eqb-false c.loop-used.index 0 (not-true _ c.if-index-ne0.true-raw))) c.requires.0)
+key_in-requires c =
+    let index_is_not_0 : c.loop-used.index ≡ 0 → ⊥ = eqb-false c.loop-used.index 0 (not-true _ c.if-index-ne0.true-raw) in
+    let index_within : 16 * c.loop-used.index + 16 ≤ length c.args.image.now = along_in_image c.loop-used.invariant.0 c.loop-used-test.true (index_is_not_0) c.requires.0 in
+    index_within
 
 pub chute_in-requires : goal.chute_in-requires
-chute_in-requires c = (along_in_image c.loop-used.invariant.0 c.loop-used-test.true ((eqb-false c.loop-used.index 0 (not-true _ c.if-index-ne0.true-raw))) c.requires.0)
+chute_in-requires c =
+    let index_is_not_0 : c.loop-used.index ≡ 0 → ⊥ = eqb-false c.loop-used.index 0 (not-true _ c.if-index-ne0.true-raw) in
+    let index_within : 16 * c.loop-used.index + 16 ≤ length c.args.image.now = along_in_image c.loop-used.invariant.0 c.loop-used-test.true (index_is_not_0) c.requires.0 in
+    index_within
 
 pub next_in-index-requires-in-loop-used : goal.next_in-index-requires-in-loop-used
 unfolding image_length
-next_in-index-requires-in-loop-used c = omega (arith, (along_in_image c.loop-used.invariant.0 c.loop-used-test.true ((eqb-false c.loop-used.index 0 (not-true _ c.if-index-ne0.true-raw))) c.requires.0))
+next_in-index-requires-in-loop-used c = let index_is_not_0 : c.loop-used.index ≡ 0 → ⊥ = eqb-false c.loop-used.index 0 (not-true _ c.if-index-ne0.true-raw) in
+    let index_within : 16 * c.loop-used.index + 16 ≤ length c.args.image.now = along_in_image c.loop-used.invariant.0 c.loop-used-test.true (index_is_not_0) c.requires.0 in
+    omega (arith, index_within)
 
 pub loop-used-preserved : goal.loop-used-preserved
 loop-used-preserved c =
+    let index_is_not_0 : c.loop-used.index ≡ 0 → ⊥ = eqb-false c.loop-used.index 0 (not-true _ c.if-index-ne0.true-raw) in
     let inv = c.loop-used.invariant in
     let met = c.loop-used-test.true in (
-      along_goes_on inv.0 met ((eqb-false c.loop-used.index 0 (not-true _ c.if-index-ne0.true-raw))) c.next_in-index-in-loop-used.ensures,
-      laid_entry inv.1 inv.0 met ((eqb-false c.loop-used.index 0 (not-true _ c.if-index-ne0.true-raw))) c.key_in.ensures c.chute_in.ensures,
+      along_goes_on inv.0 met (index_is_not_0) c.next_in-index-in-loop-used.ensures,
+      laid_entry inv.1 inv.0 met (index_is_not_0) c.key_in.ensures c.chute_in.ensures,
     )
 
 pub loop-k-init : goal.loop-k-init

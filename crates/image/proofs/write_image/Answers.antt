@@ -25,22 +25,29 @@ loop-i-init c = fields_none _ _ _ _ _
 pub put_slot-requires-then-i-n : goal.put_slot-requires-then-i-n
 unfolding image_length
 put_slot-requires-then-i-n c =
-    omega (arith, (fields_put_length c.loop-i.invariant ∙ (ap length c.put_slot.ensures ∙ pasted_length _ _ _)), c.requires)
+    let image_length_lem : length c.loop-i.image ≡ length c.args.image.now = fields_put_length c.loop-i.invariant ∙ (ap length c.put_slot.ensures ∙ pasted_length _ _ _) in
+    omega (arith, image_length_lem, c.requires)
 
 pub put_slot-requires-else-i-n : goal.put_slot-requires-else-i-n
 unfolding image_length
 put_slot-requires-else-i-n c =
-    omega (arith, (fields_put_length c.loop-i.invariant ∙ (ap length c.put_slot.ensures ∙ pasted_length _ _ _)), c.requires)
+    let image_length_lem : length c.loop-i.image ≡ length c.args.image.now = fields_put_length c.loop-i.invariant ∙ (ap length c.put_slot.ensures ∙ pasted_length _ _ _) in
+    omega (arith, image_length_lem, c.requires)
 
 pub loop-i-preserved : goal.loop-i-preserved
 loop-i-preserved c =
-    fields_put c.loop-i.invariant (16 * (c.loop-i.i + 1)) c.loop-i-test.true (omega arith) (slot_length c.args.place ((store_of c.args.keys.now c.args.chutes.now c.args.used)) (suc c.loop-i.i)) ((let place = c.args.place in let i = c.loop-i.i in let put : List ℕ → List ℕ = λ part. pasted (16 * (i + 1)) part c.loop-i.image in ⊎_elim (λ w. w.8 ∙ (w.5.ensures ∙ ap put (slot_entry place ((store_of c.args.keys.now c.args.chutes.now c.args.used)) c.in_use-n.ensures.counted i w.0.taken w.2.ensures))) (λ w. w.5 ∙ (w.2.ensures ∙ ap put (slot_zeros place ((store_of c.args.keys.now c.args.chutes.now c.args.used)) c.in_use-n.ensures.counted i w.0.left))) c.if-i-n.branch))
+    let store : Store = store_of c.args.keys.now c.args.chutes.now c.args.used in
+    let turn_puts : c.if-i-n.image ≡ pasted (16 * (c.loop-i.i + 1)) (slot_of c.args.place (store) (suc c.loop-i.i)) c.loop-i.image = let place = c.args.place in let i = c.loop-i.i in let put : List ℕ → List ℕ = λ part. pasted (16 * (i + 1)) part c.loop-i.image in ⊎_elim (λ w. w.8 ∙ (w.5.ensures ∙ ap put (slot_entry place (store) c.in_use-n.ensures.counted i w.0.taken w.2.ensures))) (λ w. w.5 ∙ (w.2.ensures ∙ ap put (slot_zeros place (store) c.in_use-n.ensures.counted i w.0.left))) c.if-i-n.branch in
+    fields_put c.loop-i.invariant (16 * (c.loop-i.i + 1)) c.loop-i-test.true (omega arith) (slot_length c.args.place (store) (suc c.loop-i.i)) (turn_puts)
 
 pub shape_of-image : goal.shape_of-image
-shape_of-image c = (fields_put_length c.loop-i.invariant ∙ (ap length c.put_slot.ensures ∙ pasted_length _ _ _))
+shape_of-image c =
+    let image_length_lem : length c.loop-i.image ≡ length c.args.image.now = fields_put_length c.loop-i.invariant ∙ (ap length c.put_slot.ensures ∙ pasted_length _ _ _) in
+    image_length_lem
 
 pub returns : goal.returns
 returns c =
+    let store : Store = store_of c.args.keys.now c.args.chutes.now c.args.used in
     let place = c.args.place in
-    image_put (length c.args.keys.now) place ((store_of c.args.keys.now c.args.chutes.now c.args.used)) c.args.image.now c.requires c.in_use-n.ensures.counted
+    image_put (length c.args.keys.now) place (store) c.args.image.now c.requires c.in_use-n.ensures.counted
     c.next_index.ensures c.put_slot.ensures (fields_all c.loop-i.invariant c.loop-i-test.false)

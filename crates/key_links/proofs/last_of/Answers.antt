@@ -30,10 +30,14 @@ pub bounds-previous-j : goal.bounds-previous-j
 bounds-previous-j c = omega (arith, c.loop-link.invariant.0, c.requires.0, c.requires.1)
 
 pub loop-link-smaller : goal.loop-link-smaller
-loop-link-smaller c = ((let a = c.args in let j : ℕ = c.loop-link.link - 1 in let is : c.loop-link.link ≡ suc j = omega arith in let all = walk_goes a.keys.now a.previous.now a.key a.k j c.requires.3 (rw is at c.loop-link.invariant) c.if-keys-j.false in (omega (arith, all.0, is), all.1))).0
+loop-link-smaller c =
+    let goes : let a = c.args in (get_or a.previous.now (c.loop-link.link - 1) 0 < c.loop-link.link) × Walked a.keys.now a.key a.k (get_or a.previous.now (c.loop-link.link - 1) 0) = let a = c.args in let j : ℕ = c.loop-link.link - 1 in let is : c.loop-link.link ≡ suc j = omega arith in let all = walk_goes a.keys.now a.previous.now a.key a.k j c.requires.3 (rw is at c.loop-link.invariant) c.if-keys-j.false in (omega (arith, all.0, is), all.1) in
+    (goes).0
 
 pub loop-link-preserved : goal.loop-link-preserved
-loop-link-preserved c = ((let a = c.args in let j : ℕ = c.loop-link.link - 1 in let is : c.loop-link.link ≡ suc j = omega arith in let all = walk_goes a.keys.now a.previous.now a.key a.k j c.requires.3 (rw is at c.loop-link.invariant) c.if-keys-j.false in (omega (arith, all.0, is), all.1))).1
+loop-link-preserved c =
+    let goes : let a = c.args in (get_or a.previous.now (c.loop-link.link - 1) 0 < c.loop-link.link) × Walked a.keys.now a.key a.k (get_or a.previous.now (c.loop-link.link - 1) 0) = let a = c.args in let j : ℕ = c.loop-link.link - 1 in let is : c.loop-link.link ≡ suc j = omega arith in let all = walk_goes a.keys.now a.previous.now a.key a.k j c.requires.3 (rw is at c.loop-link.invariant) c.if-keys-j.false in (omega (arith, all.0, is), all.1) in
+    (goes).1
 
 pub returns : goal.returns
 unfolding last_of

@@ -34,15 +34,15 @@ bits_with w b k h =
     ∙ bit_of_or w (2 ^ b) k ∙ ap (λ (t : Bool). bit w k || t) (bit_of_power b k)
 
 pub returns-then-n-ge192 : goal.returns-then-n-ge192
-returns-then-n-ge192 c =
+returns-then-n-ge192 c n =
     let m = c.args.node.0 in
-    let old = member c.args.t1 n in
+    let old = member c.args.set n in
     sym (or-false old)
     ∙ ap (λ (t : Bool). old || t) (sym (and-false (eqb n m)) ∙ test_of_node n m false (le-ltb m 192 (omega arith)))
 
 pub returns : goal.returns
-returns c =
-    let s = c.args.t1 in
+returns c n =
+    let s = c.args.set in
     let m = c.args.node.0 in
     let old = member s n in
     member_of_store ◌||◌ or-false s m (bit_or (get_or s (m / 64) 0) ((1 * 2 ^ (m % 64)) % 2 ^ 64)) (search rules)

@@ -25,6 +25,7 @@ overflow_add-result-2 c = omega (arith, few_ones c 0, few_ones c 1, few_ones c 2
 
 pub returns : goal.returns
 returns c =
-    ones_count_members (get_or c.args.t1 0 0) (get_or c.args.t1 1 0) (get_or c.args.t1 2 0)
-    (((array_is_a_set c.args.t1 (search rules) (λ i. search rules))).ranges 0) (((array_is_a_set c.args.t1 (search rules) (λ i. search rules))).ranges 1) (((array_is_a_set c.args.t1 (search rules) (λ i. search rules))).ranges 2)
-    ∙ ap (λ (s : List ℕ). count_below 192 (member s)) (sym (three_words c.args.t1 ((array_is_a_set c.args.t1 (search rules) (λ i. search rules))).three))
+    let words : NodeSet c.args.set = array_is_a_set c.args.set (search rules) (λ i. search rules) in
+    ones_count_members (get_or c.args.set 0 0) (get_or c.args.set 1 0) (get_or c.args.set 2 0)
+    ((words).ranges 0) ((words).ranges 1) ((words).ranges 2)
+    ∙ ap (λ (s : List ℕ). count_below 192 (member s)) (sym (three_words c.args.set (words).three))

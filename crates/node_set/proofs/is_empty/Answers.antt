@@ -53,4 +53,4 @@ module _ (s : List ℕ) (is : NodeSet s) where
       (λ e. ap (λ (l : List ℕ). eqb (joined l) 0) (none_are_zeros e))
 
 pub returns : goal.returns
-returns c = joined_zero_is_none c.args.t1 (array_is_a_set c.args.t1 (search rules) (λ i. search rules))
+returns c = joined_zero_is_none c.args.set (array_is_a_set c.args.set (search rules) (λ i. search rules))

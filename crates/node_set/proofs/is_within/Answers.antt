@@ -11,22 +11,25 @@ use Rattle.node_set.proofs.is_within.Goals as goal
 
 pub returns-then-not-has_places : goal.returns-then-not-has_places
 returns-then-not-has_places c =
-    let set = c.args.t1 in
+    let words : NodeSet c.args.set = array_is_a_set c.args.set (search rules) (λ i. search rules) in
+    let set = c.args.set in
     let limit = c.args.limit in
-    word_above set ((array_is_a_set c.args.t1 (search rules) (λ i. search rules))) limit 0 (omega arith)
-    (tested_word set ((array_is_a_set c.args.t1 (search rules) (λ i. search rules))) limit 0 {places = limit + 1} (omega arith) c.has_places.ensures (not-true _ c.if-not-has_places.true-raw))
+    word_above set (words) limit 0 (omega arith)
+    (tested_word set (words) limit 0 {places = limit + 1} (omega arith) c.has_places.ensures (not-true _ c.if-not-has_places.true-raw))
 
 pub returns-then-not-has_places-2 : goal.returns-then-not-has_places-2
 returns-then-not-has_places-2 c =
-    let set = c.args.t1 in
+    let words : NodeSet c.args.set = array_is_a_set c.args.set (search rules) (λ i. search rules) in
+    let set = c.args.set in
     let limit = c.args.limit in
-    word_above set ((array_is_a_set c.args.t1 (search rules) (λ i. search rules))) limit 1 (omega arith)
-    (tested_word set ((array_is_a_set c.args.t1 (search rules) (λ i. search rules))) limit 1 c.left_after.ensures c.has_places-2.ensures (not-true _ c.if-not-has_places-2.true-raw))
+    word_above set (words) limit 1 (omega arith)
+    (tested_word set (words) limit 1 c.left_after.ensures c.has_places-2.ensures (not-true _ c.if-not-has_places-2.true-raw))
 
 pub returns : goal.returns
 returns c =
-    let set = c.args.t1 in
-    let is = (array_is_a_set c.args.t1 (search rules) (λ i. search rules)) in
+    let words : NodeSet c.args.set = array_is_a_set c.args.set (search rules) (λ i. search rules) in
+    let set = c.args.set in
+    let is = words in
     let limit = c.args.limit in
     let first = tested_word set is limit 0 {places = limit + 1} (omega arith) c.has_places.ensures (not-false _ c.if-not-has_places.false-raw) in
     let second = tested_word set is limit 1 c.left_after.ensures c.has_places-2.ensures (not-false _ c.if-not-has_places-2.false-raw) in

@@ -32,13 +32,13 @@ bits_without w b k hb hk =
     ∙ ap (λ (t : Bool). bit w k && t) (bit_of_complement 64 (2 ^ b) k (pow-lt hb) hk ∙ ap not (bit_of_power b k))
 
 pub returns-then-n-ge192 : goal.returns-then-n-ge192
-returns-then-n-ge192 c =
-    let long : length c.args.t1 ≡ 3 = search rules in
-    past_is_not_there c.args.t1 c.args.node.0 n (omega arith)
+returns-then-n-ge192 c n =
+    let long : length c.args.set ≡ 3 = search rules in
+    past_is_not_there c.args.set c.args.node.0 n (omega arith)
 
 pub returns : goal.returns
-returns c =
-    let s = c.args.t1 in
+returns c n =
+    let s = c.args.set in
     let m = c.args.node.0 in
     member_of_store (λ x t. x && not t) and-true s m (bit_and (get_or s (m / 64) 0) ((2 ^ 64 - 1) - (1 * 2 ^ (m % 64)) % 2 ^ 64)) (search rules)
     (λ b h. bits_without (get_or s (m / 64) 0) (m % 64) b (omega arith) h) n

@@ -13,6 +13,6 @@ pub loop-n-preserved : goal.loop-n-preserved
 loop-n-preserved c = (omega arith, first_more c.loop-n.n c.loop-n.next (omega arith) c.loop-n.invariant.1)
 
 pub returns : goal.returns
-returns c =
+returns c n =
     let whole : c.loop-n.n ≡ c.args.size = omega arith in
     c.loop-n.invariant.1.is n ∙ ap (λ (size : ℕ). first_next size n) whole

@@ -8,6 +8,6 @@ use Rattle.opening.proofs.FirstState.{opened_shown}
 use Rattle.opening.proofs.write_opened.Goals as goal
 
 pub returns : goal.returns
-returns c =
+returns c o sets entries =
     let next = c.first_next-next in
     c.write_state.ensures o (opened o) sets (opened_shown o _ _ next.result sets.workers entries (λ n. next.ensures n ∙ ap (λ (size : ℕ). first_next size n) (sym sets.size)))

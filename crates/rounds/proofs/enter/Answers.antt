@@ -46,12 +46,15 @@ at_link-changed-requires c =
 
 pub round_of-round-requires : goal.round_of-round-requires
 round_of-round-requires c =
+    let all_is : let a = c.args in c.at-link.result ≡ at_link a.alls.now (last_of a.keys.now a.command.key a.i) = let a = c.args in c.at-link.ensures ∙ ap (λ (l : ℕ). at_link a.alls.now l) c.last_of-link.ensures in
+    let changed_is : let a = c.args in c.at_link-changed.result ≡ at_link a.changes.now (last_of a.keys.now a.command.key a.i) = let a = c.args in c.at_link-changed.ensures ∙ ap (λ (l : ℕ). at_link a.changes.now l) c.last_of-link.ensures in
+    let same_is : let a = c.args in let l = last_of a.keys.now a.command.key a.i in c.same_round.result ≡ cond (is_read a.command.kind) (at_link a.changes.now l) (at_link a.alls.now l) = let read = c.is_read.ensures in c.same_round.ensures ∙ one_of read (changed_is) (all_is) in
     let p = c.requires in
     let long = p.8.1 in
     let low = entered_low p.8.2 in
     let all = rw long at (all_low p.8.2 c.args.command.key) in
     let changed = rw long at (changed_low p.8.2 c.args.command.key) in
-    (omega (arith, low.0, long, p.0), omega (arith, low.1, long, p.0), omega (arith, low.2, long, p.0), rw ((let read = c.is_read.ensures in c.same_round.ensures ∙ one_of read ((let a = c.args in c.at_link-changed.ensures ∙ ap (λ (l : ℕ). at_link a.changes.now l) c.last_of-link.ensures)) ((let a = c.args in c.at-link.ensures ∙ ap (λ (l : ℕ). at_link a.alls.now l) c.last_of-link.ensures)))) (either (is_read c.args.command.kind) _ _ (omega (arith, changed, p.0)) (omega (arith, all, p.0))))
+    (omega (arith, low.0, long, p.0), omega (arith, low.1, long, p.0), omega (arith, low.2, long, p.0), rw (same_is) (either (is_read c.args.command.kind) _ _ (omega (arith, changed, p.0)) (omega (arith, all, p.0))))
   where
     either : (t : Bool) (x y : ℕ) → x ≤ 4095 → y ≤ 4095 → cond t x y ≤ 4095
     either true x y p q = p
@@ -59,13 +62,15 @@ round_of-round-requires c =
 
 pub returns : goal.returns
 returns c =
+    let all_is : let a = c.args in c.at-link.result ≡ at_link a.alls.now (last_of a.keys.now a.command.key a.i) = let a = c.args in c.at-link.ensures ∙ ap (λ (l : ℕ). at_link a.alls.now l) c.last_of-link.ensures in
+    let changed_is : let a = c.args in c.at_link-changed.result ≡ at_link a.changes.now (last_of a.keys.now a.command.key a.i) = let a = c.args in c.at_link-changed.ensures ∙ ap (λ (l : ℕ). at_link a.changes.now l) c.last_of-link.ensures in
     let a = c.args in
     let p = c.requires in
     let b = c.bucket-of.ensures in
     let index = indexed_more a.keys.now a.previous.now a.heads.now a.i a.command.key p.7 (omega (arith, p.0, p.1)) (omega (arith, p.0, p.4)) p.5 (rw b.0 at b.1) in
     let read = c.is_read.ensures in
-    let all = c.larger.ensures ∙ ap (λ (n : ℕ). max n c.round_of-round.result) ((let a = c.args in c.at-link.ensures ∙ ap (λ (l : ℕ). at_link a.alls.now l) c.last_of-link.ensures)) in
-    let changed = c.larger-2.ensures ∙ ap₂ max ((let a = c.args in c.at_link-changed.ensures ∙ ap (λ (l : ℕ). at_link a.changes.now l) c.last_of-link.ensures)) (c.round_if.ensures ∙ ap (λ (t : Bool). cond (not t) c.round_of-round.result 0) read) in (
+    let all = c.larger.ensures ∙ ap (λ (n : ℕ). max n c.round_of-round.result) (all_is) in
+    let changed = c.larger-2.ensures ∙ ap₂ max (changed_is) (c.round_if.ensures ∙ ap (λ (t : Bool). cond (not t) c.round_of-round.result 0) read) in (
       rw (b.0, add-one) index,
       λ es long e. entered_with es a.keys.now a.alls.now a.changes.now a.rounds.now a.largest c.largest_after.result a.command a.i c.round_of-round.result _ _ e long
           (round_is c es long e) c.largest_after.ensures all changed (omega (arith, p.0, p.1)) (omega (arith, p.0, p.2)) (omega (arith, p.0, p.3)) (omega (arith, p.0, p.6)),

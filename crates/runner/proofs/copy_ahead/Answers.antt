@@ -30,10 +30,13 @@ pub loop-k-init : goal.loop-k-init
 loop-k-init c = (omega arith, search (rules), λ i less. absurd (omega arith))
 
 pub overflow_add-ahead : goal.overflow_add-ahead
-overflow_add-ahead c = omega (arith, (omega (arith, c.requires.1, c.loop-k-test.true, c.at_once-n.ensures.0)))
+overflow_add-ahead c = let there : c.args.done + c.loop-k.k < length c.args.schedule.now = omega (arith, c.requires.1, c.loop-k-test.true, c.at_once-n.ensures.0) in
+    omega (arith, there)
 
 pub bounds-schedule-done : goal.bounds-schedule-done
-bounds-schedule-done c = (omega (arith, c.requires.1, c.loop-k-test.true, c.at_once-n.ensures.0))
+bounds-schedule-done c =
+    let there : c.args.done + c.loop-k.k < length c.args.schedule.now = omega (arith, c.requires.1, c.loop-k-test.true, c.at_once-n.ensures.0) in
+    there
 
 pub loop-k-preserved : goal.loop-k-preserved
 loop-k-preserved c =
@@ -44,7 +47,7 @@ pub shape_of-ahead : goal.shape_of-ahead
 shape_of-ahead c = c.loop-k.invariant.1 ∙ sym c.requires.0
 
 pub returns : goal.returns
-returns c =
+returns c plan =
     let n = c.at_once-n in
     let all : c.loop-k.k ≡ n.result = omega arith in
     record {

@@ -27,7 +27,7 @@ number_at-requires-2 c = omega arith
 
 pub returns : goal.returns
 unfolding state_length setup_in count_in
-returns c =
+returns c commands count =
     let b = c.args.state.now in
     record {
       size = number_one 1 b (omega (arith, c.requires));

@@ -33,21 +33,28 @@ sum_step text sum k s h inv =
 -- the weights of the code are those of the definition
 pub loop-k-preserved : goal.loop-k-preserved
 unfolding weights
-loop-k-preserved c = (omega arith, ((sum_step c.args.digits.now _ _ c.requires c.loop-k-test.true c.loop-k.invariant.1)).0)
+loop-k-preserved c =
+    let next : Step c.args.digits.now c.loop-k.sum c.loop-k.k = sum_step c.args.digits.now _ _ c.requires c.loop-k-test.true c.loop-k.invariant.1 in
+    (omega arith, (next).0)
 
 pub overflow_sub-sum : goal.overflow_sub-sum
-overflow_sub-sum c = ((c.requires.digit c.loop-k.k (omega arith))).0
+overflow_sub-sum c =
+    let digit : Between 48 57 (get_or c.args.digits.now c.loop-k.k 0) = c.requires.digit c.loop-k.k (omega arith) in
+    (digit).0
 
 pub overflow_cast-sum : goal.overflow_cast-sum
-overflow_cast-sum c = omega (arith, (c.requires.digit c.loop-k.k (omega arith)))
+overflow_cast-sum c = let digit : Between 48 57 (get_or c.args.digits.now c.loop-k.k 0) = c.requires.digit c.loop-k.k (omega arith) in
+    omega (arith, digit)
 
 pub overflow_mul-sum : goal.overflow_mul-sum
 unfolding weights
-overflow_mul-sum c = omega (arith, ((sum_step c.args.digits.now _ _ c.requires c.loop-k-test.true c.loop-k.invariant.1)).1)
+overflow_mul-sum c = let next : Step c.args.digits.now c.loop-k.sum c.loop-k.k = sum_step c.args.digits.now _ _ c.requires c.loop-k-test.true c.loop-k.invariant.1 in
+    omega (arith, (next).1)
 
 pub overflow_add-sum : goal.overflow_add-sum
 unfolding weights
-overflow_add-sum c = omega (arith, ((sum_step c.args.digits.now _ _ c.requires c.loop-k-test.true c.loop-k.invariant.1)).1)
+overflow_add-sum c = let next : Step c.args.digits.now c.loop-k.sum c.loop-k.k = sum_step c.args.digits.now _ _ c.requires c.loop-k-test.true c.loop-k.invariant.1 in
+    omega (arith, (next).1)
 
 pub returns : goal.returns
 unfolding weights weighted

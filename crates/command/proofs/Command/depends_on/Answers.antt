@@ -21,19 +21,25 @@ returns-then-not-has_item-2 c =
 pub returns-then-is_insert_or_delete-2 : goal.returns-then-is_insert_or_delete-2
 unfolding are_dependent
 returns-then-is_insert_or_delete-2 c =
+    let both_have : let a = c.args in has_item a.self.kind && has_item a.other.kind ≡ true = let first = c.has_item.ensures in simp (sym first ∙ not-false _ c.if-not-has_item.false-raw, sym c.has_item-2.ensures ∙ not-false _ c.if-not-has_item-2.false-raw) in
     let first = c.is_insert_or_delete.ensures in
     let second = c.is_insert_or_delete-then-is_insert_or_delete.ensures in
-    rw ((let first = c.has_item.ensures in simp (sym first ∙ not-false _ c.if-not-has_item.false-raw, sym c.has_item-2.ensures ∙ not-false _ c.if-not-has_item-2.false-raw)), sym first ∙ c.if-is_insert_or_delete.true, sym second ∙ c.if-is_insert_or_delete-2.true)
+    rw (both_have, sym first ∙ c.if-is_insert_or_delete.true, sym second ∙ c.if-is_insert_or_delete-2.true)
 
 pub returns-then-self-other : goal.returns-then-self-other
 unfolding are_dependent
-returns-then-self-other c = simp ((let first = c.has_item.ensures in simp (sym first ∙ not-false _ c.if-not-has_item.false-raw, sym c.has_item-2.ensures ∙ not-false _ c.if-not-has_item-2.false-raw)), (let first = c.is_insert_or_delete.ensures in ⊎_elim (λ w. simp (sym w.1.ensures ∙ w.2.left, and-false)) (λ w. simp (sym first ∙ w.left)) c.else-is_insert_or_delete.branch), ne_eqb _ _ c.if-self-other.true)
+returns-then-self-other c =
+    let both_have : let a = c.args in has_item a.self.kind && has_item a.other.kind ≡ true = let first = c.has_item.ensures in simp (sym first ∙ not-false _ c.if-not-has_item.false-raw, sym c.has_item-2.ensures ∙ not-false _ c.if-not-has_item-2.false-raw) in
+    let one_is_neither : let a = c.args in is_insert_or_delete a.self.kind && is_insert_or_delete a.other.kind ≡ false = let first = c.is_insert_or_delete.ensures in ⊎_elim (λ w. simp (sym w.1.ensures ∙ w.2.left, and-false)) (λ w. simp (sym first ∙ w.left)) c.else-is_insert_or_delete.branch in
+    simp (both_have, one_is_neither, ne_eqb _ _ c.if-self-other.true)
 
 pub returns : goal.returns
 unfolding are_dependent
 returns c =
-    let both = (let first = c.has_item.ensures in simp (sym first ∙ not-false _ c.if-not-has_item.false-raw, sym c.has_item-2.ensures ∙ not-false _ c.if-not-has_item-2.false-raw)) in
-    let neither = (let first = c.is_insert_or_delete.ensures in ⊎_elim (λ w. simp (sym w.1.ensures ∙ w.2.left, and-false)) (λ w. simp (sym first ∙ w.left)) c.else-is_insert_or_delete.branch) in
+    let both_have : let a = c.args in has_item a.self.kind && has_item a.other.kind ≡ true = let first = c.has_item.ensures in simp (sym first ∙ not-false _ c.if-not-has_item.false-raw, sym c.has_item-2.ensures ∙ not-false _ c.if-not-has_item-2.false-raw) in
+    let one_is_neither : let a = c.args in is_insert_or_delete a.self.kind && is_insert_or_delete a.other.kind ≡ false = let first = c.is_insert_or_delete.ensures in ⊎_elim (λ w. simp (sym w.1.ensures ∙ w.2.left, and-false)) (λ w. simp (sym first ∙ w.left)) c.else-is_insert_or_delete.branch in
+    let both = both_have in
+    let neither = one_is_neither in
     let same = eq-eqb _ _ c.if-self-other.false in
     let first = c.is_read.ensures in
     ⊎_elim

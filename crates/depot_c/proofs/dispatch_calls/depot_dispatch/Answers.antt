@@ -21,47 +21,67 @@ outcome c l = dispatch_on l c.args.commands.now c.args.schedule.now
 
 pub returns-then-count-ne-KEY : goal.returns-then-count-ne-KEY
 returns-then-count-ne-KEY c =
+    let given : Lists = all_lists c.args.state.now c.args.keys.now c.args.chutes.now c.args.answers.now c.args.image.now in
     let args = c.args in
-    told_short (outcome c (decoded ((all_lists c.args.state.now c.args.keys.now c.args.chutes.now c.args.answers.now c.args.image.now)))) ((all_lists c.args.state.now c.args.keys.now c.args.chutes.now c.args.answers.now c.args.image.now)) args.schedule.now args.count.now (ne_eqb _ _ c.if-count-ne-KEY.true)
+    told_short (outcome c (decoded (given))) (given) args.schedule.now args.count.now (ne_eqb _ _ c.if-count-ne-KEY.true)
 
 pub returns-then-not-are_whole : goal.returns-then-not-are_whole
 returns-then-not-are_whole c =
+    let given : Lists = all_lists c.args.state.now c.args.keys.now c.args.chutes.now c.args.answers.now c.args.image.now in
     let args = c.args in
-    let none = decoded_none ((all_lists c.args.state.now c.args.keys.now c.args.chutes.now c.args.answers.now c.args.image.now)) (sym c.are_whole.ensures ∙ not-true _ c.if-not-are_whole.true-raw) in
-    told_refused (outcome c (decoded ((all_lists c.args.state.now c.args.keys.now c.args.chutes.now c.args.answers.now c.args.image.now)))) ((all_lists c.args.state.now c.args.keys.now c.args.chutes.now c.args.answers.now c.args.image.now)) args.schedule.now args.count.now false (eq-eqb _ _ c.if-count-ne-KEY.false) refl
+    let none = decoded_none (given) (sym c.are_whole.ensures ∙ not-true _ c.if-not-are_whole.true-raw) in
+    told_refused (outcome c (decoded (given))) (given) args.schedule.now args.count.now false (eq-eqb _ _ c.if-count-ne-KEY.false) refl
     (ap (outcome c) none ∙ nothing_dispatched args.commands.now args.schedule.now)
 
 pub returns-then-not-have_room : goal.returns-then-not-have_room
 returns-then-not-have_room c =
+    let given : Lists = all_lists c.args.state.now c.args.keys.now c.args.chutes.now c.args.answers.now c.args.image.now in
+    let whole : let b = given in are_whole (length b.keys) (length b.chutes) (length b.answers) ≡ true = sym c.are-whole.ensures ∙ not-false _ c.if2.false in
+    let same : outcome c (number_lists (given)) ≡ outcome c (decoded (given)) = ap (outcome c) (sym (decoded_whole (given) (whole))) in
     let args = c.args in
-    let b = (all_lists c.args.state.now c.args.keys.now c.args.chutes.now c.args.answers.now c.args.image.now) in
+    let b = given in
     let answer = of_entries args.state.now args.keys.now args.chutes.now args.answers.now args.image.now args.commands.now
     {P = λ l list. c.long_image_answer.result ≡ cond (all_fit l list) 12 6} c.long_image_answer.ensures in
     let long = long_dispatched b args.commands.now args.schedule.now (sym c.have-room.ensures ∙ not-true _ c.if3.true) in
-    told_refused (outcome c (decoded b)) b args.schedule.now args.count.now (all_fit (number_lists b) args.commands.now) (eq-eqb _ _ c.if-count-ne-KEY.left) answer (sym ((ap (outcome c) (sym (decoded_whole ((all_lists c.args.state.now c.args.keys.now c.args.chutes.now c.args.answers.now c.args.image.now)) ((sym c.are-whole.ensures ∙ not-false _ c.if2.false)))))) ∙ long)
+    told_refused (outcome c (decoded b)) b args.schedule.now args.count.now (all_fit (number_lists b) args.commands.now) (eq-eqb _ _ c.if-count-ne-KEY.left) answer (sym (same) ∙ long)
 
 pub slice_bounds-key_room-end : goal.slice_bounds-key_room-end
-slice_bounds-key_room-end c = ((room_bounds _ _ _ (sym c.have_room.ensures ∙ not-false _ c.if-not-have_room.false-raw))).0
+slice_bounds-key_room-end c =
+    let bounds : let args = c.args in (length args.keys.now / 8 ≤ 4096) × (length args.chutes.now / 2 ≤ 4096) × (length args.answers.now / 2 ≤ 4096) = room_bounds _ _ _ (sym c.have_room.ensures ∙ not-false _ c.if-not-have_room.false-raw) in
+    (bounds).0
 
 pub slice_bounds-dispatch_within-end : goal.slice_bounds-dispatch_within-end
-slice_bounds-dispatch_within-end c = sym (length-take-le _ _ ((room_bounds _ _ _ (sym c.have_room.ensures ∙ not-false _ c.if-not-have_room.false-raw))).0)
+slice_bounds-dispatch_within-end c =
+    let bounds : let args = c.args in (length args.keys.now / 8 ≤ 4096) × (length args.chutes.now / 2 ≤ 4096) × (length args.answers.now / 2 ≤ 4096) = room_bounds _ _ _ (sym c.have_room.ensures ∙ not-false _ c.if-not-have_room.false-raw) in
+    sym (length-take-le _ _ (bounds).0)
 
 pub slice_bounds-chute_room-end : goal.slice_bounds-chute_room-end
-slice_bounds-chute_room-end c = ((room_bounds _ _ _ (sym c.have_room.ensures ∙ not-false _ c.if-not-have_room.false-raw))).1
+slice_bounds-chute_room-end c =
+    let bounds : let args = c.args in (length args.keys.now / 8 ≤ 4096) × (length args.chutes.now / 2 ≤ 4096) × (length args.answers.now / 2 ≤ 4096) = room_bounds _ _ _ (sym c.have_room.ensures ∙ not-false _ c.if-not-have_room.false-raw) in
+    (bounds).1
 
 pub slice_bounds-dispatch_within-end-2 : goal.slice_bounds-dispatch_within-end-2
-slice_bounds-dispatch_within-end-2 c = sym (length-take-le _ _ ((room_bounds _ _ _ (sym c.have_room.ensures ∙ not-false _ c.if-not-have_room.false-raw))).1)
+slice_bounds-dispatch_within-end-2 c =
+    let bounds : let args = c.args in (length args.keys.now / 8 ≤ 4096) × (length args.chutes.now / 2 ≤ 4096) × (length args.answers.now / 2 ≤ 4096) = room_bounds _ _ _ (sym c.have_room.ensures ∙ not-false _ c.if-not-have_room.false-raw) in
+    sym (length-take-le _ _ (bounds).1)
 
 pub slice_bounds-answer_room-end : goal.slice_bounds-answer_room-end
-slice_bounds-answer_room-end c = ((room_bounds _ _ _ (sym c.have_room.ensures ∙ not-false _ c.if-not-have_room.false-raw))).2
+slice_bounds-answer_room-end c =
+    let bounds : let args = c.args in (length args.keys.now / 8 ≤ 4096) × (length args.chutes.now / 2 ≤ 4096) × (length args.answers.now / 2 ≤ 4096) = room_bounds _ _ _ (sym c.have_room.ensures ∙ not-false _ c.if-not-have_room.false-raw) in
+    (bounds).2
 
 pub slice_bounds-dispatch_within-end-3 : goal.slice_bounds-dispatch_within-end-3
-slice_bounds-dispatch_within-end-3 c = sym (length-take-le _ _ ((room_bounds _ _ _ (sym c.have_room.ensures ∙ not-false _ c.if-not-have_room.false-raw))).2)
+slice_bounds-dispatch_within-end-3 c =
+    let bounds : let args = c.args in (length args.keys.now / 8 ≤ 4096) × (length args.chutes.now / 2 ≤ 4096) × (length args.answers.now / 2 ≤ 4096) = room_bounds _ _ _ (sym c.have_room.ensures ∙ not-false _ c.if-not-have_room.false-raw) in
+    sym (length-take-le _ _ (bounds).2)
 
 pub dispatch_within-dispatching-requires : goal.dispatch_within-dispatching-requires
 dispatch_within-dispatching-requires c =
-    let fit = (room_bounds _ _ _ (sym c.have_room.ensures ∙ not-false _ c.if-not-have_room.false-raw)) in
-    let long = whole_lengths _ _ _ ((sym c.are_whole.ensures ∙ not-false _ c.if-not-are_whole.false-raw)) in
+    let bounds : let args = c.args in (length args.keys.now / 8 ≤ 4096) × (length args.chutes.now / 2 ≤ 4096) × (length args.answers.now / 2 ≤ 4096) = room_bounds _ _ _ (sym c.have_room.ensures ∙ not-false _ c.if-not-have_room.false-raw) in
+    let given : Lists = all_lists c.args.state.now c.args.keys.now c.args.chutes.now c.args.answers.now c.args.image.now in
+    let whole : let b = given in are_whole (length b.keys) (length b.chutes) (length b.answers) ≡ true = sym c.are_whole.ensures ∙ not-false _ c.if-not-are_whole.false-raw in
+    let fit = bounds in
+    let long = whole_lengths _ _ _ (whole) in
     record {
       keys_fit = long.0 ∙ ap (λ (m : ℕ). 8 * m) (sym (length-take-le _ _ fit.0));
       chutes_fit = long.1 ∙ ap (λ (m : ℕ). 2 * m) (sym (length-take-le _ _ fit.1));
@@ -70,18 +90,26 @@ dispatch_within-dispatching-requires c =
 
 pub returns-then-answer-eq0 : goal.returns-then-answer-eq0
 returns-then-answer-eq0 c =
+    let given : Lists = all_lists c.args.state.now c.args.keys.now c.args.chutes.now c.args.answers.now c.args.image.now in
+    let whole : let b = given in are_whole (length b.keys) (length b.chutes) (length b.answers) ≡ true = sym c.are_whole.ensures ∙ not-false _ c.if-not-are_whole.false-raw in
+    let same : outcome c (number_lists (given)) ≡ outcome c (decoded (given)) = ap (outcome c) (sym (decoded_whole (given) (whole))) in
+    let answer_is : c.number-answer.result ≡ packed (refusal_in (outcome c (decoded (given)))) = c.number-answer.ensures.0 ∙ dispatch_packed c.dispatch_within-dispatching.result ∙ ap (λ (r : Refusal). packed r) c.dispatch_within-dispatching.ensures.refusal ∙ ap (λ (o : DispatchOutcome). packed (refusal_in o)) (same) in
     let args = c.args in
     let is = c.dispatch_within-dispatching.ensures.counted in
-    let count = c.count.ensures ∙ is.0 ∙ ap count_in ((ap (outcome c) (sym (decoded_whole ((all_lists c.args.state.now c.args.keys.now c.args.chutes.now c.args.answers.now c.args.image.now)) ((sym c.are_whole.ensures ∙ not-false _ c.if-not-are_whole.false-raw)))))) in
-    told_outcome (outcome c (decoded ((all_lists c.args.state.now c.args.keys.now c.args.chutes.now c.args.answers.now c.args.image.now)))) ((all_lists c.args.state.now c.args.keys.now c.args.chutes.now c.args.answers.now c.args.image.now)) args.schedule.now args.count.now (eq-eqb _ _ c.if-count-ne-KEY.left) ((c.number-answer.ensures.0 ∙ dispatch_packed c.dispatch_within-dispatching.result ∙ ap (λ (r : Refusal). packed r) c.dispatch_within-dispatching.ensures.refusal ∙ ap (λ (o : DispatchOutcome). packed (refusal_in o)) ((ap (outcome c) (sym (decoded_whole ((all_lists c.args.state.now c.args.keys.now c.args.chutes.now c.args.answers.now c.args.image.now)) ((sym c.are_whole.ensures ∙ not-false _ c.if-not-are_whole.false-raw))))))))
-    (is.1.0 ∙ ap (λ (o : DispatchOutcome). made_left o ((all_lists c.args.state.now c.args.keys.now c.args.chutes.now c.args.answers.now c.args.image.now))) ((ap (outcome c) (sym (decoded_whole ((all_lists c.args.state.now c.args.keys.now c.args.chutes.now c.args.answers.now c.args.image.now)) ((sym c.are_whole.ensures ∙ not-false _ c.if-not-are_whole.false-raw))))))) (is.1.1 ∙ ap (λ (o : DispatchOutcome). lent_left o args.schedule.now) ((ap (outcome c) (sym (decoded_whole ((all_lists c.args.state.now c.args.keys.now c.args.chutes.now c.args.answers.now c.args.image.now)) ((sym c.are_whole.ensures ∙ not-false _ c.if-not-are_whole.false-raw)))))))
+    let count = c.count.ensures ∙ is.0 ∙ ap count_in (same) in
+    told_outcome (outcome c (decoded (given))) (given) args.schedule.now args.count.now (eq-eqb _ _ c.if-count-ne-KEY.left) (answer_is)
+    (is.1.0 ∙ ap (λ (o : DispatchOutcome). made_left o (given)) (same)) (is.1.1 ∙ ap (λ (o : DispatchOutcome). lent_left o args.schedule.now) (same))
     (put_count args.count.now c.if-answer-eq0.true c.if-count-ne-KEY.left c.put_number.ensures count)
 
 pub returns-else-answer-eq0 : goal.returns-else-answer-eq0
 returns-else-answer-eq0 c =
+    let given : Lists = all_lists c.args.state.now c.args.keys.now c.args.chutes.now c.args.answers.now c.args.image.now in
+    let whole : let b = given in are_whole (length b.keys) (length b.chutes) (length b.answers) ≡ true = sym c.are_whole.ensures ∙ not-false _ c.if-not-are_whole.false-raw in
+    let same : outcome c (number_lists (given)) ≡ outcome c (decoded (given)) = ap (outcome c) (sym (decoded_whole (given) (whole))) in
+    let answer_is : c.number-answer.result ≡ packed (refusal_in (outcome c (decoded (given)))) = c.number-answer.ensures.0 ∙ dispatch_packed c.dispatch_within-dispatching.result ∙ ap (λ (r : Refusal). packed r) c.dispatch_within-dispatching.ensures.refusal ∙ ap (λ (o : DispatchOutcome). packed (refusal_in o)) (same) in
     let args = c.args in
     let is = c.dispatch_within-dispatching.ensures.counted in
-    let o = outcome c (decoded ((all_lists c.args.state.now c.args.keys.now c.args.chutes.now c.args.answers.now c.args.image.now))) in
-    told_outcome o ((all_lists c.args.state.now c.args.keys.now c.args.chutes.now c.args.answers.now c.args.image.now)) args.schedule.now args.count.now (eq-eqb _ _ c.if-count-ne-KEY.left) ((c.number-answer.ensures.0 ∙ dispatch_packed c.dispatch_within-dispatching.result ∙ ap (λ (r : Refusal). packed r) c.dispatch_within-dispatching.ensures.refusal ∙ ap (λ (o : DispatchOutcome). packed (refusal_in o)) ((ap (outcome c) (sym (decoded_whole ((all_lists c.args.state.now c.args.keys.now c.args.chutes.now c.args.answers.now c.args.image.now)) ((sym c.are_whole.ensures ∙ not-false _ c.if-not-are_whole.false-raw))))))))
-    (is.1.0 ∙ ap (λ (o : DispatchOutcome). made_left o ((all_lists c.args.state.now c.args.keys.now c.args.chutes.now c.args.answers.now c.args.image.now))) ((ap (outcome c) (sym (decoded_whole ((all_lists c.args.state.now c.args.keys.now c.args.chutes.now c.args.answers.now c.args.image.now)) ((sym c.are_whole.ensures ∙ not-false _ c.if-not-are_whole.false-raw))))))) (is.1.1 ∙ ap (λ (o : DispatchOutcome). lent_left o args.schedule.now) ((ap (outcome c) (sym (decoded_whole ((all_lists c.args.state.now c.args.keys.now c.args.chutes.now c.args.answers.now c.args.image.now)) ((sym c.are_whole.ensures ∙ not-false _ c.if-not-are_whole.false-raw)))))))
+    let o = outcome c (decoded (given)) in
+    told_outcome o (given) args.schedule.now args.count.now (eq-eqb _ _ c.if-count-ne-KEY.left) (answer_is)
+    (is.1.0 ∙ ap (λ (o : DispatchOutcome). made_left o (given)) (same)) (is.1.1 ∙ ap (λ (o : DispatchOutcome). lent_left o args.schedule.now) (same))
     (uncounted (count_in o) args.count.now c.if-answer-eq0.false)

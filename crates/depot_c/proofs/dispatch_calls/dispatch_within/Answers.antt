@@ -32,34 +32,36 @@ shape_of-key_room-then-number-eq0 c =
 
 pub returns-then-number-eq0 : goal.returns-then-number-eq0
 returns-then-number-eq0 c =
+    let same : let args = c.args in let call = c.read_lists.new.1.1.1 in outcome c (all_lists args.state.now call.0 call.1.0 call.1.1.0 args.image.now) ≡ outcome c (number_lists (all_lists args.state.now args.keys.now args.chutes.now args.answers.now args.image.now)) = let args = c.args in same_outcome args.state.now args.keys.now args.chutes.now args.answers.now args.image.now (outcome c) c.read_lists.ensures in
     let args = c.args in
     let whole = entries_read_back args.state.now args.keys.now args.chutes.now args.answers.now args.image.now (length args.key-room.now) (length args.chute-room.now)
     (length args.answer_room_lem.now) c.requires.keys_fit c.requires.chutes_fit c.requires.answers_fit
     (λ i. omega (arith, c.slice_known-2-1.given i))
     (λ i. omega (arith, c.slice_known-3-1.given i))
     (λ i. omega (arith, c.slice_known-4-1.given i)) in (
-      c.dispatch-dispatching.ensures.refusal ∙ ap refusal_in ((let args = c.args in same_outcome args.state.now args.keys.now args.chutes.now args.answers.now args.image.now (outcome c) c.read_lists.ensures)),
+      c.dispatch-dispatching.ensures.refusal ∙ ap refusal_in (same),
       (
-        c.dispatch-dispatching.ensures.counted ∙ ap count_in ((let args = c.args in same_outcome args.state.now args.keys.now args.chutes.now args.answers.now args.image.now (outcome c) c.read_lists.ensures)),
+        c.dispatch-dispatching.ensures.counted ∙ ap count_in (same),
         (
           written_on args.state.now args.keys.now args.chutes.now args.answers.now args.image.now (outcome c) c.read_lists.ensures whole
               c.dispatch-dispatching.ensures.left c.write_lists.ensures,
-          c.dispatch-dispatching.ensures.written ∙ ap (λ (o : DispatchOutcome). lent_left o args.schedule.now) ((let args = c.args in same_outcome args.state.now args.keys.now args.chutes.now args.answers.now args.image.now (outcome c) c.read_lists.ensures)),
+          c.dispatch-dispatching.ensures.written ∙ ap (λ (o : DispatchOutcome). lent_left o args.schedule.now) (same),
         ),
       ),
     )
 
 pub returns-else-number-eq0 : goal.returns-else-number-eq0
 returns-else-number-eq0 c =
+    let same : let args = c.args in let call = c.read_lists.new.1.1.1 in outcome c (all_lists args.state.now call.0 call.1.0 call.1.1.0 args.image.now) ≡ outcome c (number_lists (all_lists args.state.now args.keys.now args.chutes.now args.answers.now args.image.now)) = let args = c.args in same_outcome args.state.now args.keys.now args.chutes.now args.answers.now args.image.now (outcome c) c.read_lists.ensures in
     let args = c.args in
-    let refusal = c.dispatch-dispatching.ensures.refusal ∙ ap refusal_in ((let args = c.args in same_outcome args.state.now args.keys.now args.chutes.now args.answers.now args.image.now (outcome c) c.read_lists.ensures)) in (
+    let refusal = c.dispatch-dispatching.ensures.refusal ∙ ap refusal_in (same) in (
       refusal,
       (
-        c.dispatch-dispatching.ensures.counted ∙ ap count_in ((let args = c.args in same_outcome args.state.now args.keys.now args.chutes.now args.answers.now args.image.now (outcome c) c.read_lists.ensures)),
+        c.dispatch-dispatching.ensures.counted ∙ ap count_in (same),
         (
           refused_on args.state.now args.keys.now args.chutes.now args.answers.now args.image.now (outcome c) c.read_lists.ensures
               c.dispatch-dispatching.ensures.left (λ z. c.if-number-eq0.false (c.number.ensures.0 ∙ ap (λ (r : Refusal). r.number) refusal ∙ z)),
-          c.dispatch-dispatching.ensures.written ∙ ap (λ (o : DispatchOutcome). lent_left o args.schedule.now) ((let args = c.args in same_outcome args.state.now args.keys.now args.chutes.now args.answers.now args.image.now (outcome c) c.read_lists.ensures)),
+          c.dispatch-dispatching.ensures.written ∙ ap (λ (o : DispatchOutcome). lent_left o args.schedule.now) (same),
         ),
       ),
     )

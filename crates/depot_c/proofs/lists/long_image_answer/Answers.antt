@@ -5,14 +5,14 @@ use borrow.Author.Tests.{not-true, not-false}
 use Rattle.depot_c.proofs.lists.long_image_answer.Goals as goal
 
 pub returns-then-not-lengths_fit : goal.returns-then-not-lengths_fit
-returns-then-not-lengths_fit c = rw (c.lengths_fit.ensures l list state answers keys chutes commands ∙ not-true _ c.if-not-lengths_fit.true-raw)
+returns-then-not-lengths_fit c l list state answers keys chutes commands image = rw (c.lengths_fit.ensures l list state answers keys chutes commands ∙ not-true _ c.if-not-lengths_fit.true-raw)
 
 pub returns-then-image_fits : goal.returns-then-image_fits
-returns-then-image_fits c =
+returns-then-image_fits c l list state answers keys chutes commands image =
     let fit = c.lengths_fit.ensures l list state answers keys chutes commands ∙ not-false _ c.if-not-lengths_fit.false-raw in
     rw (fit, c.image_fits.ensures l list state image fit, c.if-image_fits.true)
 
 pub returns-else-image_fits : goal.returns-else-image_fits
-returns-else-image_fits c =
+returns-else-image_fits c l list state answers keys chutes commands image =
     let fit = c.lengths_fit.ensures l list state answers keys chutes commands ∙ not-false _ c.if-not-lengths_fit.false-raw in
     rw (fit, c.image_fits.ensures l list state image fit, c.if-image_fits.false)

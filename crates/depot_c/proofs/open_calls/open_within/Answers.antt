@@ -31,21 +31,23 @@ write_lists-requires c =
 
 pub returns-then-answer-eq0 : goal.returns-then-answer-eq0
 returns-then-answer-eq0 c =
+    let answer_is : c.opening_answer-answer.result ≡ answer_of (outcome c (number_lists (all_lists c.args.state.now c.args.keys.now c.args.chutes.now c.args.answers.now c.args.image.now))) = let args = c.args in c.opening_answer-answer.ensures ∙ answer_on args.state.now args.keys.now args.chutes.now args.answers.now args.image.now (outcome c) c.read_lists.ensures c.open_with-opening.ensures.refusal in
     let args = c.args in
     let whole = entries_read_back args.state.now args.keys.now args.chutes.now args.answers.now args.image.now (length args.key-room.now) (length args.chute-room.now)
     (length args.answer_room_lem.now) c.requires.keys_fit c.requires.chutes_fit c.requires.answers_fit
     (λ i. omega (arith, c.slice_known-2-1.given i))
     (λ i. omega (arith, c.slice_known-3-1.given i))
     (λ i. omega (arith, c.slice_known-4-1.given i)) in (
-      (let args = c.args in c.opening_answer-answer.ensures ∙ answer_on args.state.now args.keys.now args.chutes.now args.answers.now args.image.now (outcome c) c.read_lists.ensures c.open_with-opening.ensures.refusal),
+      answer_is,
       written_on args.state.now args.keys.now args.chutes.now args.answers.now args.image.now (outcome c) c.read_lists.ensures whole
           c.open_with-opening.ensures.left c.write_lists.ensures,
     )
 
 pub returns-else-answer-eq0 : goal.returns-else-answer-eq0
 returns-else-answer-eq0 c =
+    let answer_is : c.opening_answer-answer.result ≡ answer_of (outcome c (number_lists (all_lists c.args.state.now c.args.keys.now c.args.chutes.now c.args.answers.now c.args.image.now))) = let args = c.args in c.opening_answer-answer.ensures ∙ answer_on args.state.now args.keys.now args.chutes.now args.answers.now args.image.now (outcome c) c.read_lists.ensures c.open_with-opening.ensures.refusal in
     let args = c.args in (
-      (let args = c.args in c.opening_answer-answer.ensures ∙ answer_on args.state.now args.keys.now args.chutes.now args.answers.now args.image.now (outcome c) c.read_lists.ensures c.open_with-opening.ensures.refusal),
+      answer_is,
       refused_on args.state.now args.keys.now args.chutes.now args.answers.now args.image.now (outcome c) c.read_lists.ensures
-          c.open_with-opening.ensures.left (λ z. c.if-answer-eq0.false ((let args = c.args in c.opening_answer-answer.ensures ∙ answer_on args.state.now args.keys.now args.chutes.now args.answers.now args.image.now (outcome c) c.read_lists.ensures c.open_with-opening.ensures.refusal) ∙ z)),
+          c.open_with-opening.ensures.left (λ z. c.if-answer-eq0.false (answer_is ∙ z)),
     )

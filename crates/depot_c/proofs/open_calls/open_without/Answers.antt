@@ -12,5 +12,5 @@ opening_answer-requires c =
 
 pub returns : goal.returns
 unfolding answer_of
-returns c =
+returns c source =
     c.opening_answer.ensures ∙ rw (c.«open».ensures.0, no_list_opened _ _ _ _ nothing source)

@@ -28,26 +28,39 @@ returns-then-not-have_room c =
     (rw (whole, long) (c.open_without-then-not-have_room.ensures source), rw (whole, long) (sym (nothing_opened args.size args.workers args.capacity args.commands.now source b)))
 
 pub slice_bounds-key_room-end : goal.slice_bounds-key_room-end
-slice_bounds-key_room-end c = ((room_bounds _ _ _ (sym c.have_room.ensures ∙ not-false _ c.if-not-have_room.false-raw))).0
+slice_bounds-key_room-end c =
+    let bounds : let args = c.args in (length args.keys.now / 8 ≤ 4096) × (length args.chutes.now / 2 ≤ 4096) × (length args.answers.now / 2 ≤ 4096) = room_bounds _ _ _ (sym c.have_room.ensures ∙ not-false _ c.if-not-have_room.false-raw) in
+    (bounds).0
 
 pub slice_bounds-open_within-end : goal.slice_bounds-open_within-end
-slice_bounds-open_within-end c = sym (length-take-le _ _ ((room_bounds _ _ _ (sym c.have_room.ensures ∙ not-false _ c.if-not-have_room.false-raw))).0)
+slice_bounds-open_within-end c =
+    let bounds : let args = c.args in (length args.keys.now / 8 ≤ 4096) × (length args.chutes.now / 2 ≤ 4096) × (length args.answers.now / 2 ≤ 4096) = room_bounds _ _ _ (sym c.have_room.ensures ∙ not-false _ c.if-not-have_room.false-raw) in
+    sym (length-take-le _ _ (bounds).0)
 
 pub slice_bounds-chute_room-end : goal.slice_bounds-chute_room-end
-slice_bounds-chute_room-end c = ((room_bounds _ _ _ (sym c.have_room.ensures ∙ not-false _ c.if-not-have_room.false-raw))).1
+slice_bounds-chute_room-end c =
+    let bounds : let args = c.args in (length args.keys.now / 8 ≤ 4096) × (length args.chutes.now / 2 ≤ 4096) × (length args.answers.now / 2 ≤ 4096) = room_bounds _ _ _ (sym c.have_room.ensures ∙ not-false _ c.if-not-have_room.false-raw) in
+    (bounds).1
 
 pub slice_bounds-open_within-end-2 : goal.slice_bounds-open_within-end-2
-slice_bounds-open_within-end-2 c = sym (length-take-le _ _ ((room_bounds _ _ _ (sym c.have_room.ensures ∙ not-false _ c.if-not-have_room.false-raw))).1)
+slice_bounds-open_within-end-2 c =
+    let bounds : let args = c.args in (length args.keys.now / 8 ≤ 4096) × (length args.chutes.now / 2 ≤ 4096) × (length args.answers.now / 2 ≤ 4096) = room_bounds _ _ _ (sym c.have_room.ensures ∙ not-false _ c.if-not-have_room.false-raw) in
+    sym (length-take-le _ _ (bounds).1)
 
 pub slice_bounds-answer_room-end : goal.slice_bounds-answer_room-end
-slice_bounds-answer_room-end c = ((room_bounds _ _ _ (sym c.have_room.ensures ∙ not-false _ c.if-not-have_room.false-raw))).2
+slice_bounds-answer_room-end c =
+    let bounds : let args = c.args in (length args.keys.now / 8 ≤ 4096) × (length args.chutes.now / 2 ≤ 4096) × (length args.answers.now / 2 ≤ 4096) = room_bounds _ _ _ (sym c.have_room.ensures ∙ not-false _ c.if-not-have_room.false-raw) in
+    (bounds).2
 
 pub slice_bounds-open_within-end-3 : goal.slice_bounds-open_within-end-3
-slice_bounds-open_within-end-3 c = sym (length-take-le _ _ ((room_bounds _ _ _ (sym c.have_room.ensures ∙ not-false _ c.if-not-have_room.false-raw))).2)
+slice_bounds-open_within-end-3 c =
+    let bounds : let args = c.args in (length args.keys.now / 8 ≤ 4096) × (length args.chutes.now / 2 ≤ 4096) × (length args.answers.now / 2 ≤ 4096) = room_bounds _ _ _ (sym c.have_room.ensures ∙ not-false _ c.if-not-have_room.false-raw) in
+    sym (length-take-le _ _ (bounds).2)
 
 pub open_within-requires : goal.open_within-requires
 open_within-requires c =
-    let fit = (room_bounds _ _ _ (sym c.have_room.ensures ∙ not-false _ c.if-not-have_room.false-raw)) in
+    let bounds : let args = c.args in (length args.keys.now / 8 ≤ 4096) × (length args.chutes.now / 2 ≤ 4096) × (length args.answers.now / 2 ≤ 4096) = room_bounds _ _ _ (sym c.have_room.ensures ∙ not-false _ c.if-not-have_room.false-raw) in
+    let fit = bounds in
     let whole = whole_lengths _ _ _ (sym c.are_whole.ensures ∙ not-false _ c.if-not-are_whole.left) in
     record {
       keys_fit = whole.0 ∙ ap (λ (m : ℕ). 8 * m) (sym (length-take-le _ _ fit.0));

@@ -22,36 +22,51 @@ returns-then-not-are_lent c =
 
 pub returns-then-not-have_room : goal.returns-then-not-have_room
 returns-then-not-have_room c =
+    let lent : let args = c.args in (are_whole (length args.keys.now) (length args.chutes.now) (length args.answers.now) ≡ true) × (eqb (length args.out.now) (report_length args.wanted) ≡ true) = (and-eq-true_iff _ _).0 (sym c.are_lent.ensures ∙ not-false _ c.if-not-are_lent.false-raw) in
     let args = c.args in
     let b = lists args.state.now args.keys.now args.chutes.now args.answers.now in
-    let whole = decoded_whole b (((and-eq-true_iff _ _).0 (sym c.are_lent.ensures ∙ not-false _ c.if-not-are_lent.false-raw))).0 in
+    let whole = decoded_whole b (lent).0 in
     let answer = of_entries args.state.now args.keys.now args.chutes.now args.answers.now [] args.commands.now
     {P = λ l list. c.long_answer.result ≡ cond (handed_back_fit l list) 12 6} (λ l list s a k h n _. c.long_answer.ensures l list s a k h n) in
-    let long = long_reported b args.commands.now _ _ _ (sym c.have_room.ensures ∙ not-true _ c.if-not-have_room.true-raw) (((and-eq-true_iff _ _).0 (sym c.are_lent.ensures ∙ not-false _ c.if-not-are_lent.false-raw))).1 answer in
+    let long = long_reported b args.commands.now _ _ _ (sym c.have_room.ensures ∙ not-true _ c.if-not-have_room.true-raw) (lent).1 answer in
     (rw whole long.0, long.1 _ _)
 
 pub slice_bounds-key_room-end : goal.slice_bounds-key_room-end
-slice_bounds-key_room-end c = ((room_bounds _ _ _ (sym c.have_room.ensures ∙ not-false _ c.if-not-have_room.false-raw))).0
+slice_bounds-key_room-end c =
+    let bounds : let args = c.args in (length args.keys.now / 8 ≤ 4096) × (length args.chutes.now / 2 ≤ 4096) × (length args.answers.now / 2 ≤ 4096) = room_bounds _ _ _ (sym c.have_room.ensures ∙ not-false _ c.if-not-have_room.false-raw) in
+    (bounds).0
 
 pub slice_bounds-report_within-end : goal.slice_bounds-report_within-end
-slice_bounds-report_within-end c = sym (length-take-le _ _ ((room_bounds _ _ _ (sym c.have_room.ensures ∙ not-false _ c.if-not-have_room.false-raw))).0)
+slice_bounds-report_within-end c =
+    let bounds : let args = c.args in (length args.keys.now / 8 ≤ 4096) × (length args.chutes.now / 2 ≤ 4096) × (length args.answers.now / 2 ≤ 4096) = room_bounds _ _ _ (sym c.have_room.ensures ∙ not-false _ c.if-not-have_room.false-raw) in
+    sym (length-take-le _ _ (bounds).0)
 
 pub slice_bounds-chute_room-end : goal.slice_bounds-chute_room-end
-slice_bounds-chute_room-end c = ((room_bounds _ _ _ (sym c.have_room.ensures ∙ not-false _ c.if-not-have_room.false-raw))).1
+slice_bounds-chute_room-end c =
+    let bounds : let args = c.args in (length args.keys.now / 8 ≤ 4096) × (length args.chutes.now / 2 ≤ 4096) × (length args.answers.now / 2 ≤ 4096) = room_bounds _ _ _ (sym c.have_room.ensures ∙ not-false _ c.if-not-have_room.false-raw) in
+    (bounds).1
 
 pub slice_bounds-report_within-end-2 : goal.slice_bounds-report_within-end-2
-slice_bounds-report_within-end-2 c = sym (length-take-le _ _ ((room_bounds _ _ _ (sym c.have_room.ensures ∙ not-false _ c.if-not-have_room.false-raw))).1)
+slice_bounds-report_within-end-2 c =
+    let bounds : let args = c.args in (length args.keys.now / 8 ≤ 4096) × (length args.chutes.now / 2 ≤ 4096) × (length args.answers.now / 2 ≤ 4096) = room_bounds _ _ _ (sym c.have_room.ensures ∙ not-false _ c.if-not-have_room.false-raw) in
+    sym (length-take-le _ _ (bounds).1)
 
 pub slice_bounds-answer_room-end : goal.slice_bounds-answer_room-end
-slice_bounds-answer_room-end c = ((room_bounds _ _ _ (sym c.have_room.ensures ∙ not-false _ c.if-not-have_room.false-raw))).2
+slice_bounds-answer_room-end c =
+    let bounds : let args = c.args in (length args.keys.now / 8 ≤ 4096) × (length args.chutes.now / 2 ≤ 4096) × (length args.answers.now / 2 ≤ 4096) = room_bounds _ _ _ (sym c.have_room.ensures ∙ not-false _ c.if-not-have_room.false-raw) in
+    (bounds).2
 
 pub slice_bounds-report_within-end-3 : goal.slice_bounds-report_within-end-3
-slice_bounds-report_within-end-3 c = sym (length-take-le _ _ ((room_bounds _ _ _ (sym c.have_room.ensures ∙ not-false _ c.if-not-have_room.false-raw))).2)
+slice_bounds-report_within-end-3 c =
+    let bounds : let args = c.args in (length args.keys.now / 8 ≤ 4096) × (length args.chutes.now / 2 ≤ 4096) × (length args.answers.now / 2 ≤ 4096) = room_bounds _ _ _ (sym c.have_room.ensures ∙ not-false _ c.if-not-have_room.false-raw) in
+    sym (length-take-le _ _ (bounds).2)
 
 pub report_within-requires : goal.report_within-requires
 report_within-requires c =
-    let fit = (room_bounds _ _ _ (sym c.have_room.ensures ∙ not-false _ c.if-not-have_room.false-raw)) in
-    let whole = whole_lengths _ _ _ (((and-eq-true_iff _ _).0 (sym c.are_lent.ensures ∙ not-false _ c.if-not-are_lent.false-raw))).0 in
+    let bounds : let args = c.args in (length args.keys.now / 8 ≤ 4096) × (length args.chutes.now / 2 ≤ 4096) × (length args.answers.now / 2 ≤ 4096) = room_bounds _ _ _ (sym c.have_room.ensures ∙ not-false _ c.if-not-have_room.false-raw) in
+    let lent : let args = c.args in (are_whole (length args.keys.now) (length args.chutes.now) (length args.answers.now) ≡ true) × (eqb (length args.out.now) (report_length args.wanted) ≡ true) = (and-eq-true_iff _ _).0 (sym c.are_lent.ensures ∙ not-false _ c.if-not-are_lent.false-raw) in
+    let fit = bounds in
+    let whole = whole_lengths _ _ _ (lent).0 in
     record {
       keys_fit = whole.0 ∙ ap (λ (m : ℕ). 8 * m) (sym (length-take-le _ _ fit.0));
       chutes_fit = whole.1 ∙ ap (λ (m : ℕ). 2 * m) (sym (length-take-le _ _ fit.1));
@@ -60,7 +75,8 @@ report_within-requires c =
 
 pub returns : goal.returns
 returns c =
+    let lent : let args = c.args in (are_whole (length args.keys.now) (length args.chutes.now) (length args.answers.now) ≡ true) × (eqb (length args.out.now) (report_length args.wanted) ≡ true) = (and-eq-true_iff _ _).0 (sym c.are_lent.ensures ∙ not-false _ c.if-not-are_lent.false-raw) in
     let args = c.args in
     let b = lists args.state.now args.keys.now args.chutes.now args.answers.now in
-    let whole = decoded_whole b (((and-eq-true_iff _ _).0 (sym c.are_lent.ensures ∙ not-false _ c.if-not-are_lent.false-raw))).0 in
+    let whole = decoded_whole b (lent).0 in
     (rw whole c.report_within.ensures.number, rw whole c.report_within.ensures.left)

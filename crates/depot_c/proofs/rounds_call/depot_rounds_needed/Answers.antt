@@ -7,9 +7,12 @@ use borrow.Author.Rules.{rules}
 use Rattle.depot_c.proofs.rounds_call.depot_rounds_needed.Goals as goal
 
 pub slice_bounds-needed_within-end : goal.slice_bounds-needed_within-end
-slice_bounds-needed_within-end c = sym ((length-take-le _ _ (omega (arith, c.entries_lent-lent.ensures.0, c.new_room-room.ensures))))
+slice_bounds-needed_within-end c =
+    let room_long : length (take c.entries_lent-lent.result c.new_room-room.result) ≡ c.entries_lent-lent.result = length-take-le _ _ (omega (arith, c.entries_lent-lent.ensures.0, c.new_room-room.ensures)) in
+    sym (room_long)
 
 pub needed_within-requires : goal.needed_within-requires
 needed_within-requires c =
+    let room_long : length (take c.entries_lent-lent.result c.new_room-room.result) ≡ c.entries_lent-lent.result = length-take-le _ _ (omega (arith, c.entries_lent-lent.ensures.0, c.new_room-room.ensures)) in
     let lent = c.entries_lent-lent.ensures.1 in
-    (λ few. (length-take-le _ _ (omega (arith, c.entries_lent-lent.ensures.0, c.new_room-room.ensures))) ∙ lent.0 few, λ many. (length-take-le _ _ (omega (arith, c.entries_lent-lent.ensures.0, c.new_room-room.ensures))) ∙ lent.1 many)
+    (λ few. room_long ∙ lent.0 few, λ many. room_long ∙ lent.1 many)

@@ -9,7 +9,8 @@ use Rattle.graph.proofs.Loading.{loader_links, loader_waits, loader_steps}
 use Rattle.graph.proofs.loader.loader_walk.Goals as goal
 
 pub overflow_cast-n : goal.overflow_cast-n
-overflow_cast-n c = omega (arith, (c.requires.0 c.args.at.0))
+overflow_cast-n c = let next_in_lem : let a = c.args in get_or a.next.now a.at.0 0 ≤ 150 = c.requires.0 c.args.at.0 in
+    omega (arith, next_in_lem)
 
 pub returns-then-y-eq0 : goal.returns-then-y-eq0
 returns-then-y-eq0 c =
@@ -19,7 +20,8 @@ returns-then-y-eq0 c =
     )
 
 pub bounds-locked-n : goal.bounds-locked-n
-bounds-locked-n c = omega (arith, (c.requires.0 c.args.at.0))
+bounds-locked-n c = let next_in_lem : let a = c.args in get_or a.next.now a.at.0 0 ≤ 150 = c.requires.0 c.args.at.0 in
+    omega (arith, next_in_lem)
 
 pub returns-then-locked-n : goal.returns-then-locked-n
 returns-then-locked-n c =
@@ -29,14 +31,17 @@ returns-then-locked-n c =
     )
 
 pub step_on-requires : goal.step_on-requires
-step_on-requires c = omega (arith, (c.requires.0 c.args.at.0))
+step_on-requires c = let next_in_lem : let a = c.args in get_or a.next.now a.at.0 0 ≤ 150 = c.requires.0 c.args.at.0 in
+    omega (arith, next_in_lem)
 
 pub add_dependence-requires : goal.add_dependence-requires
-add_dependence-requires c = omega (arith, (c.requires.0 c.args.at.0))
+add_dependence-requires c = let next_in_lem : let a = c.args in get_or a.next.now a.at.0 0 ≤ 150 = c.requires.0 c.args.at.0 in
+    omega (arith, next_in_lem)
 
 pub returns : goal.returns
 returns c =
+    let next_in_lem : let a = c.args in get_or a.next.now a.at.0 0 ≤ 150 = c.requires.0 c.args.at.0 in
     let a = c.args in (
-      (((c.requires.0 c.args.at.0), c.requires.2), c.requires.0),
-      loader_steps a.at a.own a.next.now a.executing.now a.locked.now a.waits.now a.kinds.now a.keys.now a.chutes.now _ refl c.if-y-eq0.false c.step_on.new.0 c.add_dependence.new.0 c.if-locked-n.false c.requires.2 ((c.requires.0 c.args.at.0)) c.step_on.ensures c.add_dependence.ensures,
+      ((next_in_lem, c.requires.2), c.requires.0),
+      loader_steps a.at a.own a.next.now a.executing.now a.locked.now a.waits.now a.kinds.now a.keys.now a.chutes.now _ refl c.if-y-eq0.false c.step_on.new.0 c.add_dependence.new.0 c.if-locked-n.false c.requires.2 (next_in_lem) c.step_on.ensures c.add_dependence.ensures,
     )

@@ -9,11 +9,18 @@ use Rattle.panel.proofs.pending.pending_counts.Goals as goal
 
 pub write_counts-requires : goal.write_counts-requires
 write_counts-requires c =
-    passed_lengths ((lists c.args.state.now c.args.keys.now c.args.chutes.now c.args.answers.now)) c.args.commands.now (length c.args.counts.now) 150 (sym (ap report_of c.in-Reported.is) ∙ (c.tested-report.ensures ((lists c.args.state.now c.args.keys.now c.args.chutes.now c.args.answers.now)) c.args.commands.now refl refl refl refl refl))
+    let given : Lists = lists c.args.state.now c.args.keys.now c.args.chutes.now c.args.answers.now in
+    let number_is : report_of c.tested-report.result ≡ report_number (given) c.args.commands.now (length c.args.counts.now) 150 = c.tested-report.ensures (given) c.args.commands.now refl refl refl refl refl in
+    passed_lengths (given) c.args.commands.now (length c.args.counts.now) 150 (sym (ap report_of c.in-Reported.is) ∙ number_is)
 
 pub returns-in-Reported : goal.returns-in-Reported
 returns-in-Reported c =
-    (refusal_told c.tested-report.result ((c.tested-report.ensures ((lists c.args.state.now c.args.keys.now c.args.chutes.now c.args.answers.now)) c.args.commands.now refl refl refl refl refl)), c.write_counts.ensures ((lists c.args.state.now c.args.keys.now c.args.chutes.now c.args.answers.now)) refl ∙ left_report c.tested-report.result _ c.args.counts.now c.in-Reported.is)
+    let given : Lists = lists c.args.state.now c.args.keys.now c.args.chutes.now c.args.answers.now in
+    let number_is : report_of c.tested-report.result ≡ report_number (given) c.args.commands.now (length c.args.counts.now) 150 = c.tested-report.ensures (given) c.args.commands.now refl refl refl refl refl in
+    (refusal_told c.tested-report.result (number_is), c.write_counts.ensures (given) refl ∙ left_report c.tested-report.result _ c.args.counts.now c.in-Reported.is)
 
 pub returns-in_default : goal.returns-in_default
-returns-in_default c = (refusal_told c.tested-report.result ((c.tested-report.ensures ((lists c.args.state.now c.args.keys.now c.args.chutes.now c.args.answers.now)) c.args.commands.now refl refl refl refl refl)), left_old c.tested-report.result _ c.args.counts.now c.in_default.keys2)
+returns-in_default c =
+    let given : Lists = lists c.args.state.now c.args.keys.now c.args.chutes.now c.args.answers.now in
+    let number_is : report_of c.tested-report.result ≡ report_number (given) c.args.commands.now (length c.args.counts.now) 150 = c.tested-report.ensures (given) c.args.commands.now refl refl refl refl refl in
+    (refusal_told c.tested-report.result (number_is), left_old c.tested-report.result _ c.args.counts.now c.in_default-own.keys2)

@@ -14,22 +14,24 @@ pub next_at-node-requires : goal.next_at-node-requires
 next_at-node-requires c = c.requires.0
 
 pub loop-i-init : goal.loop-i-init
-loop-i-init c = counted_none (c.next_at-node.ensures l same) c.requires.1
+loop-i-init c l same = counted_none (c.next_at-node.ensures l same) c.requires.1
 
 pub bounds-counts-i : goal.bounds-counts-i
-bounds-counts-i c = omega (arith, ((c.loop-i.invariant (lists c.args.state.now [] [] []) refl).filled.long))
+bounds-counts-i c = let long : length c.loop-i.counts ≡ 150 = (c.loop-i.invariant (lists c.args.state.now [] [] []) refl).filled.long in
+    omega (arith, long)
 
 pub count_of-requires : goal.count_of-requires
 count_of-requires c = c.requires.0
 
 pub bounds-counts-i-else-node-eq0 : goal.bounds-counts-i-else-node-eq0
-bounds-counts-i-else-node-eq0 c = omega (arith, ((c.loop-i.invariant (lists c.args.state.now [] [] []) refl).filled.long))
+bounds-counts-i-else-node-eq0 c = let long : length c.loop-i.counts ≡ 150 = (c.loop-i.invariant (lists c.args.state.now [] [] []) refl).filled.long in
+    omega (arith, long)
 
 pub next_at-node-requires-else-node-eq0 : goal.next_at-node-requires-else-node-eq0
 next_at-node-requires-else-node-eq0 c = c.requires.0
 
 pub loop-i-preserved : goal.loop-i-preserved
-loop-i-preserved c =
+loop-i-preserved c l same =
     let counted = c.loop-i.invariant l same in
     let more = c.loop-i-test.true in
     ⊎_elim
@@ -38,7 +40,9 @@ loop-i-preserved c =
     c.if-node-eq0.branch
 
 pub shape_of-counts : goal.shape_of-counts
-shape_of-counts c = ((c.loop-i.invariant (lists c.args.state.now [] [] []) refl).filled.long) ∙ sym c.requires.1
+shape_of-counts c =
+    let long : length c.loop-i.counts ≡ 150 = (c.loop-i.invariant (lists c.args.state.now [] [] []) refl).filled.long in
+    long ∙ sym c.requires.1
 
 pub returns : goal.returns
-returns c = counted_all (c.loop-i.invariant l same) c.loop-i-test.false
+returns c l same = counted_all (c.loop-i.invariant l same) c.loop-i-test.false

@@ -13,9 +13,9 @@ pub overflow_cast-largest : goal.overflow_cast-largest
 overflow_cast-largest c = omega (arith, c.shared_slice_known-2-1.given 3)
 
 pub returns-then-worker-largest : goal.returns-then-worker-largest
-returns-then-worker-largest c =
+returns-then-worker-largest c l same =
     past_shown c.args.state.now (state_in l) c.args.worker c.requires.0 c.if-worker-largest.true
 
 pub returns : goal.returns
-returns c =
+returns c l same =
     worker_shown c.args.state.now l c.args.worker same c.requires.0 c.if-worker-largest.false c.requires.1 c.thread_at.ensures c.status_of.ensures

@@ -12,9 +12,11 @@ use Rattle.panel.proofs.status.worker_status_bytes.Goals as goal
 pub returns-then-bytes-ne-STATUS_BYTES : goal.returns-then-bytes-ne-STATUS_BYTES
 unfolding report_left
 returns-then-bytes-ne-STATUS_BYTES c =
-    (ap plain (refuses_report ((lists c.args.state.now c.args.keys.now c.args.chutes.now c.args.answers.now)) c.args.commands.now (length c.args.bytes.now) 128 c.if-bytes-ne-STATUS_BYTES.true), refl)
+    let given : Lists = lists c.args.state.now c.args.keys.now c.args.chutes.now c.args.answers.now in
+    (ap plain (refuses_report (given) c.args.commands.now (length c.args.bytes.now) 128 c.if-bytes-ne-STATUS_BYTES.true), refl)
 
 pub returns : goal.returns
 returns c =
-    let number = c.status_as_bytes.ensures.0 ∙ as_wanted ((lists c.args.state.now c.args.keys.now c.args.chutes.now c.args.answers.now)) c.args.commands.now (length c.args.bytes.now) 128 c.if-bytes-ne-STATUS_BYTES.false in
+    let given : Lists = lists c.args.state.now c.args.keys.now c.args.chutes.now c.args.answers.now in
+    let number = c.status_as_bytes.ensures.0 ∙ as_wanted (given) c.args.commands.now (length c.args.bytes.now) 128 c.if-bytes-ne-STATUS_BYTES.false in
     (refusal_told c.status_as_bytes.result number, c.status_as_bytes.ensures.1)

@@ -24,4 +24,4 @@ pub shape_of-bytes : goal.shape_of-bytes
 shape_of-bytes c = c.loop-i.invariant.0 ∙ sym c.requires
 
 pub returns : goal.returns
-returns c = bytes_all workers s (c.loop-i.invariant.1 workers s same) c.loop-i-test.false c.requires
+returns c workers s same = bytes_all workers s (c.loop-i.invariant.1 workers s same) c.loop-i-test.false c.requires

@@ -32,22 +32,34 @@ returns-then-fault-ne-LENGTH c =
     rw (eq-eqb (length text) 13 (omega arith), ne_eqb (first_fault 0 text) 13 (omega arith), c.reason_at.ensures, c.first_fault-fault.ensures)
 
 pub check_digit-check-requires : goal.check_digit-check-requires
-check_digit-check-requires c = ((let text = c.args.text.now in well_formed _ (fault_well_formed text (eqb-true (length text) 13 ((let text = c.args.text.now in (eq-eqb (length text) 13 (omega arith), eq-eqb (first_fault 0 text) 13 (omega arith)))).0) ∙ ((let text = c.args.text.now in (eq-eqb (length text) 13 (omega arith), eq-eqb (first_fault 0 text) 13 (omega arith)))).1))).serial
+check_digit-check-requires c =
+    let passed : let text = c.args.text.now in (eqb (length text) 13 ≡ true) × (eqb (first_fault 0 text) 13 ≡ true) = let text = c.args.text.now in (eq-eqb (length text) 13 (omega arith), eq-eqb (first_fault 0 text) 13 (omega arith)) in
+    let parts : WellFormed c.args.text.now = let text = c.args.text.now in well_formed _ (fault_well_formed text (eqb-true (length text) 13 (passed).0) ∙ (passed).1) in
+    (parts).serial
 
 pub overflow_sub-text : goal.overflow_sub-text
-overflow_sub-text c = ((let text = c.args.text.now in well_formed _ (fault_well_formed text (eqb-true (length text) 13 ((let text = c.args.text.now in (eq-eqb (length text) 13 (omega arith), eq-eqb (first_fault 0 text) 13 (omega arith)))).0) ∙ ((let text = c.args.text.now in (eq-eqb (length text) 13 (omega arith), eq-eqb (first_fault 0 text) 13 (omega arith)))).1))).check.0
+overflow_sub-text c =
+    let passed : let text = c.args.text.now in (eqb (length text) 13 ≡ true) × (eqb (first_fault 0 text) 13 ≡ true) = let text = c.args.text.now in (eq-eqb (length text) 13 (omega arith), eq-eqb (first_fault 0 text) 13 (omega arith)) in
+    let parts : WellFormed c.args.text.now = let text = c.args.text.now in well_formed _ (fault_well_formed text (eqb-true (length text) 13 (passed).0) ∙ (passed).1) in
+    (parts).check.0
 
 pub returns-then-text-check : goal.returns-then-text-check
 unfolding read_text serial_digits
 returns-then-text-check c =
+    let passed : let text = c.args.text.now in (eqb (length text) 13 ≡ true) × (eqb (first_fault 0 text) 13 ≡ true) = let text = c.args.text.now in (eq-eqb (length text) 13 (omega arith), eq-eqb (first_fault 0 text) 13 (omega arith)) in
     let text = c.args.text.now in
-    rw (((let text = c.args.text.now in (eq-eqb (length text) 13 (omega arith), eq-eqb (first_fault 0 text) 13 (omega arith)))).0, ((let text = c.args.text.now in (eq-eqb (length text) 13 (omega arith), eq-eqb (first_fault 0 text) 13 (omega arith)))).1, ne_eqb (get_or text 10 0 - 48) (check_digit (serial_digits text)) (omega arith))
+    rw ((passed).0, (passed).1, ne_eqb (get_or text 10 0 - 48) (check_digit (serial_digits text)) (omega arith))
 
 pub key_of-requires : goal.key_of-requires
-key_of-requires c = ((let text = c.args.text.now in well_formed _ (fault_well_formed text (eqb-true (length text) 13 ((let text = c.args.text.now in (eq-eqb (length text) 13 (omega arith), eq-eqb (first_fault 0 text) 13 (omega arith)))).0) ∙ ((let text = c.args.text.now in (eq-eqb (length text) 13 (omega arith), eq-eqb (first_fault 0 text) 13 (omega arith)))).1))).long
+key_of-requires c =
+    let passed : let text = c.args.text.now in (eqb (length text) 13 ≡ true) × (eqb (first_fault 0 text) 13 ≡ true) = let text = c.args.text.now in (eq-eqb (length text) 13 (omega arith), eq-eqb (first_fault 0 text) 13 (omega arith)) in
+    let parts : WellFormed c.args.text.now = let text = c.args.text.now in well_formed _ (fault_well_formed text (eqb-true (length text) 13 (passed).0) ∙ (passed).1) in
+    (parts).long
 
 pub returns : goal.returns
 unfolding read_text serial_digits
 returns c =
+    let passed : let text = c.args.text.now in (eqb (length text) 13 ≡ true) × (eqb (first_fault 0 text) 13 ≡ true) = let text = c.args.text.now in (eq-eqb (length text) 13 (omega arith), eq-eqb (first_fault 0 text) 13 (omega arith)) in
+    let parts : WellFormed c.args.text.now = let text = c.args.text.now in well_formed _ (fault_well_formed text (eqb-true (length text) 13 (passed).0) ∙ (passed).1) in
     let text = c.args.text.now in
-    rw (((let text = c.args.text.now in (eq-eqb (length text) 13 (omega arith), eq-eqb (first_fault 0 text) 13 (omega arith)))).0, ((let text = c.args.text.now in (eq-eqb (length text) 13 (omega arith), eq-eqb (first_fault 0 text) 13 (omega arith)))).1, eq-eqb (get_or text 10 0 - 48) (check_digit (serial_digits text)) (omega arith), c.key_of.ensures, sum_of_key text ((let text = c.args.text.now in well_formed _ (fault_well_formed text (eqb-true (length text) 13 ((let text = c.args.text.now in (eq-eqb (length text) 13 (omega arith), eq-eqb (first_fault 0 text) 13 (omega arith)))).0) ∙ ((let text = c.args.text.now in (eq-eqb (length text) 13 (omega arith), eq-eqb (first_fault 0 text) 13 (omega arith)))).1))))
+    rw ((passed).0, (passed).1, eq-eqb (get_or text 10 0 - 48) (check_digit (serial_digits text)) (omega arith), c.key_of.ensures, sum_of_key text (parts))

@@ -10,8 +10,8 @@ use Rattle.state_bytes.proofs.fits.image_fits.Goals as goal
 -- lists that fit have a state as long as the layout asks
 pub returns-then-state-ne-STATE_LENGTH : goal.returns-then-state-ne-STATE_LENGTH
 unfolding state_length
-returns-then-state-ne-STATE_LENGTH c = absurd (c.if-state-ne-STATE_LENGTH.true (sym (ap length state) ∙ (lengths_passed l list fit).state))
+returns-then-state-ne-STATE_LENGTH c l list state long fit = absurd (c.if-state-ne-STATE_LENGTH.true (sym (ap length state) ∙ (lengths_passed l list fit).state))
 
 pub returns : goal.returns
 unfolding image_fits image_length setup_in
-returns c = rw (long, state, ← c.number_at-capacity.ensures)
+returns c l list state long fit = rw (long, state, ← c.number_at-capacity.ensures)

@@ -32,19 +32,19 @@ same_number : {b state : List ℕ} {r : ℕ} (at : ℕ) → b ≡ state → r �
 same_number at same is_read = ap (number_at 2 at) same ∙ sym is_read
 
 pub returns-then-state-ne-STATE_LENGTH : goal.returns-then-state-ne-STATE_LENGTH
-returns-then-state-ne-STATE_LENGTH c = as_tests l list ∙ fails_at 0 (whole l list) (unequal_fails (ap length state) refl c.if-state-ne-STATE_LENGTH.true)
+returns-then-state-ne-STATE_LENGTH c l list state answers keys chutes commands = as_tests l list ∙ fails_at 0 (whole l list) (unequal_fails (ap length state) refl c.if-state-ne-STATE_LENGTH.true)
 
 pub returns-then-answers-count : goal.returns-then-answers-count
-returns-then-answers-count c = as_tests l list ∙ fails_at 1 (whole l list) (unequal_fails answers (same_number 6 state c.number_at-count.ensures) c.if-answers-count.true)
+returns-then-answers-count c l list state answers keys chutes commands = as_tests l list ∙ fails_at 1 (whole l list) (unequal_fails answers (same_number 6 state c.number_at-count.ensures) c.if-answers-count.true)
 
 pub returns-then-keys-capacity : goal.returns-then-keys-capacity
-returns-then-keys-capacity c = as_tests l list ∙ fails_at 2 (whole l list) (unequal_fails keys (same_number 4 state c.number_at-capacity.ensures) c.if-keys-capacity.true)
+returns-then-keys-capacity c l list state answers keys chutes commands = as_tests l list ∙ fails_at 2 (whole l list) (unequal_fails keys (same_number 4 state c.number_at-capacity.ensures) c.if-keys-capacity.true)
 
 pub returns-then-chutes-capacity : goal.returns-then-chutes-capacity
-returns-then-chutes-capacity c = as_tests l list ∙ fails_at 3 (whole l list) (unequal_fails chutes (same_number 4 state c.number_at-capacity.ensures) c.if-chutes-capacity.true)
+returns-then-chutes-capacity c l list state answers keys chutes commands = as_tests l list ∙ fails_at 3 (whole l list) (unequal_fails chutes (same_number 4 state c.number_at-capacity.ensures) c.if-chutes-capacity.true)
 
 pub returns : goal.returns
-returns c =
+returns c l list state answers keys chutes commands =
     let capacity = same_number 4 state c.number_at-capacity.ensures in
     let count = same_number 6 state c.number_at-count.ensures in
     let each =

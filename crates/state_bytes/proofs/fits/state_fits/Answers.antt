@@ -164,7 +164,7 @@ pub returns-then-used-capacity : goal.returns-then-used-capacity
 returns-then-used-capacity c = state_fails c 6 (lt-leb _ _ c.if-used-capacity.true)
 
 pub returns : goal.returns
-returns c =
+returns c l state keys =
     let each =
     answer_passes c.head_fits.ensures c.if-not-head_fits.false-raw
     ▸ answer_passes c.settings_fit.ensures c.if-not-settings_fit.false-raw

@@ -22,13 +22,13 @@ next_read l n b same h =
     rw (lt-ltb n 151 among, same)
 
 pub returns-then-n-gt-LAST_NODE : goal.returns-then-n-gt-LAST_NODE
-returns-then-n-gt-LAST_NODE c = next_past l c.args.node.0 c.if-n-gt-LAST_NODE.true
+returns-then-n-gt-LAST_NODE c l same = next_past l c.args.node.0 c.if-n-gt-LAST_NODE.true
 
 pub bounds-state-n : goal.bounds-state-n
 unfolding state_length
 bounds-state-n c = omega arith
 
 pub returns : goal.returns
-returns c =
+returns c l same =
     let args = c.args in
     next_read l args.node.0 args.state.now same c.if-n-gt-LAST_NODE.false

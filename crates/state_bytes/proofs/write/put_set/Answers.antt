@@ -15,10 +15,11 @@ use Rattle.state_bytes.proofs.write.put_set.Goals as goal
 
 pub returns : goal.returns
 returns c =
+    let words : NodeSet c.args.set = array_is_a_set c.args.set (search rules) (λ i. search rules) in
     let at = c.args.at in
     let b = c.args.state.now in
-    let word : ℕ → List ℕ = λ i. bytes_of 8 (get_or c.args.t3 i 0) in
+    let word : ℕ → List ℕ = λ i. bytes_of 8 (get_or c.args.set i 0) in
     let one = put_more (put_none at b) (word 0) at 8 (omega arith) (bytes_length 8 _) c.put_number.ensures in
     let two = put_more one (word 1) (at + 8) 8 (omega arith) (bytes_length 8 _) c.put_number-2.ensures in
     let three = put_more two (word 2) (at + 16) 8 (omega arith) (bytes_length 8 _) c.put_number-3.ensures in
-    three.is ∙ ap (λ (part : List ℕ). pasted at part b) (sym (set_bytes_lem c.args.t3 ((array_is_a_set c.args.t3 (search rules) (λ i. search rules))).fits))
+    three.is ∙ ap (λ (part : List ℕ). pasted at part b) (sym (set_bytes_lem c.args.set (words).fits))

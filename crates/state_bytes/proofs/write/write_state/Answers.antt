@@ -18,31 +18,57 @@ write_head-requires c = omega (arith, c.requires)
 
 pub write_bytes-requires : goal.write_bytes-requires
 unfolding state_length
-write_bytes-requires c = omega (arith, (c.write_head.auto.0 ∙ c.requires))
+write_bytes-requires c =
+    let head_long : length c.write_head.new.0 ≡ state_length = c.write_head.auto.0 ∙ c.requires in
+    omega (arith, head_long)
 
 pub write_numbers-requires : goal.write_numbers-requires
 unfolding state_length
-write_numbers-requires c = omega (arith, (c.write_bytes.auto.0 ∙ (c.write_head.auto.0 ∙ c.requires)))
+write_numbers-requires c =
+    let head_long : length c.write_head.new.0 ≡ state_length = c.write_head.auto.0 ∙ c.requires in
+    let bytes_long : length c.write_bytes.new.0 ≡ state_length = c.write_bytes.auto.0 ∙ head_long in
+    omega (arith, bytes_long)
 
 pub write_flags-requires : goal.write_flags-requires
 unfolding state_length
-write_flags-requires c = omega (arith, (c.write_numbers.auto.0 ∙ (c.write_bytes.auto.0 ∙ (c.write_head.auto.0 ∙ c.requires))))
+write_flags-requires c =
+    let head_long : length c.write_head.new.0 ≡ state_length = c.write_head.auto.0 ∙ c.requires in
+    let bytes_long : length c.write_bytes.new.0 ≡ state_length = c.write_bytes.auto.0 ∙ head_long in
+    let numbers_long : length c.write_numbers.new.0 ≡ state_length = c.write_numbers.auto.0 ∙ bytes_long in
+    omega (arith, numbers_long)
 
 pub write_flags-requires-2 : goal.write_flags-requires-2
 unfolding state_length
-write_flags-requires-2 c = omega (arith, (c.write_flags.auto.0 ∙ (c.write_numbers.auto.0 ∙ (c.write_bytes.auto.0 ∙ (c.write_head.auto.0 ∙ c.requires)))))
+write_flags-requires-2 c =
+    let head_long : length c.write_head.new.0 ≡ state_length = c.write_head.auto.0 ∙ c.requires in
+    let bytes_long : length c.write_bytes.new.0 ≡ state_length = c.write_bytes.auto.0 ∙ head_long in
+    let numbers_long : length c.write_numbers.new.0 ≡ state_length = c.write_numbers.auto.0 ∙ bytes_long in
+    let flags_long : length c.write_flags.new.0 ≡ state_length = c.write_flags.auto.0 ∙ numbers_long in
+    omega (arith, flags_long)
 
 pub write_sets-requires : goal.write_sets-requires
 unfolding state_length
-write_sets-requires c = omega (arith, (c.write_flags-2.auto.0 ∙ (c.write_flags.auto.0 ∙ (c.write_numbers.auto.0 ∙ (c.write_bytes.auto.0 ∙ (c.write_head.auto.0 ∙ c.requires))))))
+write_sets-requires c =
+    let head_long : length c.write_head.new.0 ≡ state_length = c.write_head.auto.0 ∙ c.requires in
+    let bytes_long : length c.write_bytes.new.0 ≡ state_length = c.write_bytes.auto.0 ∙ head_long in
+    let numbers_long : length c.write_numbers.new.0 ≡ state_length = c.write_numbers.auto.0 ∙ bytes_long in
+    let flags_long : length c.write_flags.new.0 ≡ state_length = c.write_flags.auto.0 ∙ numbers_long in
+    let flags2_long : length c.write_flags-2.new.0 ≡ state_length = c.write_flags-2.auto.0 ∙ flags_long in
+    omega (arith, flags2_long)
 
 pub write_threads-requires : goal.write_threads-requires
 unfolding state_length
-write_threads-requires c = omega (arith, (c.write_sets.auto.0 ∙ (c.write_flags-2.auto.0 ∙ (c.write_flags.auto.0 ∙ (c.write_numbers.auto.0 ∙ (c.write_bytes.auto.0 ∙ (c.write_head.auto.0 ∙ c.requires)))))))
+write_threads-requires c = let head_long : length c.write_head.new.0 ≡ state_length = c.write_head.auto.0 ∙ c.requires in
+    let bytes_long : length c.write_bytes.new.0 ≡ state_length = c.write_bytes.auto.0 ∙ head_long in
+    let numbers_long : length c.write_numbers.new.0 ≡ state_length = c.write_numbers.auto.0 ∙ bytes_long in
+    let flags_long : length c.write_flags.new.0 ≡ state_length = c.write_flags.auto.0 ∙ numbers_long in
+    let flags2_long : length c.write_flags-2.new.0 ≡ state_length = c.write_flags-2.auto.0 ∙ flags_long in
+    let sets_long : length c.write_sets.new.0 ≡ state_length = c.write_sets.auto.0 ∙ flags2_long in
+    omega (arith, sets_long)
 
 pub returns : goal.returns
 unfolding state_length
-returns c =
+returns c o s h i =
     let args = c.args in
     let one = put_more (put_none 0 args.state.now) (head_of args.settings args.counters) 0 14 refl (head_length _ _) c.write_head.ensures in
     let two = put_fields one 1 151 _ (λ n. bytes_length 1 _) c.write_bytes-arg-2-1.given.0 c.write_bytes.ensures in

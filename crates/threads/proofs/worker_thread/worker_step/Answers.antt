@@ -30,15 +30,17 @@ bounds-seq-own c =
 
 pub write_read-requires : goal.write_read-requires
 write_read-requires c =
+    let is_read : in_one_step (item_of c.item_of-item.result) ≡ true = sym c.in_one_step.ensures ∙ c.if-in_one_step.true in
     let within : c.in-Holding.own.0 ≤ 150 = rw c.in-Holding.is at c.requires.within in
-    let command = one_step_command _ ((sym c.in_one_step.ensures ∙ c.if-in_one_step.true)) in
+    let command = one_step_command _ (is_read) in
     rw c.place_of-place.ensures (c.requires.placed c.in-Holding.own.0 command.0 within (sym c.item_of-item.ensures ∙ command.1))
 
 pub returns-then-in_one_step : goal.returns-then-in_one_step
 returns-then-in_one_step c =
+    let is_read : in_one_step (item_of c.item_of-item.result) ≡ true = sym c.in_one_step.ensures ∙ c.if-in_one_step.true in
     λ list t other al. from_known c.in-Holding.is (λ ready.
-    holding_writes _ _ _ _ _ other _ c.in-Holding.own _ c.item_of-item.ensures ready _ c.look_up-found.ensures ((sym c.in_one_step.ensures ∙ c.if-in_one_step.true))
-    _ c.place_of-place.ensures _ (c.write_read.ensures _ _ _ _ ((sym c.in_one_step.ensures ∙ c.if-in_one_step.true))) c.write_read.auto.1.1.0)
+    holding_writes _ _ _ _ _ other _ c.in-Holding.own _ c.item_of-item.ensures ready _ c.look_up-found.ensures (is_read)
+    _ c.place_of-place.ensures _ (c.write_read.ensures _ _ _ _ (is_read)) c.write_read.auto.1.1.0)
 
 pub item_of-item-requires-in-LookedUp : goal.item_of-item-requires-in-LookedUp
 item_of-item-requires-in-LookedUp c =
