@@ -15,7 +15,7 @@ use Rattle.graph.specs.Arrays.{numbers}
 use Rattle.choice.proofs.foremost_of.Given as goal
 
 -- the rank of the thread at a place
-abbrev rank_at : List ℕ → List Thread → ℕ → ℕ
+abbrev pub rank_at : List ℕ → List Thread → ℕ → ℕ
 rank_at seq threads t = rank (numbers seq) (get_or threads t Idle)
 
 abbrev pub invariant-loop-t : goal.invariant-loop-t

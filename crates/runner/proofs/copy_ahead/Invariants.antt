@@ -12,7 +12,7 @@ use Rattle.command.proofs.Tests.{eqb_cases, le_cases}
 use Rattle.runner.proofs.copy_ahead.Given as goal
 
 -- so many threads are the schedule's from a place on
-abbrev Copied : List ℕ → ℕ → List ℕ → ℕ → Type 0
+abbrev pub Copied : List ℕ → ℕ → List ℕ → ℕ → Type 0
 Copied schedule done ahead k = (i : ℕ) → i < k → get_or ahead i 0 ≡ get_or schedule (done + i) 0
 
 abbrev pub invariant-loop-k : goal.invariant-loop-k

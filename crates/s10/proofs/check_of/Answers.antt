@@ -14,4 +14,4 @@ returns-in-11 c = rw (← c.remainder_by_11.ensures) (simp c.in-11.is)
 
 pub returns-in_default : goal.returns-in_default
 unfolding excepted
-returns-in_default c = rw (← c.remainder_by_11.ensures) (simp (ne_eqb _ _ c.in_default-own.rest.0.1, ne_eqb _ _ c.in_default-own.rest.1))
+returns-in_default c = rw (← c.remainder_by_11.ensures) (simp (ne_eqb _ _ c.in_default.in_default-own.rest.0.1, ne_eqb _ _ c.in_default.in_default-own.rest.1))

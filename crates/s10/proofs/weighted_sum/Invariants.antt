@@ -11,7 +11,7 @@ use Rattle.s10.proofs.Weighted.{weighted_step, weighted_bound}
 use Rattle.s10.proofs.weighted_sum.Given as goal
 
 -- what is left of a text's weighted sum from place k on
-abbrev rest : List ℕ → ℕ → ℕ
+abbrev pub rest : List ℕ → ℕ → ℕ
 rest text k = weighted (drop k weights) (drop k (values text))
 
 abbrev pub invariant-loop-k : goal.invariant-loop-k

@@ -12,7 +12,7 @@ use Rattle.s10.specs.Parts.{characters}
 use Rattle.s10.proofs.write_digits.Given as goal
 
 -- from place i on the list holds the last digits, and the rest is the number without them
-record Filled (number : ℕ) (text : List ℕ) (rest i : ℕ) : Type 0 where
+pub record Filled (number : ℕ) (text : List ℕ) (rest i : ℕ) : Type 0 where
   within : i ≤ length text
   quotient : rest ≡ number / 10 ^ (length text - i)
   written : drop i text ≡ characters (digits (length text - i) number)

@@ -16,7 +16,7 @@ use Rattle.store.proofs.Halve.{halve_rest, leads_trans}
 use Rattle.store.proofs.place.Given as goal
 
 -- the first n places
-abbrev first : ℕ → Left
+abbrev pub first : ℕ → Left
 first n = record { from = 0; size = n }
 
 abbrev pub invariant-loop-left : goal.invariant-loop-left

@@ -16,4 +16,4 @@ pub returns-in-Insert : goal.returns-in-Insert
 unfolding count_after count_with
 returns-in-Insert c =
     let a = c.args in
-    one_of (λ (k : Kind). a.count ≡ count_with k a.self.chute a.count) a.self.kind Insert (Delete ∷ Read ∷ Update ∷ Checkpoint ∷ []) c.in-Insert-own.keys2 (refl, (refl, (refl, (refl, refl))))
+    one_of (λ (k : Kind). a.count ≡ count_with k a.self.chute a.count) a.self.kind Insert (Delete ∷ Read ∷ Update ∷ Checkpoint ∷ []) c.in-Insert.in-Insert-own.keys2 (refl, (refl, (refl, (refl, refl))))

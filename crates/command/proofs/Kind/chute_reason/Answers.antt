@@ -10,4 +10,4 @@ use Rattle.command.proofs.Places.{one_of}
 use Rattle.command.proofs.Kind.chute_reason.Goals as goal
 
 pub returns-in-Insert : goal.returns-in-Insert
-returns-in-Insert c = one_of (λ (k : Kind). plain 10 ≡ chute_refusal k) c.args.self Insert (Delete ∷ Read ∷ Update ∷ Checkpoint ∷ []) c.in-Insert-own.keys2 (refl, (refl, (refl, (refl, refl))))
+returns-in-Insert c = one_of (λ (k : Kind). plain 10 ≡ chute_refusal k) c.args.self Insert (Delete ∷ Read ∷ Update ∷ Checkpoint ∷ []) c.in-Insert.in-Insert-own.keys2 (refl, (refl, (refl, (refl, refl))))

@@ -10,8 +10,8 @@ use Rattle.command.proofs.Kind.has_item.Goals as goal
 
 pub returns-in-Insert : goal.returns-in-Insert
 unfolding has_item
-returns-in-Insert c = one_of (λ (k : Kind). true ≡ has_item k) c.args.self Insert (Delete ∷ Read ∷ Update ∷ []) c.in-Insert-own.keys1 (refl, (refl, (refl, refl)))
+returns-in-Insert c = one_of (λ (k : Kind). true ≡ has_item k) c.args.self Insert (Delete ∷ Read ∷ Update ∷ []) c.in-Insert.in-Insert-own.keys1 (refl, (refl, (refl, refl)))
 
 pub returns-in-Workers : goal.returns-in-Workers
 unfolding has_item
-returns-in-Workers c = one_of (λ (k : Kind). false ≡ has_item k) c.args.self Workers (Checkpoint ∷ []) c.in-Workers-own.keys2 (refl, refl)
+returns-in-Workers c = one_of (λ (k : Kind). false ≡ has_item k) c.args.self Workers (Checkpoint ∷ []) c.in-Workers.in-Workers-own.keys2 (refl, refl)

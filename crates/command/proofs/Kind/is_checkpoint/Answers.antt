@@ -15,4 +15,4 @@ returns-in-Checkpoint c = search rules
 
 pub returns-in-Insert : goal.returns-in-Insert
 unfolding is_checkpoint
-returns-in-Insert c = one_of (λ (k : Kind). false ≡ is_checkpoint k) c.args.self Insert (Delete ∷ Read ∷ Update ∷ Workers ∷ []) c.in-Insert-own.keys2 (refl, (refl, (refl, (refl, refl))))
+returns-in-Insert c = one_of (λ (k : Kind). false ≡ is_checkpoint k) c.args.self Insert (Delete ∷ Read ∷ Update ∷ Workers ∷ []) c.in-Insert.in-Insert-own.keys2 (refl, (refl, (refl, (refl, refl))))

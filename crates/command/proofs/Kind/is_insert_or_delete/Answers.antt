@@ -10,8 +10,8 @@ use Rattle.command.proofs.Kind.is_insert_or_delete.Goals as goal
 
 pub returns-in-Insert : goal.returns-in-Insert
 unfolding is_insert_or_delete
-returns-in-Insert c = one_of (λ (k : Kind). true ≡ is_insert_or_delete k) c.args.self Insert (Delete ∷ []) c.in-Insert-own.keys1 (refl, refl)
+returns-in-Insert c = one_of (λ (k : Kind). true ≡ is_insert_or_delete k) c.args.self Insert (Delete ∷ []) c.in-Insert.in-Insert-own.keys1 (refl, refl)
 
 pub returns-in-Read : goal.returns-in-Read
 unfolding is_insert_or_delete
-returns-in-Read c = one_of (λ (k : Kind). false ≡ is_insert_or_delete k) c.args.self Read (Update ∷ Workers ∷ Checkpoint ∷ []) c.in-Read-own.keys2 (refl, (refl, (refl, refl)))
+returns-in-Read c = one_of (λ (k : Kind). false ≡ is_insert_or_delete k) c.args.self Read (Update ∷ Workers ∷ Checkpoint ∷ []) c.in-Read.in-Read-own.keys2 (refl, (refl, (refl, refl)))

@@ -15,4 +15,4 @@ returns-in-Read c = search rules
 
 pub returns-in-Insert : goal.returns-in-Insert
 unfolding is_read
-returns-in-Insert c = one_of (λ (k : Kind). false ≡ is_read k) c.args.self Insert (Delete ∷ Update ∷ Workers ∷ Checkpoint ∷ []) c.in-Insert-own.keys2 (refl, (refl, (refl, (refl, refl))))
+returns-in-Insert c = one_of (λ (k : Kind). false ≡ is_read k) c.args.self Insert (Delete ∷ Update ∷ Workers ∷ Checkpoint ∷ []) c.in-Insert.in-Insert-own.keys2 (refl, (refl, (refl, (refl, refl))))

@@ -13,12 +13,12 @@ pub returns-in-Insert : goal.returns-in-Insert
 unfolding chute_fits
 returns-in-Insert c =
     let right = c.is_within.ensures in
-    one_of (λ (k : Kind). c.is_within.result ≡ chute_fits k c.args.chute) c.args.self Insert (Update ∷ []) c.in-Insert-own.keys1 (right, right)
+    one_of (λ (k : Kind). c.is_within.result ≡ chute_fits k c.args.chute) c.args.self Insert (Update ∷ []) c.in-Insert.in-Insert-own.keys1 (right, right)
 
 pub returns-in-Delete : goal.returns-in-Delete
 unfolding chute_fits
 returns-in-Delete c =
-    one_of (λ (k : Kind). eqb c.args.chute 0 ≡ chute_fits k c.args.chute) c.args.self Delete (Read ∷ Checkpoint ∷ []) c.in-Delete-own.keys2 (refl, (refl, refl))
+    one_of (λ (k : Kind). eqb c.args.chute 0 ≡ chute_fits k c.args.chute) c.args.self Delete (Read ∷ Checkpoint ∷ []) c.in-Delete.in-Delete-own.keys2 (refl, (refl, refl))
 
 pub returns-in-Workers : goal.returns-in-Workers
 unfolding chute_fits

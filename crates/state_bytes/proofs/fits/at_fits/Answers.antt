@@ -18,8 +18,8 @@ returns-in-7 c = simp (eq-eqb _ _ c.in-7.is, or-true)
 pub returns-in_default : goal.returns-in_default
 returns-in_default c =
     simp (
-      ne_eqb _ _ c.in_default-own.rest.0.0.0.1,
-      ne_eqb _ _ c.in_default-own.rest.0.0.1,
-      ne_eqb _ _ c.in_default-own.rest.0.1,
-      ne_eqb _ _ c.in_default-own.rest.1,
+      ne_eqb _ _ c.in_default.in_default-own.rest.0.0.0.1,
+      ne_eqb _ _ c.in_default.in_default-own.rest.0.0.1,
+      ne_eqb _ _ c.in_default.in_default-own.rest.0.1,
+      ne_eqb _ _ c.in_default.in_default-own.rest.1,
     )

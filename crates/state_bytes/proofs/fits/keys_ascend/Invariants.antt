@@ -15,7 +15,7 @@ use Rattle.byte_fields.proofs.Bytes.{below_or_past, all_below_each, each_all_bel
 use Rattle.state_bytes.proofs.fits.keys_ascend.Given as goal
 
 -- whether place i is the last, or its key is below the next
-abbrev ascending : ℕ → List ℕ → ℕ → Bool
+abbrev pub ascending : ℕ → List ℕ → ℕ → Bool
 ascending used keys i = leb used (i + 1) || ltb (get_or keys i 0) (get_or keys (i + 1) 0)
 
 abbrev pub invariant-loop-place : goal.invariant-loop-place

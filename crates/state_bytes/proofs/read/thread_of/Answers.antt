@@ -35,7 +35,7 @@ pub returns-in_default : goal.returns-in_default
 unfolding thread_of
 returns-in_default c =
     let tag = c.args.tag in
-    let none = c.in_default-own.rest in
+    let none = c.in_default.in_default-own.rest in
     rw (
       ne_eqb tag 1 none.0.0.0.0.0.0.1,
       ne_eqb tag 2 none.0.0.0.0.0.1,

@@ -29,5 +29,5 @@ returns-in_default c =
     let stayed =
     other_stayed a.at a.own a.free.0 a.next.now a.seq.now a.executing.now a.locked.now a.waits.now
     c.clear-cleared.result.thread c.clear-cleared.result.free.0 left.0 left.1.0 left.1.1.0 left.1.1.1.0 left.1.1.1.1.0
-    c.clear-cleared.ensures.steps (busy c.clear-cleared.result.thread c.in_default-own.keys2) in
+    c.clear-cleared.ensures.steps (busy c.clear-cleared.result.thread c.in_default.in_default-own.keys2) in
     (c.clear-cleared.ensures.within, (c.clear-cleared.ensures.steps, λ cs keys chutes kept. kept_unchanged cs _ _ a.kinds.now keys chutes stayed kept))
