@@ -115,9 +115,9 @@ module _ (capacity place : ℕ) (es : List Entry) (small : capacity ≤ 4096) (l
       ∙ ascending_test es stored.ascending
 
   -- so the image is accepted
-  chain_fits : chain_fits capacity image ≡ true
+  chain_fits_lem : chain_fits capacity image ≡ true
   unfolding chain_fits
-  chain_fits =
+  chain_fits_lem =
       (and-eq-true_iff (all (λ i. leb i capacity) (chain_in capacity image)) (strictly_ascend (map (key_in image) (chain_in capacity image)))).1 (
         rw chain_written (each_all (λ i. leb i capacity) (tabulate (length es) suc) (each_tabulate (λ i. leb i capacity ≡ true) (length es) suc (λ i l. le-leb (suc i) capacity (omega (arith, stored.fits))))),
         keys_written,
@@ -137,7 +137,7 @@ module _ (capacity place : ℕ) (es : List Entry) (small : capacity ≤ 4096) (l
   unfolding seq_in
   written_reads = record {
     long = image_length_lem capacity place (lay_out capacity es);
-    chain = chain_fits;
+    chain = chain_fits_lem;
     slots = slots_fit_lem;
     entries = entries_written;
     seq = head_written.key_is;

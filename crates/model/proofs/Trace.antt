@@ -4,7 +4,7 @@ use Prim.Native.Nat.{ℕ, zero, suc, ◌+◌, ◌≤◌, ◌<◌}
 use native.Mathlib.Omega.{arith}
 use Rattle.std.specs.Prelude.{◌≡◌, Bool, length, take}
 use Rattle.std.proofs.Math.Path.{refl, sym, ap}
-use Rattle.std.proofs.Common.{◌∙◌}
+use Rattle.std.proofs.Common.{◌∙◌, subst}
 use Rattle.std.proofs.Math.Bool.{true, false, cond}
 use mathlib.Core.List.{List, [], ◌∷◌}
 use Rattle.std.proofs.Math.Option.{none, some}
@@ -73,7 +73,8 @@ module _ {C S : Type 0} (effect : C → S → S) where
   run_only_before (suc n) i [] s = refl
   run_only_before (suc n) i (c ∷ cs) s =
       let on : i + suc n ≡ suc i + n = omega arith in
-      rw (lt-ltb i (i + suc n) (omega arith), on) (run_only_before n (suc i) cs (effect c s))
+      rw (lt-ltb i (i + suc n) (omega arith))
+      (subst (λ (m : ℕ). run_only (λ k. ltb k m) (suc i) cs (effect c s) ≡ run (take n cs) (effect c s)) (sym on) (run_only_before n (suc i) cs (effect c s)))
 
   -- what the effect of each command keeps, the run keeps
   pub run_only_keeps : (P : S → Type 0) (W : ℕ → Bool) (i : ℕ) (cs : List C) (s : S)

@@ -1,7 +1,7 @@
 -- A clearing worker at the end of the chain returns its own node to the free list: no node of the chain lies behind the worker, so the node
 -- is in no set, and its number can serve again. Assumes nothing.
 use Rattle.std.specs.Prelude.{ℕ, suc, ◌≤◌, ◌<◌, ◌≡◌, Bool, true, ◌∷◌, ◌⊎◌, length}
-use Rattle.std.proofs.Common.{arith, ap, ◌∙◌, inl, inr, ⊎_elim}
+use Rattle.std.proofs.Common.{arith, ap, subst, ◌∙◌, inl, inr, ⊎_elim}
 use Rattle.std.proofs.Math.Path.{refl, sym, fun_ext}
 use Rattle.std.proofs.Math.Bool.{false}
 use Rattle.std.proofs.Math.Option.{Option, none, some}
@@ -117,7 +117,7 @@ module _ (o : Setup) (s : State) (g : Ghost) (i : Inv o s g) (t : ℕ) (low : 1 
   returned_free = record {
     chain = (refl, rw (upd_same s.graph.next n s.graph.free) (chain_kept s.graph.next n s.graph.free s.graph.free g.frees not_free i.free_list.chain));
     no_repeat = (not_free, i.free_list.no_repeat);
-    is_unused = λ z. ⊎_elim (λ q. let s₁ = i.order.used_size n n_used in let nz = n_nonzero in (rw q (omega (arith, nz)), rw q s₁, upd_at s.graph.seq n 0 z q)) (λ h. let w = i.free_list.is_unused z h in (w.0, w.1, same z (λ q. not_free (rw q at h)) ∙ w.2));
+    is_unused = λ z. ⊎_elim (λ q. let s₁ = i.order.used_size n n_used in let nz = n_nonzero in (rw q (omega (arith, nz)), rw q s₁, upd_at s.graph.seq n 0 z q)) (λ h. let w = i.free_list.is_unused z h in (w.0, w.1, same z (λ q. not_free (subst (λ (k : ℕ). In k g.frees) q h)) ∙ w.2));
     has_unused = λ z b c e. ⊎_elim (λ q. inl q.0) (λ q. inr (i.free_list.has_unused z b c (sym (same z q.0) ∙ e))) (eqb_cases z n);
   }
     where
