@@ -1,7 +1,7 @@
 // The program: reads settings, commands and a schedule from standard input, and writes the answers to standard output.
 #![tactic(auto)]
 
-ghost use Rattle.std.specs.Prelude.{◌≤◌, ◌≡◌, length, take};
+ghost use Rattle.std.specs.Prelude.{◌≤◌, ◌≡◌, length, take, IfOk};
 ghost use Rattle.io.specs.Counts.{IsPrefixLen};
 ghost use Rattle.depot.specs.Program.{output};
 
@@ -11,9 +11,9 @@ mod text;
 
 use byte_fields::number_at;
 use command::Command;
-use libc::{STDIN_FILENO, STDOUT_FILENO};
 use perform::perform;
 use report::put_refusal;
+use std::io::{Print, Read};
 
 // The longest input, and the length of what stands before the commands.
 const LONGEST: usize = 65536;
@@ -50,11 +50,26 @@ fn run(input: &[u8], out: &mut [u8]) -> usize
     )
 }
 
+// Reads until the list is full or the input ends, and answers how many bytes that is.
+fn read_full<R: Read>(input: &mut R, list: &mut [u8]) -> std::io::Result<usize>
+    ensures { IfOk result (λ n. IsPrefixLen n list.new) }
+{
+    let mut done = 0;
+    while done < list.len() {
+        let count = input.read(&mut list[done..])?;
+        if count == 0 {
+            break;
+        }
+        done += count;
+    }
+    Ok(done)
+}
+
 // Reads at most one byte more than the longest input: that one tells a longer input.
-fn main() {
+fn main(rt: HostRuntime) -> std::io::Result<()> {
     let mut input = [0u8; 65537];
     let mut out = [0u8; 147456];
-    let length = io::read_full(STDIN_FILENO, &mut input);
+    let length = read_full(&mut rt.stdin(), &mut input)?;
     let written = run(&input[..length], &mut out);
-    io::write_all(STDOUT_FILENO, &out[..written]);
+    rt.stdout().write_all(&out[..written])
 }
