@@ -187,6 +187,7 @@ impl Command {
 
 impl Kind {
     // The kind of a number.
+    #[tactic(auto, unfolding(crate::specs::Read::kind_of))]
     pub fn of(number: u8) -> AnyKind
         ensures { known_kind result ≡ kind_of number }
     {
