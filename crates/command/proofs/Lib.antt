@@ -1,6 +1,5 @@
 pub mod Tests
 pub mod Elements
-pub mod Places
 pub mod Parts
 pub mod Rest
 pub mod Zeros

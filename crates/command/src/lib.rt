@@ -151,6 +151,7 @@ impl Command {
     }
 
     // Whether two commands may not change places.
+    #[tactic(auto, unfolding(crate::specs::Dependent::are_dependent))]
     pub fn depends_on(self, other: Command) -> bool
         ensures { result ≡ are_dependent self other }
     {
@@ -172,6 +173,7 @@ impl Command {
     }
 
     // The worker count after the command.
+    #[tactic(auto, unfolding(crate::specs::Count::count_after, crate::specs::Count::count_with))]
     pub fn count_after(self, count: usize) -> usize
         ensures { result ≡ count_after self count }
     {
@@ -185,6 +187,7 @@ impl Command {
 
 impl Kind {
     // The kind of a number.
+    #[tactic(auto, unfolding(crate::specs::Read::kind_of))]
     pub fn of(number: u8) -> AnyKind
         ensures { known_kind result ≡ kind_of number }
     {
@@ -233,6 +236,7 @@ impl Kind {
         }
     }
 
+    #[tactic(auto, unfolding(crate::specs::Dependent::is_read))]
     pub fn is_read(self) -> bool
         ensures { result ≡ is_read self }
     {
@@ -242,6 +246,7 @@ impl Kind {
         }
     }
 
+    #[tactic(auto, unfolding(crate::specs::Dependent::is_insert_or_delete))]
     pub fn is_insert_or_delete(self) -> bool
         ensures { result ≡ is_insert_or_delete self }
     {
@@ -251,6 +256,7 @@ impl Kind {
         }
     }
 
+    #[tactic(auto, unfolding(crate::specs::Dependent::is_checkpoint))]
     pub fn is_checkpoint(self) -> bool
         ensures { result ≡ is_checkpoint self }
     {
@@ -261,6 +267,7 @@ impl Kind {
     }
 
     // Whether a command of this kind is for an item.
+    #[tactic(auto, unfolding(crate::specs::Dependent::has_item))]
     pub fn has_item(self) -> bool
         ensures { result ≡ has_item self }
     {
@@ -296,6 +303,7 @@ impl Kind {
     }
 
     // Whether a command of this kind may carry a chute; 0 is none.
+    #[tactic(auto, unfolding(crate::specs::Read::chute_fits))]
     fn takes(self, chute: u16) -> bool
         ensures { result ≡ chute_fits self chute }
     {
@@ -364,6 +372,7 @@ fn smaller(a: usize, b: usize) -> usize
 }
 
 // The command of a kind, a key and the bytes of a chute.
+#[tactic(auto, unfolding(crate::specs::Read::with_chute, crate::specs::Read::chute_of))]
 fn with_chute(kind: Kind, key: u64, bytes: &[u8]) -> Reading
     ensures { command_outcome result ≡ with_chute kind (accepted key) bytes.now }
 {

@@ -12,4 +12,4 @@ returns c =
     let p = c.requires in
     let b = c.bucket_of-bucket.ensures in
     let index = indexed_more a.keys.now a.previous.now a.heads.now a.i a.key p.4 p.0 (omega (arith, p.0, p.2)) p.3 (rw b.0 at b.1) in
-    (refl, rw (b.0, add-one) index)
+    record { entered = refl; index = rw (b.0, add-one) index }

@@ -9,10 +9,14 @@ use Rattle.s10.proofs.Weighted.{check_digit_below}
 use Rattle.s10.proofs.check_digit.Goals as goal
 
 pub overflow_cast-result : goal.overflow_cast-result
-overflow_cast-result c = let result : (c.check_of.result ≡ check_digit (values c.args.digits.now)) × (c.check_of.result < 10) = let right = rw c.weighted_sum.ensures.value at c.check_of.ensures in (right, rw right (check_digit_below (values c.args.digits.now))) in
-    omega (arith, (result).1)
+unfolding check_digit
+overflow_cast-result c =
+    let right = rw c.weighted_sum.ensures.value at c.check_of.ensures in
+    let below = check_digit_below (values c.args.digits.now) in
+    omega arith
 
 pub returns : goal.returns
+unfolding check_digit
 returns c =
-    let result : (c.check_of.result ≡ check_digit (values c.args.digits.now)) × (c.check_of.result < 10) = let right = rw c.weighted_sum.ensures.value at c.check_of.ensures in (right, rw right (check_digit_below (values c.args.digits.now))) in
-    result
+    let right = rw c.weighted_sum.ensures.value at c.check_of.ensures in
+    (right, rw right (check_digit_below (values c.args.digits.now)))

@@ -62,4 +62,4 @@ returns c =
     let k : c.loop-k.k ≡ 8 = omega arith in
     let all = rw k at c.loop-k.invariant.1 in
     let bound = weighted_bound c.args.digits.now c.requires in
-    (omega arith, omega arith)
+    record { value = omega arith; upper_bound = omega arith }

@@ -9,13 +9,8 @@ use lib.ListN.{length, drop, set, length-set}
 use lib.Seq.{drop-cons, drop-length, get_or-set_same, drop-set-lt}
 use Rattle.s10.specs.Text.{digits}
 use Rattle.s10.specs.Parts.{characters}
+use Rattle.s10.proofs.write_digits.Invariants.{Filled}
 use Rattle.s10.proofs.write_digits.Goals as goal
-
--- from place i on the list holds the last digits, and the rest is the number without them
-record Filled (number : ℕ) (text : List ℕ) (rest i : ℕ) : Type 0 where
-  within : i ≤ length text
-  quotient : rest ≡ number / 10 ^ (length text - i)
-  written : drop i text ≡ characters (digits (length text - i) number)
 
 none_filled : (number : ℕ) (text : List ℕ) → Filled number text number (length text)
 unfolding digits

@@ -13,9 +13,9 @@ use Rattle.s10.proofs.write_digits.Given as goal
 
 -- from place i on the list holds the last digits, and the rest is the number without them
 pub record Filled (number : ℕ) (text : List ℕ) (rest i : ℕ) : Type 0 where
-  within : i ≤ length text
-  quotient : rest ≡ number / 10 ^ (length text - i)
-  written : drop i text ≡ characters (digits (length text - i) number)
+  pub within : i ≤ length text
+  pub quotient : rest ≡ number / 10 ^ (length text - i)
+  pub written : drop i text ≡ characters (digits (length text - i) number)
 
 abbrev pub invariant-loop-i : goal.invariant-loop-i
 invariant-loop-i l = (length l.text ≡ length l.initial.text) × Filled l.number l.text l.rest l.i

@@ -16,22 +16,22 @@ returns-then-part-eq0 c = rw (get_or-eq_default c.args.part.now 0 {n = 0} (omega
 
 -- nor is a number that is no kind's
 pub returns-in_default : goal.returns-in_default
-unfolding with_kind
-returns-in_default c = let numbered : let part = c.args.part.now in read_command part ≡ with_kind (known_kind c.of.result) (take 13 (drop 1 part)) (drop 14 part) = rw (← c.of.ensures) in
-    rw (numbered, c.in_default.is)
+unfolding with_kind read_command
+returns-in_default c = rw (← c.of.ensures, c.in_default.is)
 
+-- the identifier is what there is of its thirteen bytes, and the chute what is left
 pub returns-in-Key : goal.returns-in-Key
+unfolding with_kind read_command
 returns-in-Key c =
-    let numbered : let part = c.args.part.now in read_command part ≡ with_kind (known_kind c.of.result) (take 13 (drop 1 part)) (drop 14 part) = rw (← c.of.ensures) in
-    let identified : let part = c.args.part.now in read_command part ≡ with_chute c.in-Known.kind (identifier_outcome c.read_identifier-identifier.result) (drop c.smaller-end.result part) = let part = c.args.part.now in rw (numbered, c.in-Known.is, c.read_identifier-identifier.ensures, c.smaller-end.ensures, drop_min, part_min 1 13 part) in
     let end = c.smaller-end.result in
     let part = c.args.part.now in
+    let identified : read_command part ≡ with_chute c.in-Known.kind (identifier_outcome c.read_identifier-identifier.result) (drop end part) = rw (← c.of.ensures, c.in-Known.is, c.read_identifier-identifier.ensures, c.smaller-end.ensures, drop_min, part_min 1 13 part) in
     let rest : take (length part - end) (drop end part) ≡ drop end part = take_all (length part - end) (drop end part) (rw length-drop (omega arith)) in
     rw (identified, c.in-Key.is) (rw rest at c.with_chute.ensures)
 
 pub returns-in-Refused : goal.returns-in-Refused
-unfolding with_chute
+unfolding with_chute with_kind read_command
 returns-in-Refused c =
-    let numbered : let part = c.args.part.now in read_command part ≡ with_kind (known_kind c.of.result) (take 13 (drop 1 part)) (drop 14 part) = rw (← c.of.ensures) in
-    let identified : let part = c.args.part.now in read_command part ≡ with_chute c.in-Known.kind (identifier_outcome c.read_identifier-identifier.result) (drop c.smaller-end.result part) = let part = c.args.part.now in rw (numbered, c.in-Known.is, c.read_identifier-identifier.ensures, c.smaller-end.ensures, drop_min, part_min 1 13 part) in
+    let part = c.args.part.now in
+    let identified : read_command part ≡ with_chute c.in-Known.kind (identifier_outcome c.read_identifier-identifier.result) (drop c.smaller-end.result part) = rw (← c.of.ensures, c.in-Known.is, c.read_identifier-identifier.ensures, c.smaller-end.ensures, drop_min, part_min 1 13 part) in
     rw (identified, c.in-Refused.is)
