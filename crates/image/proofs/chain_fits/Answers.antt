@@ -8,6 +8,7 @@ use borrow.Author.Tests.{eqb-true, eqb-false, not-true, not-false}
 use Rattle.model.specs.Image.{image_length}
 use Rattle.image.proofs.Chain.{Testing, testing_begins, testing_past, testing_low, testing_goes_on, testing_ends, testing_full}
 use Rattle.image.proofs.chain_fits.Goals as goal
+use Rattle.image.proofs.chain_fits.Goals.{then-n-gt0+else-key-last, else-n-gt0}
 
 pub next_in-i-requires : goal.next_in-i-requires
 unfolding image_length
@@ -18,8 +19,7 @@ loop-n-init c = testing_begins _ _ c.next_in-i.ensures
 
 pub returns-then-i-capacity : goal.returns-then-i-capacity
 returns-then-i-capacity c =
-    let index_is_not_0 : c.loop-n.i ≡ 0 → ⊥ = eqb-false c.loop-n.i 0 (not-true _ c.if-i-ne0.true-raw) in
-    testing_past c.loop-n.invariant c.loop-n-test.true (index_is_not_0) c.if-i-capacity.true
+    testing_past c.loop-n.invariant c.loop-n-test.true c.if-i-ne0.true c.if-i-capacity.true
 
 pub key_in-key-requires : goal.key_in-key-requires
 unfolding image_length
@@ -27,8 +27,7 @@ key_in-key-requires c = omega arith
 
 pub returns-then-key-last : goal.returns-then-key-last
 returns-then-key-last c =
-    let index_is_not_0 : c.loop-n.i ≡ 0 → ⊥ = eqb-false c.loop-n.i 0 (not-true _ c.if-i-ne0.true-raw) in
-    testing_low c.loop-n.invariant c.loop-n-test.true (index_is_not_0) c.key_in-key.ensures c.if-n-gt0.true (omega arith)
+    testing_low c.loop-n.invariant c.loop-n-test.true c.if-i-ne0.true c.key_in-key.ensures c.if-n-gt0.true (omega arith)
 
 pub next_in-i-requires-in-loop-n : goal.next_in-i-requires-in-loop-n
 unfolding image_length
@@ -40,14 +39,13 @@ overflow_add-n c = omega arith
 
 pub loop-n-preserved : goal.loop-n-preserved
 loop-n-preserved c =
-    let index_is_not_0 : c.loop-n.i ≡ 0 → ⊥ = eqb-false c.loop-n.i 0 (not-true _ c.if-i-ne0.true-raw) in
     let loop = c.loop-n in
     let high : 0 < loop.n → loop.last < c.key_in-key.result
-    = λ some. ⊎_elim (λ w. omega (arith, w.1.left)) (λ w. omega (arith, w.left)) c.if-n-gt0.branch in
-    testing_goes_on loop.invariant c.loop-n-test.true (index_is_not_0) c.if-i-capacity.false c.key_in-key.ensures c.next_in-i-in-loop-n.ensures high
+    = λ some. elim c.if-n-gt0.branch [ then-n-gt0+else-key-last w ↦ omega (arith, w.if-key-last.false) | else-n-gt0 w ↦ absurd (omega (arith, w.if-n-gt0.false)) ] in
+    testing_goes_on loop.invariant c.loop-n-test.true c.if-i-ne0.true c.if-i-capacity.false c.key_in-key.ensures c.next_in-i-in-loop-n.ensures high
 
 pub returns-else-i-ne0 : goal.returns-else-i-ne0
-returns-else-i-ne0 c = testing_ends c.loop-n.invariant (eqb-true _ _ (not-false _ c.if-i-ne0.false-raw))
+returns-else-i-ne0 c = testing_ends c.loop-n.invariant c.if-i-ne0.false
 
 pub returns-after-loop-n : goal.returns-after-loop-n
 returns-after-loop-n c = testing_full c.loop-n.invariant c.loop-n-test.false

@@ -9,6 +9,7 @@ use lib.ListN.{length}
 use Rattle.model.specs.Image.{image_length, chain_in}
 use Rattle.image.proofs.Reading.{Along, along_begins, along_in_image, along_goes_on, along_ends, along_full, Laid, laid_none, laid_entry, laid_zero, laid_all}
 use Rattle.image.proofs.read_image.Goals as goal
+use Rattle.image.proofs.read_image.Goals.{then-loop-used-test+else-index-ne0, else-loop-used-test}
 
 pub next_in-index-requires : goal.next_in-index-requires
 unfolding image_length
@@ -20,35 +21,28 @@ loop-used-init c =
 
 pub key_in-requires : goal.key_in-requires
 key_in-requires c =
-    let index_is_not_0 : c.loop-used.index ≡ 0 → ⊥ = eqb-false c.loop-used.index 0 (not-true _ c.if-index-ne0.true-raw) in
-    let index_within : 16 * c.loop-used.index + 16 ≤ length c.args.image.now = along_in_image c.loop-used.invariant.0 c.loop-used-test.true (index_is_not_0) c.requires.0 in
-    index_within
+    along_in_image c.loop-used.invariant.0 c.loop-used-test.true c.if-index-ne0.true c.requires.0
 
 pub chute_in-requires : goal.chute_in-requires
 chute_in-requires c =
-    let index_is_not_0 : c.loop-used.index ≡ 0 → ⊥ = eqb-false c.loop-used.index 0 (not-true _ c.if-index-ne0.true-raw) in
-    let index_within : 16 * c.loop-used.index + 16 ≤ length c.args.image.now = along_in_image c.loop-used.invariant.0 c.loop-used-test.true (index_is_not_0) c.requires.0 in
-    index_within
+    along_in_image c.loop-used.invariant.0 c.loop-used-test.true c.if-index-ne0.true c.requires.0
 
 pub next_in-index-requires-in-loop-used : goal.next_in-index-requires-in-loop-used
 unfolding image_length
-next_in-index-requires-in-loop-used c = let index_is_not_0 : c.loop-used.index ≡ 0 → ⊥ = eqb-false c.loop-used.index 0 (not-true _ c.if-index-ne0.true-raw) in
-    let index_within : 16 * c.loop-used.index + 16 ≤ length c.args.image.now = along_in_image c.loop-used.invariant.0 c.loop-used-test.true (index_is_not_0) c.requires.0 in
-    omega (arith, index_within)
+next_in-index-requires-in-loop-used c = along_in_image c.loop-used.invariant.0 c.loop-used-test.true c.if-index-ne0.true c.requires.0
 
 pub loop-used-preserved : goal.loop-used-preserved
 loop-used-preserved c =
-    let index_is_not_0 : c.loop-used.index ≡ 0 → ⊥ = eqb-false c.loop-used.index 0 (not-true _ c.if-index-ne0.true-raw) in
     let inv = c.loop-used.invariant in
     let met = c.loop-used-test.true in (
-      along_goes_on inv.0 met (index_is_not_0) c.next_in-index-in-loop-used.ensures,
-      laid_entry inv.1 inv.0 met (index_is_not_0) c.key_in.ensures c.chute_in.ensures,
+      along_goes_on inv.0 met c.if-index-ne0.true c.next_in-index-in-loop-used.ensures,
+      laid_entry inv.1 inv.0 met c.if-index-ne0.true c.key_in.ensures c.chute_in.ensures,
     )
 
 pub loop-k-init : goal.loop-k-init
 loop-k-init c =
     let inv = c.loop-used.invariant in (
-      ⊎_elim (λ w. along_ends inv.0 (eqb-true _ _ (not-false _ w.1.left))) (λ w. along_full inv.0 w.left) c.loop-used-test.branch,
+      elim c.loop-used-test.branch [ then-loop-used-test+else-index-ne0 w ↦ along_ends inv.0 w.if-index-ne0.false | else-loop-used-test w ↦ along_full inv.0 w.loop-used-test.false ],
       omega arith,
       inv.1,
     )

@@ -14,6 +14,7 @@ use Rattle.model.proofs.Image.{slot_length}
 use Rattle.store.specs.Lists.{store_of}
 use Rattle.image.proofs.Slots.{slot_entry, slot_zeros, image_put}
 use Rattle.image.proofs.write_image.Goals as goal
+use Rattle.image.proofs.write_image.Goals.{then-i-n, else-i-n}
 
 pub put_slot-requires : goal.put_slot-requires
 unfolding image_length
@@ -37,8 +38,14 @@ put_slot-requires-else-i-n c =
 pub loop-i-preserved : goal.loop-i-preserved
 loop-i-preserved c =
     let store : Store = store_of c.args.keys.now c.args.chutes.now c.args.used in
-    let turn_puts : c.if-i-n.image ≡ pasted (16 * (c.loop-i.i + 1)) (slot_of c.args.place (store) (suc c.loop-i.i)) c.loop-i.image = let place = c.args.place in let i = c.loop-i.i in let put : List ℕ → List ℕ = λ part. pasted (16 * (i + 1)) part c.loop-i.image in ⊎_elim (λ w. w.8 ∙ (w.5.ensures ∙ ap put (slot_entry place (store) c.in_use-n.ensures.counted i w.0.taken w.2.ensures))) (λ w. w.5 ∙ (w.2.ensures ∙ ap put (slot_zeros place (store) c.in_use-n.ensures.counted i w.0.left))) c.if-i-n.branch in
-    fields_put c.loop-i.invariant (16 * (c.loop-i.i + 1)) c.loop-i-test.true (omega arith) (slot_length c.args.place (store) (suc c.loop-i.i)) (turn_puts)
+    let place = c.args.place in
+    let i = c.loop-i.i in
+    let put : List ℕ → List ℕ = λ part. pasted (16 * (i + 1)) part c.loop-i.image in
+    let turn_puts : c.if-i-n.image ≡ put (slot_of place store (suc i)) = elim c.if-i-n.branch [
+      | then-i-n w ↦ w.image-is ∙ (w.put_slot-then-i-n.ensures ∙ ap put (slot_entry place store c.in_use-n.ensures.counted i w.if-i-n.true w.next_index-then-i-n.ensures))
+      | else-i-n w ↦ w.image-is ∙ (w.put_slot-else-i-n.ensures ∙ ap put (slot_zeros place store c.in_use-n.ensures.counted i w.if-i-n.false))
+    ] in
+    fields_put c.loop-i.invariant (16 * (c.loop-i.i + 1)) c.loop-i-test.true (omega arith) (slot_length c.args.place store (suc c.loop-i.i)) turn_puts
 
 pub shape_of-image : goal.shape_of-image
 shape_of-image c =
@@ -49,5 +56,5 @@ pub returns : goal.returns
 returns c =
     let store : Store = store_of c.args.keys.now c.args.chutes.now c.args.used in
     let place = c.args.place in
-    image_put (length c.args.keys.now) place (store) c.args.image.now c.requires c.in_use-n.ensures.counted
+    image_put (length c.args.keys.now) place store c.args.image.now c.requires c.in_use-n.ensures.counted
     c.next_index.ensures c.put_slot.ensures (fields_all c.loop-i.invariant c.loop-i-test.false)

@@ -12,4 +12,4 @@ returns c =
     let n = c.in_use-n in
     let place = c.place-at in
     finds c.args.key (store_of c.args.keys.now c.args.chutes.now c.args.used) (record { in_use = n.result; at = place.result; held = c.is_at-held.result })
-    n.ensures.0 place.ensures.0 place.ensures.1 c.is_at-held.ensures
+    n.ensures.counted place.ensures.found place.ensures.within c.is_at-held.ensures

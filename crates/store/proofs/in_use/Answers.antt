@@ -8,4 +8,7 @@ use Rattle.store.proofs.in_use.Goals as goal
 pub returns : goal.returns
 returns c =
     let both = c.smaller in
-    (in_use_is (store_of c.args.keys.now c.args.chutes.now c.args.used) both.result c.smaller-2.result both.ensures c.smaller-2.ensures, (omega (arith, both.ensures, c.smaller-2.ensures), omega (arith, both.ensures, c.smaller-2.ensures)))
+    record {
+      counted = in_use_is (store_of c.args.keys.now c.args.chutes.now c.args.used) both.result c.smaller-2.result both.ensures c.smaller-2.ensures;
+      within = (omega arith, omega arith);
+    }

@@ -25,13 +25,13 @@ shift_up_keys-requires c =
 
 pub shift_up_chutes-requires : goal.shift_up_chutes-requires
 shift_up_chutes-requires c =
-    omega (arith, room_within c.find-found.ensures c.smaller-room.ensures c.if-room-n.left)
+    omega (arith, room_within c.find-found.ensures c.smaller-room.ensures c.if-room-n.false)
 
 pub overflow_add-result : goal.overflow_add-result
 overflow_add-result c =
-    omega (arith, room_within c.find-found.ensures c.smaller-room.ensures c.if-room-n.left, c.good)
+    omega (arith, room_within c.find-found.ensures c.smaller-room.ensures c.if-room-n.false)
 
 pub returns : goal.returns
 returns c =
     inserted c.find-found.ensures c.smaller-room.ensures c.args.chute
-    c.if-found.left c.if-room-n.left c.shift_up_keys.ensures c.shift_up_chutes.ensures
+    c.if-found.false c.if-room-n.false c.shift_up_keys.ensures c.shift_up_chutes.ensures

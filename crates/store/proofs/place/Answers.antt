@@ -33,7 +33,7 @@ ends keys key n left some one l =
 
 pub returns-then-n-eq0 : goal.returns-then-n-eq0
 unfolding place_among
-returns-then-n-eq0 c = (rw (eq-eqb c.args.n 0 (omega arith)), omega arith)
+returns-then-n-eq0 c = record { found = rw (eq-eqb c.args.n 0 (omega arith)); within = omega arith }
 
 pub loop-left-init : goal.loop-left-init
 loop-left-init c = record { same = λ n h. refl; some = omega arith; fewer = omega arith; inside = omega arith }
@@ -49,6 +49,10 @@ pub loop-left-preserved : goal.loop-left-preserved
 loop-left-preserved c =
     leads_trans c.args.keys.now c.args.key (first c.args.n) c.loop-left.left c.halved-left.result c.loop-left.invariant c.halved-left.ensures.0
 
+-- the halvings of one call further c.args.keys.now c.args.key c.args.n on from those before
+further : (keys : List ℕ) (key n : ℕ) {before after : Left} → Leads keys key (first n) before → Leads keys key before after → Leads keys key (first n) after
+further keys key n {before = before} {after = after} p q = leads_trans keys key (first n) before after p q
+
 pub narrowed-few-requires : goal.narrowed-few-requires
 narrowed-few-requires c =
     let i = inside c.args.keys.now c.args.key c.args.n c.loop-left.left c.requires c.loop-left.invariant in
@@ -56,20 +60,30 @@ narrowed-few-requires c =
 
 pub narrowed-fewer-requires : goal.narrowed-fewer-requires
 narrowed-fewer-requires c =
-    let i = inside c.args.keys.now c.args.key c.args.n c.narrowed-few.result c.requires ((leads_trans c.args.keys.now c.args.key (first c.args.n) c.loop-left.left c.narrowed-few.result c.loop-left.invariant c.narrowed-few.ensures.0)) in
+    let few = further c.args.keys.now c.args.key c.args.n c.loop-left.invariant c.narrowed-few.ensures.0 in
+    let i = inside c.args.keys.now c.args.key c.args.n c.narrowed-few.result c.requires few in
     (i.0, i.1, c.narrowed-few.ensures.1)
 
 pub thrice-last-requires : goal.thrice-last-requires
 thrice-last-requires c =
-    inside c.args.keys.now c.args.key c.args.n c.narrowed-fewer.result c.requires ((leads_trans c.args.keys.now c.args.key (first c.args.n) c.narrowed-few.result c.narrowed-fewer.result ((leads_trans c.args.keys.now c.args.key (first c.args.n) c.loop-left.left c.narrowed-few.result c.loop-left.invariant c.narrowed-few.ensures.0)) c.narrowed-fewer.ensures.0))
+    let few = further c.args.keys.now c.args.key c.args.n c.loop-left.invariant c.narrowed-few.ensures.0 in
+    let fewer = further c.args.keys.now c.args.key c.args.n few c.narrowed-fewer.ensures.0 in
+    inside c.args.keys.now c.args.key c.args.n c.narrowed-fewer.result c.requires fewer
 
 pub behind-requires : goal.behind-requires
 behind-requires c =
-    let i = inside c.args.keys.now c.args.key c.args.n c.thrice-last.result c.requires ((leads_trans c.args.keys.now c.args.key (first c.args.n) c.narrowed-fewer.result c.thrice-last.result ((leads_trans c.args.keys.now c.args.key (first c.args.n) c.narrowed-few.result c.narrowed-fewer.result ((leads_trans c.args.keys.now c.args.key (first c.args.n) c.loop-left.left c.narrowed-few.result c.loop-left.invariant c.narrowed-few.ensures.0)) c.narrowed-fewer.ensures.0)) c.thrice-last.ensures.0)) in
+    let few = further c.args.keys.now c.args.key c.args.n c.loop-left.invariant c.narrowed-few.ensures.0 in
+    let fewer = further c.args.keys.now c.args.key c.args.n few c.narrowed-fewer.ensures.0 in
+    let last = further c.args.keys.now c.args.key c.args.n fewer c.thrice-last.ensures.0 in
+    let i = inside c.args.keys.now c.args.key c.args.n c.thrice-last.result c.requires last in
     omega arith
 
 pub returns : goal.returns
 returns c =
     let keys = c.args.keys.now in
-    let found = c.behind.ensures ∙ sym (ends keys c.args.key c.args.n c.thrice-last.result (λ e. absurd (omega (arith, ((leads_trans c.args.keys.now c.args.key (first c.args.n) c.narrowed-fewer.result c.thrice-last.result ((leads_trans c.args.keys.now c.args.key (first c.args.n) c.narrowed-few.result c.narrowed-fewer.result ((leads_trans c.args.keys.now c.args.key (first c.args.n) c.loop-left.left c.narrowed-few.result c.loop-left.invariant c.narrowed-few.ensures.0)) c.narrowed-fewer.ensures.0)) c.thrice-last.ensures.0)).some, ((leads_trans c.args.keys.now c.args.key (first c.args.n) c.narrowed-fewer.result c.thrice-last.result ((leads_trans c.args.keys.now c.args.key (first c.args.n) c.narrowed-few.result c.narrowed-fewer.result ((leads_trans c.args.keys.now c.args.key (first c.args.n) c.loop-left.left c.narrowed-few.result c.loop-left.invariant c.narrowed-few.ensures.0)) c.narrowed-fewer.ensures.0)) c.thrice-last.ensures.0)).fewer))) (omega (arith, c.thrice-last.ensures.1, c.narrowed-fewer.ensures.1)) ((leads_trans c.args.keys.now c.args.key (first c.args.n) c.narrowed-fewer.result c.thrice-last.result ((leads_trans c.args.keys.now c.args.key (first c.args.n) c.narrowed-few.result c.narrowed-fewer.result ((leads_trans c.args.keys.now c.args.key (first c.args.n) c.loop-left.left c.narrowed-few.result c.loop-left.invariant c.narrowed-few.ensures.0)) c.narrowed-fewer.ensures.0)) c.thrice-last.ensures.0))) in
-    (found, rw found (place_within c.args.n keys c.args.key))
+    let few = further keys c.args.key c.args.n c.loop-left.invariant c.narrowed-few.ensures.0 in
+    let fewer = further keys c.args.key c.args.n few c.narrowed-fewer.ensures.0 in
+    let last = further keys c.args.key c.args.n fewer c.thrice-last.ensures.0 in
+    let found = c.behind.ensures
+    ∙ sym (ends keys c.args.key c.args.n c.thrice-last.result (λ e. absurd (omega (arith, last.some, last.fewer))) (omega (arith, c.thrice-last.ensures.1, c.narrowed-fewer.ensures.1)) last) in
+    record { found = found; within = rw found (place_within c.args.n keys c.args.key) }

@@ -15,7 +15,7 @@ overflow_sub-result c = omega (arith, held_within c.find-found.ensures c.if-foun
 
 pub returns-then-found : goal.returns-then-found
 returns-then-found c =
-    removed c.find-found.ensures c.if-found.taken c.shift_down_keys.ensures c.shift_down_chutes.ensures
+    removed c.find-found.ensures c.if-found.true c.shift_down_keys.ensures c.shift_down_chutes.ensures
 
 pub returns-else-found : goal.returns-else-found
 returns-else-found c = not_removed c.find-found.ensures c.if-found.false

@@ -11,4 +11,4 @@ returns-then-locked-offset0 c =
 pub returns : goal.returns
 returns c =
     let a = c.args in
-    enter_locks a.thread a.entered a.locked.now c.set_flag.new.0 c.if-locked-offset0.false c.set_flag.ensures
+    enter_locks a.thread a.entered a.locked.now c.set_flag.new.on c.if-locked-offset0.false c.set_flag.ensures

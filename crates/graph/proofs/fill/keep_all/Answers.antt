@@ -2,12 +2,12 @@
 use Prim.Native.Nat.{◌-◌, ◌<◌}
 use native.Mathlib.Omega.{arith}
 use mathlib.Core.Option.{some}
-use mathlib.Core.Logic.{⊎_elim}
 use borrow.Author.Rules.{rules}
 use Rattle.graph.specs.Arrays.{numbers}
 use Rattle.command.specs.Read.{commands_in}
 use Rattle.graph.proofs.Filled.{KeptBelow, none_kept, kept_without, kept_with, all_kept}
 use Rattle.graph.proofs.fill.keep_all.Goals as goal
+use Rattle.graph.proofs.fill.keep_all.Goals.{then-place-gt0, else-place-gt0}
 
 pub loop-n-init : goal.loop-n-init
 loop-n-init c = none_kept _ _ _ _ _ c.requires.1
@@ -24,10 +24,10 @@ pub loop-n-preserved : goal.loop-n-preserved
 loop-n-preserved c =
     let pass = c.loop-n in
     let h : pass.n < 151 = omega arith in
-    ⊎_elim
-    (λ w. rw (w.6, w.7, w.8) (kept_with _ _ pass.inv h _ _ _ (some w.1.result) w.1.ensures w.5.ensures))
-    (λ w. rw (w.1, w.2, w.3) (kept_without _ _ pass.inv h (omega (arith, w.0.left))))
-    c.if-place-gt0.branch
+    elim c.if-place-gt0.branch [
+      | then-place-gt0 w ↦ rw (w.kinds-is, w.keys-is, w.chutes-is) (kept_with _ _ pass.invariant h _ _ _ (some w.command_at-command.result) w.command_at-command.ensures w.keep.ensures)
+      | else-place-gt0 w ↦ rw (w.kinds-is, w.keys-is, w.chutes-is) (kept_without _ _ pass.invariant h (omega (arith, w.if-place-gt0.false)))
+    ]
 
 pub returns : goal.returns
 returns c = all_kept _ _ c.loop-n.invariant (omega arith)

@@ -14,10 +14,10 @@ overflow_cast-n c = let next_in_lem : let a = c.args in get_or a.next.now a.at.0
 
 pub returns-then-y-eq0 : goal.returns-then-y-eq0
 returns-then-y-eq0 c =
-    let a = c.args in (
-      (tt, nodes_stored a.next.now c.link.new.0 a.at.0 a.own.0 c.requires.0 c.requires.2 c.link.ensures.next_is),
-      loader_links a.at a.own a.next.now a.executing.now a.locked.now a.waits.now a.kinds.now a.keys.now a.chutes.now _ refl _ _ _ c.if-y-eq0.taken c.link.ensures,
-    )
+    let a = c.args in record {
+      within = (tt, nodes_stored a.next.now c.link.new.next a.at.0 a.own.0 c.requires.0 c.requires.2 c.link.ensures.next_is);
+      steps = loader_links a.at a.own a.next.now a.executing.now a.locked.now a.waits.now a.kinds.now a.keys.now a.chutes.now _ refl _ _ _ c.if-y-eq0.true c.link.ensures;
+    }
 
 pub bounds-locked-n : goal.bounds-locked-n
 bounds-locked-n c = let next_in_lem : let a = c.args in get_or a.next.now a.at.0 0 ≤ 150 = c.requires.0 c.args.at.0 in
@@ -25,10 +25,10 @@ bounds-locked-n c = let next_in_lem : let a = c.args in get_or a.next.now a.at.0
 
 pub returns-then-locked-n : goal.returns-then-locked-n
 returns-then-locked-n c =
-    let a = c.args in (
-      ((c.requires.1, c.requires.2), c.requires.0),
-      loader_waits a.at a.own a.next.now a.executing.now a.locked.now a.waits.now a.kinds.now a.keys.now a.chutes.now _ refl c.if-y-eq0.false c.if-locked-n.true,
-    )
+    let a = c.args in record {
+      within = ((c.requires.1, c.requires.2), c.requires.0);
+      steps = loader_waits a.at a.own a.next.now a.executing.now a.locked.now a.waits.now a.kinds.now a.keys.now a.chutes.now _ refl c.if-y-eq0.false c.if-locked-n.true;
+    }
 
 pub step_on-requires : goal.step_on-requires
 step_on-requires c = let next_in_lem : let a = c.args in get_or a.next.now a.at.0 0 ≤ 150 = c.requires.0 c.args.at.0 in
@@ -41,7 +41,7 @@ add_dependence-requires c = let next_in_lem : let a = c.args in get_or a.next.no
 pub returns : goal.returns
 returns c =
     let next_in_lem : let a = c.args in get_or a.next.now a.at.0 0 ≤ 150 = c.requires.0 c.args.at.0 in
-    let a = c.args in (
-      ((next_in_lem, c.requires.2), c.requires.0),
-      loader_steps a.at a.own a.next.now a.executing.now a.locked.now a.waits.now a.kinds.now a.keys.now a.chutes.now _ refl c.if-y-eq0.false c.step_on.new.0 c.add_dependence.new.0 c.if-locked-n.false c.requires.2 (next_in_lem) c.step_on.ensures c.add_dependence.ensures,
-    )
+    let a = c.args in record {
+      within = ((next_in_lem, c.requires.2), c.requires.0);
+      steps = loader_steps a.at a.own a.next.now a.executing.now a.locked.now a.waits.now a.kinds.now a.keys.now a.chutes.now _ refl c.if-y-eq0.false c.step_on.new.locked c.add_dependence.new.waits c.if-locked-n.false c.requires.2 (next_in_lem) c.step_on.ensures c.add_dependence.ensures;
+    }

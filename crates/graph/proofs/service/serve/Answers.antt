@@ -19,7 +19,7 @@ returns-in-Insert c =
 pub returns-else-found-eq0 : goal.returns-else-found-eq0
 unfolding write_kind
 returns-else-found-eq0 c =
-    rw (c.in-Delete.is, ne_eqb _ 0 c.if-found-eq0.left, c.remove-less.ensures)
+    rw (c.in-Delete.is, ne_eqb _ 0 c.if-found-eq0.false, c.remove-less.ensures)
 
 pub returns-in-Read : goal.returns-in-Read
 returns-in-Read c = rw c.in-Read.is (c.answer_of_read-answer.ensures _ _ _ _)
@@ -27,7 +27,7 @@ returns-in-Read c = rw c.in-Read.is (c.answer_of_read-answer.ensures _ _ _ _)
 pub returns-else-found-eq0-2 : goal.returns-else-found-eq0-2
 unfolding write_kind
 returns-else-found-eq0-2 c =
-    rw (c.enum-told4.given.1, ne_eqb _ 0 c.if2.false, c.replace.ensures)
+    rw (c.in-Update.is, ne_eqb _ 0 c.if-found-eq0-2.false, c.replace.ensures)
 
 pub returns-in-Workers : goal.returns-in-Workers
 unfolding write_kind

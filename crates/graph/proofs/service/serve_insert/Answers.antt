@@ -8,7 +8,7 @@ use Rattle.graph.proofs.service.serve_insert.Goals as goal
 pub returns-then-found-ne0 : goal.returns-then-found-ne0
 unfolding write_kind
 returns-then-found-ne0 c =
-    rw (ne_eqb _ 0 c.if1.true, c.replace.ensures)
+    rw (ne_eqb _ 0 c.if-found-ne0.true, c.replace.ensures)
 
 pub returns-then-keys-used : goal.returns-then-keys-used
 unfolding write_kind
