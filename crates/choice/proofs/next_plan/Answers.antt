@@ -29,7 +29,7 @@ pub returns : goal.returns
 returns c =
     let a = c.args in
     let ends : stays_with a.plan a.thread ≡ false = elim c.if-plan.branch [
-      then-plan+else-goes_on w ↦ rw w.if-plan.true (sym w.goes_on.ensures ∙ w.if-goes_on.false)
-    | else-plan w ↦ rw w.if-plan.false
+      | then-plan+else-goes_on w ↦ rw w.if-plan.true (sym w.goes_on.ensures ∙ w.if-goes_on.false)
+      | else-plan w ↦ rw w.if-plan.false
     ] in
     record { named = c.served.ensures.0; same = λ stays. absurd (true_false _ stays ends); other = λ chooses _. (settled a.chooses a.plan a.thread c.requires.1 chooses ends, c.served.ensures) }
