@@ -7,14 +7,11 @@ use mathlib.Core.Option.{some}
 use native.Mathlib.Omega.{arith}
 use lib.ListN.{length}
 use lib.Dec.{eqb, leb}
-use denote.Enum.Declared.{tag_of}
-use types.Run.{OneOf, miss}
 use Rattle.command.specs.declared.Command.{Command}
 use Rattle.command.specs.Read.{commands_in}
 use Rattle.node_set.specs.declared.Node.{Node}
 use Rattle.model.specs.declared.Thread.{Thread}
 use Rattle.model.specs.declared.Thread.TheVariants.{Idle, Loading, Searching, Holding, LookedUp, Written, Walking, Clearing}
-use Rattle.model.specs.contracts.Thread.{the_type}
 use Rattle.model.specs.Upd.{upd}
 use Rattle.model.specs.Setup.{Setup, command_at}
 use Rattle.model.specs.Graph.{set_locked, set_loaded, set_seq, set_next, set_free}
@@ -35,16 +32,16 @@ after_load next seq locked rest m = record {
 }
 
 -- the loader in a worker's state does nothing
-elsewhere : (thread : Thread) → OneOf (2 ∷ 3 ∷ 4 ∷ 5 ∷ 6 ∷ 7 ∷ []) (tag_of the_type thread) → (o : Setup) (s : State) → loader_step o thread s ≡ s
+elsewhere : (thread : Thread) → (thread ≡ Idle → ⊥) → ((at own : Node) → thread ≡ Loading at own → ⊥) → (o : Setup) (s : State) → loader_step o thread s ≡ s
 unfolding loader_step
-elsewhere Idle h o s = absurd (miss (2 ∷ 3 ∷ 4 ∷ 5 ∷ 6 ∷ 7 ∷ []) 0 tt h)
-elsewhere (Loading at own) h o s = absurd (miss (2 ∷ 3 ∷ 4 ∷ 5 ∷ 6 ∷ 7 ∷ []) 1 tt h)
-elsewhere (Searching at) h o s = refl
-elsewhere (Holding own) h o s = refl
-elsewhere (LookedUp own found) h o s = refl
-elsewhere (Written own) h o s = refl
-elsewhere (Walking at own) h o s = refl
-elsewhere (Clearing at own) h o s = refl
+elsewhere Idle busy other o s = absurd (busy refl)
+elsewhere (Loading at own) busy other o s = absurd (other at own refl)
+elsewhere (Searching at) busy other o s = refl
+elsewhere (Holding own) busy other o s = refl
+elsewhere (LookedUp own found) busy other o s = refl
+elsewhere (Written own) busy other o s = refl
+elsewhere (Walking at own) busy other o s = refl
+elsewhere (Clearing at own) busy other o s = refl
 
 -- whether an idle loader waits: every command is loaded, no node is free, or the head is locked
 abbrev pub blocked : ℕ → ℕ → ℕ → List Bool → Bool
@@ -75,9 +72,9 @@ module _ (list kinds item_keys item_chutes : List ℕ) (m : Memory) where
       (λ o threads commands is. waits o threads commands ∙ ap (shown m) (sym (upd_id threads 0 thread (sym is)))) ready
 
   -- so its step is a wait
-  pub worker_state_waits : (thread : Thread) → OneOf (2 ∷ 3 ∷ 4 ∷ 5 ∷ 6 ∷ 7 ∷ []) (tag_of the_type thread)
+  pub worker_state_waits : (thread : Thread) → (thread ≡ Idle → ⊥) → ((at own : Node) → thread ≡ Loading at own → ⊥)
       → Ready list kinds item_keys item_chutes m thread → Steps list 0 thread m kinds item_keys item_chutes thread m
-  worker_state_waits thread h = unchanged thread (λ o threads commands. elsewhere thread h o (shown m threads))
+  worker_state_waits thread busy other = unchanged thread (λ o threads commands. elsewhere thread busy other o (shown m threads))
 
   -- the walk is the model's: the commands kept are those of the sequence numbers
   pub walk_steps : (at own : Node) (r : Thread) (next' : List ℕ) (executing' locked' : List Bool) (waits' : List (List ℕ))

@@ -9,13 +9,10 @@ use native.Mathlib.Omega.{arith}
 use lib.ListN.{length}
 use lib.Dec.{eqb, leb}
 use borrow.Author.Tests.{ne_eqb}
-use denote.Enum.Declared.{tag_of}
-use types.Run.{OneOf, miss}
 use Rattle.command.specs.declared.Command.{Command}
 use Rattle.node_set.specs.declared.Node.{Node}
 use Rattle.model.specs.declared.Thread.{Thread}
 use Rattle.model.specs.declared.Thread.TheVariants.{Idle, Loading, Searching, Holding, LookedUp, Written, Walking, Clearing}
-use Rattle.model.specs.contracts.Thread.{the_type}
 use Rattle.model.specs.Upd.{upd}
 use Rattle.model.specs.Setup.{Setup}
 use Rattle.model.specs.Graph.{set_seq, set_free, set_next, set_executing, set_locked, set_waits}
@@ -51,10 +48,6 @@ entered_cases m thread entered r locked' h = go (flags m.graph.locked 0) refl
     go : (b : Bool) → flags m.graph.locked 0 ≡ b → (r ≡ thread) ⊎ (r ≡ entered)
     go true e = inl (sym (rw e at at0))
     go false e = inr (sym (rw (e, upd_same (λ (t : ℕ). thread) 0 entered) at at0))
-
--- a thread of another variant than the first is not idle
-pub busy : (thread : Thread) → OneOf (1 ∷ 2 ∷ 3 ∷ 4 ∷ 5 ∷ 6 ∷ 7 ∷ []) (tag_of the_type thread) → thread ≡ Idle → ⊥
-busy thread h idle = miss (1 ∷ 2 ∷ 3 ∷ 4 ∷ 5 ∷ 6 ∷ 7 ∷ []) 0 tt (rw idle at h)
 
 -- what is written in one step is a command
 pub one_step_command : (item : Option Command) → in_one_step item ≡ true → (c : Command) × (item ≡ some c)

@@ -28,7 +28,7 @@ by_foremost o s seq threads {largest} {t} largest_is seq_is threads_are is has =
     rw (chosen, seq_is, threads_are t, ← has)
 
 pub bounds-threads-t : goal.bounds-threads-t
-bounds-threads-t c = let few : c.foremost_of-t.result ≤ 64 = let a = c.args in omega (arith, c.requires.1, c.foremost_of-t.ensures, foremost_within (λ u. Dispatch.rank (numbers a.seq.now) (get_or a.t3 u Idle)) a.largest) in
+bounds-threads-t c = let few : c.foremost_of-t.result ≤ 64 = let a = c.args in omega (arith, c.requires.1, c.foremost_of-t.ensures, foremost_within (λ u. Dispatch.rank (numbers a.seq.now) (get_or a.threads u Idle)) a.largest) in
     omega (arith, few)
 
 pub rank_of-requires : goal.rank_of-requires
@@ -39,15 +39,15 @@ returns-then-rank_of-eq0 c =
     let a = c.args in (
       c.served.ensures.0,
       λ o s first loaded count largest seq threads.
-          rw (by_foremost o s a.seq.now a.t3 largest seq threads c.foremost_of-t.ensures c.rank_of.ensures, eq-eqb _ 0 c.if-rank_of-eq0.true)
+          rw (by_foremost o s a.seq.now a.threads largest seq threads c.foremost_of-t.ensures c.rank_of.ensures, eq-eqb _ 0 c.if-rank_of-eq0.true)
           (c.served.ensures.1 o s first loaded count),
     )
 
 pub returns : goal.returns
 returns c =
-    let few : c.foremost_of-t.result ≤ 64 = let a = c.args in omega (arith, c.requires.1, c.foremost_of-t.ensures, foremost_within (λ u. Dispatch.rank (numbers a.seq.now) (get_or a.t3 u Idle)) a.largest) in
+    let few : c.foremost_of-t.result ≤ 64 = let a = c.args in omega (arith, c.requires.1, c.foremost_of-t.ensures, foremost_within (λ u. Dispatch.rank (numbers a.seq.now) (get_or a.threads u Idle)) a.largest) in
     let a = c.args in (
       few,
       λ o s first loaded count largest seq threads.
-          rw (by_foremost o s a.seq.now a.t3 largest seq threads c.foremost_of-t.ensures c.rank_of.ensures, ne_eqb _ 0 c.if-rank_of-eq0.false),
+          rw (by_foremost o s a.seq.now a.threads largest seq threads c.foremost_of-t.ensures c.rank_of.ensures, ne_eqb _ 0 c.if-rank_of-eq0.false),
     )

@@ -23,11 +23,11 @@ worker_step-requires c =
       nodes = c.requires.0.nodes;
       free = c.requires.0.free;
       within = c.requires.0.within;
-      placed = kept_placed (commands_in a.list.now) a.seq.now a.kinds.now a.item_keys_lem.now a.item_chutes_lem.now a.answers.now
+      placed = kept_placed (commands_in a.list.now) a.seq.now a.kinds.now a.item_keys.now a.item_chutes.now a.answers.now
           (commands_length a.list.now (length a.answers.now) c.requires.0.whole) c.requires.0.kept;
       imaged = c.requires.1;
     }
 
 pub returns : goal.returns
 returns c =
-    c.worker_step.ensures c.args.list.now c.args.t c.if-t-eq0.left (sym c.is_allowed-allowed.ensures) c.requires.0
+    c.worker_step.ensures c.args.list.now c.args.t c.if-t-eq0.false (sym c.is_allowed-allowed.ensures) c.requires.0

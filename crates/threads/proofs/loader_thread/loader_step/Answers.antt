@@ -22,4 +22,4 @@ returns-in-Loading c =
 
 pub returns-in_default : goal.returns-in_default
 returns-in_default c =
-    λ keys chutes image. worker_state_waits _ _ _ _ _ c.args.thread c.in_default.in_default-own.keys3 (ready_beside _ _ _ _ _ _ c.requires _ _ keys chutes image)
+    λ keys chutes image. worker_state_waits _ _ _ _ _ c.args.thread c.in_default.not-Idle c.in_default.not-Loading (ready_beside _ _ _ _ _ _ c.requires _ _ keys chutes image)

@@ -3,7 +3,6 @@ use Prim.Native.Nat.{◌≤◌}
 use mathlib.Core.Path.{◌≡◌, sym, ◌∙◌}
 use mathlib.Core.Bool.{true}
 use native.Mathlib.Omega.{arith}
-use borrow.Author.Tests.{not-true, not-false}
 use borrow.Author.Rules.{rules}
 use Rattle.model.specs.Service.{in_one_step}
 use Rattle.graph.specs.Items.{item_of}
@@ -13,7 +12,7 @@ use Rattle.threads.proofs.worker_thread.worker_step.Goals as goal
 
 pub returns-then-not-allowed : goal.returns-then-not-allowed
 returns-then-not-allowed c =
-    λ list t other al. idle_waits _ _ _ _ _ other _ _ c.in-Idle.is (al ∙ not-true c.args.allowed c.if-not-allowed.true-raw)
+    λ list t other al. idle_waits _ _ _ _ _ other _ _ c.in-Idle.is (al ∙ c.if-not-allowed.true)
 
 pub search-thread-requires : goal.search-thread-requires
 search-thread-requires c =
@@ -21,7 +20,7 @@ search-thread-requires c =
 
 pub item_of-item-requires : goal.item_of-item-requires
 item_of-item-requires c =
-    rw c.thread2.given.1 at c.requires.within
+    rw c.in-Holding.is at c.requires.within
 
 pub bounds-seq-own : goal.bounds-seq-own
 bounds-seq-own c =
@@ -40,11 +39,11 @@ returns-then-in_one_step c =
     let is_read : in_one_step (item_of c.item_of-item.result) ≡ true = sym c.in_one_step.ensures ∙ c.if-in_one_step.true in
     λ list t other al. from_known c.in-Holding.is (λ ready.
     holding_writes _ _ _ _ _ other _ c.in-Holding.own _ c.item_of-item.ensures ready _ c.look_up-found.ensures (is_read)
-    _ c.place_of-place.ensures _ (c.write_read.ensures _ _ _ _ (is_read)) c.write_read.auto.1.1.0)
+    _ c.place_of-place.ensures _ (c.write_read.ensures _ _ _ _ (is_read)) c.write_read.auto.answers)
 
 pub item_of-item-requires-in-LookedUp : goal.item_of-item-requires-in-LookedUp
 item_of-item-requires-in-LookedUp c =
-    rw c.thread3.given.1 at c.requires.within
+    rw c.in-LookedUp.is at c.requires.within
 
 pub bounds-seq-own-in-LookedUp : goal.bounds-seq-own-in-LookedUp
 bounds-seq-own-in-LookedUp c =
@@ -63,10 +62,9 @@ write-used-requires c =
 
 pub returns-in-LookedUp : goal.returns-in-LookedUp
 returns-in-LookedUp c =
-    let fields = c.thread-in-LookedUp-1.given.0 in
     λ list t other al. rw (c.limit_after-limit.ensures, c.save.ensures) (from_known c.in-LookedUp.is
-    (looked_up_writes _ _ _ _ _ other _ fields.0 _ c.item_of-item-in-LookedUp.ensures _ c.place_of-place-in-LookedUp.ensures fields.1.0 _ _ _ _
-    c.write-used.ensures c.write-used.kept.1.1.1.1.1.0))
+    (looked_up_writes _ _ _ _ _ other _ c.in-LookedUp.own _ c.item_of-item-in-LookedUp.ensures _ c.place_of-place-in-LookedUp.ensures c.in-LookedUp.found _ _ _ _
+    c.write-used.ensures c.write-used.auto.answers))
 
 pub walk-thread-requires : goal.walk-thread-requires
 walk-thread-requires c =
@@ -80,20 +78,18 @@ clear_own-cleared-requires c =
 
 pub returns-in-Clearing : goal.returns-in-Clearing
 returns-in-Clearing c =
-    let fields = c.thread-in-Clearing-1.given.0 in
     let does = c.clear_own-cleared.ensures in
     λ list t other al. from_known c.in-Clearing.is (λ ready.
-    clearing_steps _ _ _ _ _ other _ fields.0 fields.1.0 _ _ _ _ _ _ _ _ does.1.0 does.0.0 does.0.1 does.0.2 (does.1.1 _ _ _ ready.kept) ready)
+    clearing_steps _ _ _ _ _ other _ c.in-Clearing.at c.in-Clearing.own _ _ _ _ _ _ _ _ does.steps does.within.0 does.within.1 does.within.2 (does.kept _ _ _ ready.kept) ready)
 
 pub returns-else-not-allowed : goal.returns-else-not-allowed
 returns-else-not-allowed c =
     λ list t other al. from_known c.in-Idle.is
-    (idle_enters _ _ _ _ _ other _ (al ∙ not-false c.args.allowed c.if-not-allowed.false-raw) _ _ (rw c.in-Idle.is at c.enter-thread.ensures))
+    (idle_enters _ _ _ _ _ other _ (al ∙ c.if-not-allowed.false) _ _ (rw c.in-Idle.is at c.enter-thread.ensures))
 
 pub returns-in-Loading : goal.returns-in-Loading
 returns-in-Loading c =
-    let fields = c.enum_told-in-Loading-1.given.0 in
-    λ list t other al. worker_waits _ _ _ _ _ other _ fields.0 fields.1.0 _ c.in-Loading.is
+    λ list t other al. worker_waits _ _ _ _ _ other _ c.in-Loading.at c.in-Loading.own _ c.in-Loading.is
 
 pub returns-in-Searching : goal.returns-in-Searching
 returns-in-Searching c =
@@ -102,8 +98,8 @@ returns-in-Searching c =
 
 pub returns-else-in_one_step : goal.returns-else-in_one_step
 returns-else-in_one_step c =
-    λ list t other al. from_known c.thread2.given.1 (λ ready.
-    holding_looks_up _ _ _ _ _ other _ c.thread2.given.0.0 _ c.item_of.ensures ready _ c.look_up-found.ensures (sym c.in_one_step.ensures ∙ c.if-in_one_step.false))
+    λ list t other al. from_known c.in-Holding.is (λ ready.
+    holding_looks_up _ _ _ _ _ other _ c.in-Holding.own _ c.item_of-item.ensures ready _ c.look_up-found.ensures (sym c.in_one_step.ensures ∙ c.if-in_one_step.false))
 
 pub returns-in-Written : goal.returns-in-Written
 returns-in-Written c =
@@ -111,6 +107,5 @@ returns-in-Written c =
 
 pub returns-in-Walking : goal.returns-in-Walking
 returns-in-Walking c =
-    let fields = c.thread-in-Walking-1.given.0 in
     λ list t other al. from_known c.in-Walking.is
-    (walking_steps _ _ _ _ _ other _ fields.0 fields.1.0 _ _ _ c.walk-thread.ensures.steps c.walk-thread.ensures.within.0 c.walk-thread.ensures.within.1)
+    (walking_steps _ _ _ _ _ other _ c.in-Walking.at c.in-Walking.own _ _ _ c.walk-thread.ensures.steps c.walk-thread.ensures.within.0 c.walk-thread.ensures.within.1)
