@@ -58,7 +58,7 @@ loop-place-preserved c =
     let keys = c.args.keys.now in
     let i = c.loop-place.place in
     let high : get_or keys i 0 < get_or keys (i + 1) 0 = omega arith in
-    (omega arith, all_below_more i _ c.loop-place.inv.1 (rises_at _ keys i high))
+    (omega arith, all_below_more i _ c.loop-place.invariant.1 (rises_at _ keys i high))
 
 pub returns : goal.returns
 returns c = all_ascend _ _ _ c.loop-place-test.false c.loop-place.invariant.1

@@ -12,7 +12,7 @@ use Rattle.byte_fields.specs.Bytes.{all_below, number_at}
 use Rattle.state_bytes.specs.Layout.{Lists, state_length, count_in, head_fits, settings_fit, node_fits_at, thread_fits_at, ascends, state_fits}
 use Rattle.byte_fields.proofs.Bytes.{◌▸◌}
 use Rattle.byte_fields.proofs.Fill.{number_one}
-use Rattle.state_bytes.proofs.Tested.{answer_fails, answer_passes, all, fails_at, last_decides}
+use Rattle.state_bytes.proofs.Tested.{answer_fails, answer_passes, all, EachTrue, fails_at, last_decides}
 use Rattle.state_bytes.proofs.fits.state_fits.Goals as goal
 
 -- the one-byte numbers that are read: chain, graph size, worker count, largest count, first free node and count in force
@@ -68,33 +68,12 @@ read_tests l b keys capacity count loaded used long state same p q r s =
       ← same,
     ) (as_tests l)
 
--- where all is read, c has the numbers
-module _ (c : tie.After-number-at4) where
-  abbrev start : tie.Start
-  start = c.before.before.before.before.before.before.before.before.before.before.before.before
-
-  -- the tests of those numbers
-  abbrev tested : List Bool
-  tested =
-      let b : List ℕ = start.args.state.now in
-      tests b (bytes_in b) c.before.before.before.number_at.result c.before.before.number-at2.result
-      c.before.number-at3.result c.number-at4.result
-
-  abbrev last : Bool
-  last = ascends c.number-at4.result start.args.keys.now
-
-  -- `state_fits` is all of them
-  tested_all : (l : Lists) → l.state ≡ start.args.state.now → l.keys ≡ start.args.keys.now → state_fits l ≡ all (tested ++ (last ∷ []))
-  tested_all l state keys =
-      read_tests l start.args.state.now start.args.keys.now c.before.before.before.number_at.result
-      c.before.before.number-at2.result c.before.number-at3.result c.number-at4.result
-      start.pre state keys c.before.before.before.number_at.ensures c.before.before.number-at2.ensures
-      c.before.number-at3.ensures c.number-at4.ensures
-
-  -- so it fails with any of them
-  state_fails : (i : ℕ) → get_or (tested ++ (last ∷ [])) i true ≡ false
-      → (l : Lists) → l.state ≡ start.args.state.now → l.keys ≡ start.args.keys.now → state_fits l ≡ false
-  state_fails i e l state keys = tested_all l state keys ∙ fails_at i (tested ++ (last ∷ [])) e
+-- so it fails with any of them
+state_fails : (l : Lists) (b keys : List ℕ) (capacity count loaded used : ℕ) → length b ≡ state_length → l.state ≡ b → l.keys ≡ keys
+    → capacity ≡ number_at 2 4 b → count ≡ number_at 2 6 b → loaded ≡ number_at 2 8 b → used ≡ number_at 2 10 b
+    → (i : ℕ) → get_or (whole b keys (bytes_in b) capacity count loaded used) i true ≡ false → state_fits l ≡ false
+state_fails l b keys capacity count loaded used long state same p q r s i e =
+    read_tests l b keys capacity count loaded used long state same p q r s ∙ fails_at i (whole b keys (bytes_in b) capacity count loaded used) e
 
 pub bounds-state-0 : goal.bounds-state-0
 unfolding state_length
@@ -137,39 +116,42 @@ unfolding state_length
 number_at-used-requires c = omega arith
 
 pub returns-then-not-head_fits : goal.returns-then-not-head_fits
-returns-then-not-head_fits c = state_fails c 0 (answer_fails c.head_fits.ensures c.if-not-head_fits.true-raw)
+returns-then-not-head_fits c l state keys = state_fails l c.args.state.now c.args.keys.now _ _ _ _ c.requires state keys c.number_at-capacity.ensures c.number_at-count.ensures c.number_at-loaded.ensures c.number_at-used.ensures 0 (answer_fails c.head_fits.ensures c.if-not-head_fits.true-raw)
 
 pub returns-then-not-settings_fit : goal.returns-then-not-settings_fit
-returns-then-not-settings_fit c = state_fails c 1 (answer_fails c.settings_fit.ensures c.if-not-settings_fit.true-raw)
+returns-then-not-settings_fit c l state keys = state_fails l c.args.state.now c.args.keys.now _ _ _ _ c.requires state keys c.number_at-capacity.ensures c.number_at-count.ensures c.number_at-loaded.ensures c.number_at-used.ensures 1 (answer_fails c.settings_fit.ensures c.if-not-settings_fit.true-raw)
 
 pub returns-then-loaded-count : goal.returns-then-loaded-count
-returns-then-loaded-count c = state_fails c 2 (lt-leb _ _ c.if-loaded-count.true)
+returns-then-loaded-count c l state keys = state_fails l c.args.state.now c.args.keys.now _ _ _ _ c.requires state keys c.number_at-capacity.ensures c.number_at-count.ensures c.number_at-loaded.ensures c.number_at-used.ensures 2 (lt-leb _ _ c.if-loaded-count.true)
 
 pub returns-then-free-size : goal.returns-then-free-size
-returns-then-free-size c = state_fails c 3 (lt-leb _ _ c.if-free-size.true)
+returns-then-free-size c l state keys = state_fails l c.args.state.now c.args.keys.now _ _ _ _ c.requires state keys c.number_at-capacity.ensures c.number_at-count.ensures c.number_at-loaded.ensures c.number_at-used.ensures 3 (lt-leb _ _ c.if-free-size.true)
 
 pub nodes_fit-requires : goal.nodes_fit-requires
-nodes_fit-requires c = (start c).pre
+nodes_fit-requires c = c.requires
 
 pub returns-then-not-nodes_fit : goal.returns-then-not-nodes_fit
-returns-then-not-nodes_fit c = state_fails c 4 (answer_fails c.nodes_fit.ensures c.if-not-nodes_fit.true-raw)
+returns-then-not-nodes_fit c l state keys = state_fails l c.args.state.now c.args.keys.now _ _ _ _ c.requires state keys c.number_at-capacity.ensures c.number_at-count.ensures c.number_at-loaded.ensures c.number_at-used.ensures 4 (answer_fails c.nodes_fit.ensures c.if-not-nodes_fit.true-raw)
 
 pub threads_fit-requires : goal.threads_fit-requires
-threads_fit-requires c = (start c).pre
+threads_fit-requires c = c.requires
 
 pub returns-then-not-threads_fit : goal.returns-then-not-threads_fit
-returns-then-not-threads_fit c = state_fails c 5 (answer_fails c.threads_fit.ensures c.if-not-threads_fit.true-raw)
+returns-then-not-threads_fit c l state keys = state_fails l c.args.state.now c.args.keys.now _ _ _ _ c.requires state keys c.number_at-capacity.ensures c.number_at-count.ensures c.number_at-loaded.ensures c.number_at-used.ensures 5 (answer_fails c.threads_fit.ensures c.if-not-threads_fit.true-raw)
 
 pub returns-then-used-capacity : goal.returns-then-used-capacity
-returns-then-used-capacity c = state_fails c 6 (lt-leb _ _ c.if-used-capacity.true)
+returns-then-used-capacity c l state keys = state_fails l c.args.state.now c.args.keys.now _ _ _ _ c.requires state keys c.number_at-capacity.ensures c.number_at-count.ensures c.number_at-loaded.ensures c.number_at-used.ensures 6 (lt-leb _ _ c.if-used-capacity.true)
 
 pub returns : goal.returns
 returns c l state keys =
-    let each =
+    let b = c.args.state.now in
+    let n = bytes_in b in
+    let each : EachTrue (tests b n c.number_at-capacity.result c.number_at-count.result c.number_at-loaded.result c.number_at-used.result) =
     answer_passes c.head_fits.ensures c.if-not-head_fits.false-raw
     ▸ answer_passes c.settings_fit.ensures c.if-not-settings_fit.false-raw
     ▸ le-leb _ _ c.if-loaded-count.false ▸ le-leb _ _ c.if-free-size.false
     ▸ answer_passes c.nodes_fit.ensures c.if-not-nodes_fit.false-raw
     ▸ answer_passes c.threads_fit.ensures c.if-not-threads_fit.false-raw
     ▸ le-leb _ _ c.if-used-capacity.false ▸ tt in
-    tested_all c l state keys ∙ last_decides (tested c) (last c) each ∙ sym c.keys_ascend.ensures
+    read_tests l c.args.state.now c.args.keys.now _ _ _ _ c.requires state keys c.number_at-capacity.ensures c.number_at-count.ensures c.number_at-loaded.ensures c.number_at-used.ensures
+    ∙ last_decides (tests b n c.number_at-capacity.result c.number_at-count.result c.number_at-loaded.result c.number_at-used.result) (ascends c.number_at-used.result c.args.keys.now) each ∙ sym c.keys_ascend.ensures

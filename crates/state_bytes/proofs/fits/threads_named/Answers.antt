@@ -5,13 +5,14 @@ use native.Mathlib.Numerals.{add-one}
 use native.Mathlib.Omega.{arith}
 use mathlib.Core.Bool.{Bool, true, false, ◌&&◌, and_assoc, and_comm, and-true, and-false}
 use mathlib.Core.List.{List}
-use mathlib.Core.Logic.{⊎_elim}
 use mathlib.Core.Path.{◌≡◌, refl, sym, ap, ◌∙◌}
 use borrow.Author.Tests.{leb-true, le-leb}
 use lib.Dec.{leb}
 use lib.ListN.{length, get_or, drop, drop_of_length-le}
 use lib.Seq.{drop-cons}
+use Rattle.model.specs.Statement.{all_within}
 use Rattle.state_bytes.proofs.fits.threads_named.Goals as goal
+use Rattle.state_bytes.proofs.fits.threads_named.Goals.{then-t-largest, else-t-largest}
 
 -- those from place i on are the one at i and those after it
 within_from : (workers i : ℕ) (schedule : List ℕ) → i < length schedule
@@ -43,9 +44,11 @@ loop-i-preserved c =
     let limit = args.workers in
     let rest = all_within limit (drop (c.loop-i.i + 1) schedule) in
     let largest : (leb c.loop-i.largest limit && leb step limit) ≡ leb c.if-t-largest.largest limit =
-    ⊎_elim (λ w. larger_decides c.loop-i.largest step limit (omega (arith, w.0.taken)) ∙ ap (λ (n : ℕ). leb n limit) (sym w.1))
-    (λ w. and_comm (leb c.loop-i.largest limit) (leb step limit) ∙ larger_decides step c.loop-i.largest limit w.0.left ∙ ap (λ (n : ℕ). leb n limit) (sym w.1))
-    c.if-t-largest.branch in (
+    elim c.if-t-largest.branch [
+      | then-t-largest w ↦ larger_decides c.loop-i.largest step limit (omega arith) ∙ ap (λ (n : ℕ). leb n limit) (sym w.largest-is)
+      | else-t-largest w ↦ and_comm (leb c.loop-i.largest limit) (leb step limit) ∙ larger_decides step c.loop-i.largest limit w.if-t-largest.false
+          ∙ ap (λ (n : ℕ). leb n limit) (sym w.largest-is)
+    ] in (
       omega arith,
       c.loop-i.invariant.1 ∙ ap (λ (t : Bool). leb c.loop-i.largest limit && t) (within_from limit c.loop-i.i schedule c.loop-i-test.true)
           ∙ sym (and_assoc (leb c.loop-i.largest limit) (leb step limit) rest) ∙ ap (λ (t : Bool). t && rest) largest,

@@ -19,7 +19,7 @@ pub put_number-requires : goal.put_number-requires
 put_number-requires c = simp length-set (omega arith)
 
 pub shape_of-state : goal.shape_of-state
-shape_of-state c = c.put_number.auto.0 ∙ simp length-set
+shape_of-state c = c.put_number.auto.list ∙ simp length-set
 
 pub returns : goal.returns
 returns c =

@@ -19,7 +19,7 @@ pub loop-i-preserved : goal.loop-i-preserved
 loop-i-preserved c =
     let pass = c.loop-i in
     let args = c.args in
-    fields_put pass.inv (args.at + 24 * pass.i) (omega arith) (omega arith) (set_length (member (get_or args.from.now pass.i []))) c.put_set.ensures
+    fields_put pass.invariant (args.at + 24 * pass.i) (omega arith) (omega arith) (set_length (member (get_or args.from.now pass.i []))) c.put_set.ensures
 
 pub shape_of-state : goal.shape_of-state
 shape_of-state c = fields_put_length c.loop-i.invariant

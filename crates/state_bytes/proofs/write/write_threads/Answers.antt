@@ -18,7 +18,7 @@ pub loop-t-preserved : goal.loop-t-preserved
 loop-t-preserved c =
     let pass = c.loop-t in
     let args = c.args in
-    fields_put pass.inv (args.at + 5 * pass.t) (omega arith) (omega arith) (thread_length (get_or args.t3 pass.t Idle)) c.put_thread.ensures
+    fields_put pass.invariant (args.at + 5 * pass.t) (omega arith) (omega arith) (thread_length (get_or args.threads pass.t Idle)) c.put_thread.ensures
 
 pub shape_of-state : goal.shape_of-state
 shape_of-state c = fields_put_length c.loop-t.invariant
