@@ -1,14 +1,14 @@
 # Thin: each target is a command of the toolchain or a script.
-.PHONY: demo test check edits bench install uninstall dist clean
+.PHONY: demo test check edits archive program bench install uninstall dist clean
 
 PREFIX ?= /usr/local
 archive = target/staticlib/libdepot_c.a
+program = target/bin/depot
 sources = crates.txt $(shell find crates -name '*.rt' -o -name '*.antt')
 
 # The program on document 01's example: two commands, five steps of the loader, fourteen of worker 1.
-demo:
-	rt check depot
-	target/bin/depot < crates/depot/stdin
+demo: $(program)
+	$(program) < crates/depot/stdin
 
 # Everything that must hold; .ci/run calls it.
 test:
@@ -16,7 +16,7 @@ test:
 
 # The proofs alone, of what changed.
 check:
-	rt check
+	rt all check
 
 # The must-fail edits that the gate leaves out for the sake of its time: some forty minutes.
 edits:
@@ -26,10 +26,18 @@ edits:
 bench: $(archive)
 	DEPOT_LIB_DIR=$(CURDIR)/target/staticlib cargo run --offline --release --quiet --manifest-path bench/Cargo.toml
 
-# Made again when a source changed; making it proves it.
+archive: $(archive)
+
+program: $(program)
+
+# Made again when a source changed; making one proves it.
 $(archive): $(sources)
-	rt staticlib depot_c
-	@touch $@
+	cd crates/depot_c && rt lib
+	@mkdir -p $(@D) && cp crates/depot_c/out/libdepot_c.a $@
+
+$(program): $(sources)
+	cd crates/depot && rt run < stdin
+	@mkdir -p $(@D) && cp crates/depot/out/depot $@
 
 # The C side below PREFIX: header, archive and pkg-config file. DESTDIR, if given, goes before it.
 install: $(archive)
@@ -43,4 +51,4 @@ dist: $(archive)
 	@tools/dist
 
 clean:
-	rm -rf target tests/second/target bench/target
+	rm -rf target crates/*/out tests/second/target bench/target

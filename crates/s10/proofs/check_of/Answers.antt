@@ -1,5 +1,4 @@
 -- `s10::check_of` meets its contract: the two exceptions are the definition's. Assumes nothing.
-use borrow.Author.Rules.{rules}
 use borrow.Author.Tests.{ne_eqb}
 use Rattle.s10.specs.Text.{excepted}
 use Rattle.s10.proofs.check_of.Goals as goal
