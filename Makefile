@@ -4,7 +4,7 @@
 PREFIX ?= /usr/local
 archive = target/staticlib/libdepot_c.a
 program = target/bin/depot
-sources = crates.txt $(shell find crates -name '*.rt' -o -name '*.antt')
+sources = crates.txt $(shell find crates -name out -prune -o \( -name '*.rt' -o -name '*.antt' \) -print)
 
 # The program on document 01's example: two commands, five steps of the loader, fourteen of worker 1.
 demo: $(program)
