@@ -1,5 +1,4 @@
 -- `node_set::has_places` meets its contract: shifted down by its places a word is 0 exactly if it is below their power of two. Assumes nothing.
-use borrow.Author.Rules.{rules}
 use borrow.Author.Tests.{ltb-true, ltb-false, lt-ltb, eq-eqb, ne_eqb}
 use mathlib.Core.Bool.{Bool, true, false}
 use mathlib.Core.Path.{◌≡◌, refl, sym}

@@ -14,7 +14,6 @@ use Rattle.rounds.specs.Entered.{Entered, depends_up_to}
 use Rattle.rounds.specs.Links.{bucket_of, last_of, at_link}
 use Rattle.rounds.proofs.Links.{indexed_more, last_of_below}
 use Rattle.rounds.proofs.Entered.{round_by_ways, entered_with, entered_low, all_low, changed_low}
-use borrow.Author.Rules.{rules}
 use Rattle.rounds.proofs.enter.Goals as goal
 
 one_of : {t u : Bool} {x x' y y' : ℕ} → t ≡ u → x ≡ x' → y ≡ y' → cond t x y ≡ cond u x' y'

@@ -2,7 +2,6 @@
 use native.Mathlib.Omega.{arith}
 use lib.ListN.{length}
 use Rattle.rounds.proofs.Calls.{refused_4, refused_5, refused_6, passed, left_refused}
-use borrow.Author.Rules.{rules}
 use Rattle.rounds.proofs.find.Goals as goal
 
 pub returns-then-commands-ne0 : goal.returns-then-commands-ne0

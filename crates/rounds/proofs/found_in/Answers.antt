@@ -2,7 +2,6 @@
 use mathlib.Core.Path.{sym, ap, ◌∙◌}
 use Rattle.rounds.specs.Calls.{numbered_outcome}
 use Rattle.rounds.proofs.Calls.{found_is, refused_is, left_refused}
-use borrow.Author.Rules.{rules}
 use Rattle.rounds.proofs.found_in.Goals as goal
 
 pub returns-in-Count : goal.returns-in-Count

@@ -4,10 +4,9 @@ use mathlib.Core.Path.{◌≡◌, refl, sym, ap, ◌∙◌}
 use mathlib.Core.List.{List}
 use native.Mathlib.Numerals.{add-one}
 use native.Mathlib.Omega.{arith}
-use borrow.Author.Rules.{rules}
 use lib.ListN.{length, take, drop}
 use Rattle.command.specs.Read.{CommandOutcome, command_outcome, read_command, refusal_for}
-use Rattle.rounds.proofs.Numbering.{Numbering, begins, goes, stops, ends}
+use Rattle.rounds.proofs.Numbering.{begins, goes, stops, ends}
 use Rattle.rounds.proofs.number.Goals as goal
 
 -- the part of a command, as the code names it

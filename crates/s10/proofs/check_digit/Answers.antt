@@ -1,8 +1,5 @@
 -- `s10::check_digit` meets its contract: the weighted sum, and then its check digit. Assumes nothing.
-use Prim.Native.Nat.{◌<◌}
-use mathlib.Core.Path.{◌≡◌}
 use native.Mathlib.Omega.{arith}
-use borrow.Author.Rules.{rules}
 use Rattle.s10.specs.Text.{check_digit}
 use Rattle.s10.specs.Parts.{values}
 use Rattle.s10.proofs.Weighted.{check_digit_below}

@@ -1,5 +1,4 @@
 -- `s10::is_allowed` meets its contract: the position's test picks the range that the definition picks. Assumes nothing.
-use borrow.Author.Rules.{rules}
 use Rattle.s10.specs.Text.{is_letter, is_digit, is_allowed}
 use Rattle.s10.proofs.is_allowed.Goals as goal
 

@@ -1,5 +1,4 @@
 -- `s10::key_of` meets its contract: the three parts are the definition's, and the sum fits. Assumes nothing.
-use borrow.Author.Rules.{rules}
 use Rattle.s10.specs.Text.{character_sum}
 use Rattle.s10.proofs.key_of.Goals as goal
 

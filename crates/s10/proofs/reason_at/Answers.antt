@@ -1,5 +1,4 @@
 -- `s10::reason_at` meets its contract: the position's test picks the number that the definition picks. Assumes nothing.
-use borrow.Author.Rules.{rules}
 use Rattle.s10.specs.Outcome.{fault_at}
 use Rattle.s10.proofs.reason_at.Goals as goal
 

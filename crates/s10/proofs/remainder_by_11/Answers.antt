@@ -1,7 +1,6 @@
 -- `s10::remainder_by_11` meets its contract: the shifted product is the quotient by 11. Assumes nothing.
 use Prim.Native.Nat.{ℕ, ◌+◌, ◌*◌, ◌/◌, ◌≤◌}
 use native.Mathlib.Omega.{arith}
-use borrow.Author.Rules.{rules}
 use Rattle.s10.proofs.remainder_by_11.Goals as goal
 
 -- 11 × 93 is 1024 less 1: the 36 that are added and a remainder's 930 at the most do not reach the next multiple of 1024,

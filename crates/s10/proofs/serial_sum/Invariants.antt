@@ -1,13 +1,9 @@
 -- `s10::serial_sum` meets its contract. The loop's invariant: the number so far and the digits from `k` on write the whole number, and k
 -- digits, each at most 255, write less than 29 × 10 ^ k. Assumes nothing.
-use Prim.Native.Nat.{ℕ, ◌+◌, ◌*◌, ◌-◌, ◌^◌, ◌≤◌}
-use mathlib.Core.Path.{◌≡◌, refl, sym, ◌∙◌}
-use native.Mathlib.Nat.{pow-suc, pow-le-pow_right}
-use native.Mathlib.Numerals.{add-one}
-use native.Mathlib.Omega.{arith}
-use lib.ListN.{length, drop, get_or, drop_of_length-le}
+use Prim.Native.Nat.{◌+◌, ◌*◌, ◌-◌, ◌^◌, ◌≤◌}
+use mathlib.Core.Path.{◌≡◌}
+use lib.ListN.{length, drop}
 use Rattle.s10.specs.Text.{decimal_number}
-use Rattle.s10.proofs.Decimal.{decimal_step}
 use Rattle.s10.proofs.serial_sum.Given as goal
 
 abbrev pub invariant-loop-k : goal.invariant-loop-k

@@ -1,12 +1,9 @@
 -- `s10::write_digits` meets its contract. The loop's invariant: the last digits stand from `i` on, and the rest is still to be written.
 -- Assumes nothing.
-use Prim.Native.Nat.{ℕ, suc, ◌+◌, ◌-◌, ◌/◌, ◌%◌, ◌^◌, ◌≤◌, ◌<◌}
-use mathlib.Core.Path.{◌≡◌, refl}
+use Prim.Native.Nat.{ℕ, ◌-◌, ◌/◌, ◌^◌, ◌≤◌}
+use mathlib.Core.Path.{◌≡◌}
 use mathlib.Core.List.{List}
-use native.Mathlib.Nat.{div-div-eq-div-mul, div-one, pow-suc, sub_self, sub-zero}
-use native.Mathlib.Omega.{arith}
-use lib.ListN.{length, drop, set, length-set}
-use lib.Seq.{drop-cons, drop-length, get_or-set_same, drop-set-lt}
+use lib.ListN.{length, drop}
 use Rattle.s10.specs.Text.{digits}
 use Rattle.s10.specs.Parts.{characters}
 use Rattle.s10.proofs.write_digits.Given as goal

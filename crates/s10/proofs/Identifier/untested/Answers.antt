@@ -1,6 +1,5 @@
 -- `Identifier::untested` meets its contract. Assumes nothing.
 use native.Mathlib.Omega.{arith}
-use borrow.Author.Rules.{rules}
 use borrow.Author.Tests.{eq-eqb, ne_eqb}
 use lib.ListN.{length}
 use Rattle.s10.specs.Text.{untested_key}

@@ -1,6 +1,5 @@
 -- `Identifier::write` meets its contract: the tests come in the definition's order, and a refusal writes nothing. Assumes nothing.
 use native.Mathlib.Omega.{arith}
-use borrow.Author.Rules.{rules}
 use borrow.Author.Tests.{eq-eqb, ne_eqb, le-leb, lt-leb}
 use lib.ListN.{length}
 use Rattle.s10.specs.Text.{largest_key}
