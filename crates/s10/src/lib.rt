@@ -210,6 +210,7 @@ fn remainder_by_11(sum: u16) -> u16
 }
 
 // The check digit of a weighted sum: 11 less the remainder by 11, with 10 and 11 replaced.
+#[tactic(auto, unfolding(crate::specs::Text::excepted))]
 fn check_of(sum: u16) -> u16
     requires { sum ≤ 396 }
     ensures { result ≡ excepted (11 - sum % 11) }

@@ -1,11 +1,8 @@
 -- `command::first_not_zero` meets its contract. The loop's invariant: the search from `i` on finds what the whole search finds. Assumes nothing.
 use Prim.Native.Nat.{◌≤◌, ◌-◌}
-use mathlib.Core.Path.{◌≡◌, refl, sym, ◌∙◌}
-use native.Mathlib.Omega.{arith}
-use borrow.Author.Tests.{eq-eqb, ne_eqb}
-use lib.ListN.{length, drop, drop_of_length-le}
+use mathlib.Core.Path.{◌≡◌}
+use lib.ListN.{length, drop}
 use Rattle.command.specs.Read.{first_not_zero}
-use Rattle.command.proofs.Zeros.{zero_step}
 use Rattle.command.proofs.first_not_zero.Given as goal
 
 abbrev pub invariant-loop-i : goal.invariant-loop-i

@@ -1,11 +1,10 @@
 -- `command::read_list` meets its contract. The loop's invariant: the first refusal from `at` on, `seq` being the place there, is the whole
 -- list's; and so is the largest count from there on, of `largest` and the commands. Assumes nothing.
-use Prim.Native.Nat.{ℕ, ◌+◌, ◌-◌, ◌≤◌}
+use Prim.Native.Nat.{ℕ, ◌-◌}
 use mathlib.Core.Path.{◌≡◌, refl, sym, ap, ◌∙◌}
 use mathlib.Core.List.{List, ◌∷◌}
 use native.Mathlib.Omega.{arith}
-use borrow.Author.Rules.{rules}
-use lib.ListN.{length, take, drop, drop_of_length-le}
+use lib.ListN.{take, drop, drop_of_length-le}
 use Rattle.command.specs.Read.{command_outcome, parts, parts_of, readings, first_refusal, command_in, commands_in}
 use Rattle.command.specs.Count.{largest_count}
 use Rattle.command.specs.declared.Command.{Command}

@@ -1,6 +1,5 @@
 -- `command::read_zeros` meets its contract: the tests come in the definition's order. Assumes nothing.
 use native.Mathlib.Omega.{arith}
-use borrow.Author.Rules.{rules}
 use borrow.Author.Tests.{eq-eqb, ne_eqb}
 use Rattle.command.specs.Read.{read_zeros}
 use Rattle.command.proofs.Zeros.{zeros_within}

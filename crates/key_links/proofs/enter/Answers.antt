@@ -2,7 +2,6 @@
 use mathlib.Core.Path.{refl}
 use native.Mathlib.Numerals.{add-one}
 use native.Mathlib.Omega.{arith}
-use borrow.Author.Rules.{rules}
 use Rattle.key_links.proofs.Links.{indexed_more}
 use Rattle.key_links.proofs.enter.Goals as goal
 

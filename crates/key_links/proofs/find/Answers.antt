@@ -1,5 +1,4 @@
 -- `key_links::find` meets its contract: the walk begins at the last of the key's bucket. Assumes nothing.
-use borrow.Author.Rules.{rules}
 use Rattle.key_links.specs.Links.{bucket_of}
 use Rattle.key_links.proofs.find.Goals as goal
 

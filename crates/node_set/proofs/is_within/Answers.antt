@@ -1,6 +1,5 @@
 -- `node_set::is_within` meets its contract: no member is above the limit exactly if each word has only the places that the limit leaves it. Assumes nothing.
 use borrow.Author.Rules.{rules}
-use borrow.Author.Tests.{not-true, not-false}
 use mathlib.Core.Path.{refl, sym, ◌∙◌}
 use Prim.Native.Nat.{◌+◌}
 use native.Mathlib.Omega.{arith}
@@ -14,16 +13,16 @@ returns-then-not-has_places c =
     let words : NodeSet c.args.set = array_is_a_set c.args.set (search rules) (λ i. search rules) in
     let set = c.args.set in
     let limit = c.args.limit in
-    word_above set (words) limit 0 (omega arith)
-    (tested_word set (words) limit 0 {places = limit + 1} (omega arith) c.has_places.ensures (not-true _ c.if-not-has_places.true-raw))
+    word_above set words limit 0 (omega arith)
+    (tested_word set words limit 0 {places = limit + 1} (omega arith) c.has_places.ensures c.if-not-has_places.true)
 
 pub returns-then-not-has_places-2 : goal.returns-then-not-has_places-2
 returns-then-not-has_places-2 c =
     let words : NodeSet c.args.set = array_is_a_set c.args.set (search rules) (λ i. search rules) in
     let set = c.args.set in
     let limit = c.args.limit in
-    word_above set (words) limit 1 (omega arith)
-    (tested_word set (words) limit 1 c.left_after.ensures c.has_places-2.ensures (not-true _ c.if-not-has_places-2.true-raw))
+    word_above set words limit 1 (omega arith)
+    (tested_word set words limit 1 c.left_after.ensures c.has_places-2.ensures c.if-not-has_places-2.true)
 
 pub returns : goal.returns
 returns c =
@@ -31,7 +30,7 @@ returns c =
     let set = c.args.set in
     let is = words in
     let limit = c.args.limit in
-    let first = tested_word set is limit 0 {places = limit + 1} (omega arith) c.has_places.ensures (not-false _ c.if-not-has_places.false-raw) in
-    let second = tested_word set is limit 1 c.left_after.ensures c.has_places-2.ensures (not-false _ c.if-not-has_places-2.false-raw) in
+    let first = tested_word set is limit 0 {places = limit + 1} (omega arith) c.has_places.ensures c.if-not-has_places.false in
+    let second = tested_word set is limit 1 c.left_after.ensures c.has_places-2.ensures c.if-not-has_places-2.false in
     let third = tested_word set is limit 2 c.left_after-2.ensures c.has_places-3.ensures refl in
     sym third ∙ third_word_decides set is limit first second

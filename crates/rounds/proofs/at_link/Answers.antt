@@ -5,7 +5,6 @@ use mathlib.Core.List.{List}
 use native.Mathlib.Omega.{arith}
 use lib.ListN.{get_or}
 use Rattle.rounds.specs.Links.{at_link}
-use borrow.Author.Rules.{rules}
 use Rattle.rounds.proofs.at_link.Goals as goal
 
 none : (list : List ℕ) (link : ℕ) → link ≡ 0 → 0 ≡ at_link list link

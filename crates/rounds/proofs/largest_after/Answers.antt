@@ -1,5 +1,4 @@
 -- `rounds::largest_after` meets its contract. Assumes nothing.
-use borrow.Author.Rules.{rules}
 use Rattle.rounds.proofs.largest_after.Goals as goal
 
 pub returns : goal.returns

@@ -2,7 +2,6 @@
 use Prim.Native.Nat.{ℕ, suc, ◌-◌, ◌<◌}
 use mathlib.Core.Path.{◌≡◌, ◌∙◌}
 use native.Mathlib.Omega.{arith}
-use borrow.Author.Rules.{rules}
 use lib.ListN.{get_or}
 use Rattle.rounds.specs.Links.{last_of}
 use Rattle.rounds.proofs.Links.{Walked, walk_begins, walk_goes, walk_ends}

@@ -4,10 +4,9 @@ use mathlib.Core.Path.{◌≡◌, refl, sym, ap, ◌∙◌}
 use mathlib.Core.List.{List}
 use native.Mathlib.Numerals.{add-one}
 use native.Mathlib.Omega.{arith}
-use borrow.Author.Rules.{rules}
 use lib.ListN.{length, take, drop}
 use Rattle.command.specs.Read.{CommandOutcome, command_outcome, read_command, refusal_for}
-use Rattle.rounds.proofs.Numbering.{Numbering, begins, goes, stops, ends}
+use Rattle.rounds.proofs.Numbering.{begins, goes, stops, ends}
 use Rattle.rounds.proofs.number.Goals as goal
 
 -- the part of a command, as the code names it
@@ -40,7 +39,7 @@ returns-in-Refused c =
     let inv = c.loop-i.invariant in
     let whole : 16 * c.loop-i.i + 16 ≤ length c.args.list.now = omega (arith, c.loop-i-test.true, inv.8) in
     let read = read_part c.loop-i.i c.args.list.now _ (sym c.read.ensures ∙ ap command_outcome c.in-Refused.is) in
-    (rw add-one (stops inv.0 whole (refusal_for c.in-Refused.reason) read), λ n e. let z : ◌≡◌ {A = ℕ} 0 1 = cc in absurd (omega arith))
+    record { outcome = rw add-one (stops inv.0 whole (refusal_for c.in-Refused.reason) read); rounds = λ n e. let z : ◌≡◌ {A = ℕ} 0 1 = cc in absurd (omega arith) }
 
 pub overflow_add-i : goal.overflow_add-i
 overflow_add-i c =
@@ -52,13 +51,13 @@ loop-i-preserved c =
     let inv = c.loop-i.invariant in
     let n = inv.0 in
     let whole : 16 * c.loop-i.i + 16 ≤ length c.args.list.now = omega (arith, c.loop-i-test.true, inv.8) in (
-      rw add-one (goes n whole c.in-Read.command (read_part c.loop-i.i c.args.list.now _ (sym c.read.ensures ∙ ap command_outcome c.in-Read.is)) e.ensures.0 (e.ensures.1 n.es n.count n.entered)),
-      e.auto.0 ∙ inv.1,
-      e.auto.1.0 ∙ inv.2,
-      e.auto.1.1.0 ∙ inv.3,
-      e.auto.1.1.1.0 ∙ inv.4,
-      e.auto.1.1.1.1.0 ∙ inv.5,
-      e.auto.1.1.1.1.1.0 ∙ inv.6,
+      rw add-one (goes n whole c.in-Read.command (read_part c.loop-i.i c.args.list.now _ (sym c.read.ensures ∙ ap command_outcome c.in-Read.is)) e.ensures.index (e.ensures.entered n.es n.count n.entered)),
+      omega (arith, inv.1),
+      omega (arith, inv.2),
+      omega (arith, inv.3),
+      omega (arith, inv.4),
+      omega (arith, inv.5),
+      omega (arith, inv.6),
       omega arith,
       inv.8,
     )
@@ -68,4 +67,4 @@ returns c =
     let inv = c.loop-i.invariant in
     let all = ends inv.0 (omega (arith, c.loop-i-test.false, inv.8, c.requires.0)) in
     let end : c.loop-i.i ≡ length c.args.list.now / 16 = omega (arith, c.loop-i-test.false, inv.7, inv.8) in
-    (all.0, λ n e. let same : c.loop-i.largest.top ≡ n = cc in (rw end at all.1, sym same ∙ all.2))
+    record { outcome = all.0; rounds = λ n e. let same : c.loop-i.largest.top ≡ n = cc in (rw end at all.1, sym same ∙ all.2) }

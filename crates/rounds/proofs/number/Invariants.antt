@@ -1,13 +1,8 @@
 -- `rounds::number` meets its contract. The loop's invariant: the first i commands have their rounds. Assumes nothing.
-use Prim.Native.Nat.{ℕ, ◌+◌, ◌-◌, ◌*◌, ◌/◌, ◌≤◌}
-use mathlib.Core.Path.{◌≡◌, refl, sym, ap, ◌∙◌}
-use mathlib.Core.List.{List}
-use native.Mathlib.Numerals.{add-one}
-use native.Mathlib.Omega.{arith}
-use borrow.Author.Rules.{rules}
-use lib.ListN.{length, take, drop}
-use Rattle.command.specs.Read.{CommandOutcome, command_outcome, read_command, refusal_for}
-use Rattle.rounds.proofs.Numbering.{Numbering, begins, goes, stops, ends}
+use Prim.Native.Nat.{◌-◌, ◌/◌, ◌≤◌}
+use mathlib.Core.Path.{◌≡◌}
+use lib.ListN.{length}
+use Rattle.rounds.proofs.Numbering.{Numbering}
 use Rattle.rounds.proofs.number.Given as goal
 
 abbrev pub invariant-loop-i : goal.invariant-loop-i

@@ -1,7 +1,10 @@
 -- `s10::first_fault` meets its contract. The loop's invariant: the search from `i` on finds what the whole search finds. Assumes nothing.
 use mathlib.Core.Path.{refl, sym, ◌∙◌}
 use native.Mathlib.Omega.{arith}
+<<<<<<< HEAD
 use borrow.Author.Tests.{not-true, not-false}
+=======
+>>>>>>> 47a731bb4f819753909c0925857c572331c74424
 use lib.ListN.{drop_of_length-le}
 use Rattle.s10.specs.Text.{first_fault}
 use Rattle.s10.proofs.Fault.{fault_step}
@@ -12,12 +15,12 @@ loop-i-init c = (omega arith, refl)
 
 pub returns-then-not-is_allowed : goal.returns-then-not-is_allowed
 returns-then-not-is_allowed c =
-    let refused = sym c.is_allowed.ensures ∙ not-true _ c.if-not-is_allowed.true-raw in
+    let refused = sym c.is_allowed.ensures ∙ c.if-not-is_allowed.true in
     sym (rw refused at (fault_step c.args.text.now c.loop-i.i c.loop-i-test.true)) ∙ c.loop-i.invariant.1
 
 pub loop-i-preserved : goal.loop-i-preserved
 loop-i-preserved c =
-    let allowed = sym c.is_allowed.ensures ∙ not-false _ c.if-not-is_allowed.false-raw in
+    let allowed = sym c.is_allowed.ensures ∙ c.if-not-is_allowed.false in
     (omega arith, sym (rw allowed at (fault_step c.args.text.now c.loop-i.i c.loop-i-test.true)) ∙ c.loop-i.invariant.1)
 
 pub returns : goal.returns

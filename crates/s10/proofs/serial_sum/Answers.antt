@@ -31,21 +31,21 @@ overflow_mul-n c =
     omega arith
 
 pub overflow_cast-n : goal.overflow_cast-n
-overflow_cast-n c = let byte : get_or c.args.digits.now c.loop-k.k 0 ≤ 255 = omega (arith, c.shared_slice_known-1.given c.loop-k.k) in
-    omega (arith, byte)
+overflow_cast-n c = let byte : get_or c.args.digits.now c.loop-k.k 0 ≤ 255 = omega (arith, c.type_inv.digits c.loop-k.k) in
+    omega arith
 
 pub overflow_add-n : goal.overflow_add-n
 overflow_add-n c =
-    let byte : get_or c.args.digits.now c.loop-k.k 0 ≤ 255 = omega (arith, c.shared_slice_known-1.given c.loop-k.k) in
+    let byte : get_or c.args.digits.now c.loop-k.k 0 ≤ 255 = omega (arith, c.type_inv.digits c.loop-k.k) in
     let b = below c.loop-k.k c.loop-k.n (omega (arith, c.requires, c.loop-k.invariant.0)) c.loop-k.invariant.2 in
-    omega (arith, byte)
+    omega arith
 
 pub loop-k-preserved : goal.loop-k-preserved
 loop-k-preserved c =
-    let byte : get_or c.args.digits.now c.loop-k.k 0 ≤ 255 = omega (arith, c.shared_slice_known-1.given c.loop-k.k) in
+    let byte : get_or c.args.digits.now c.loop-k.k 0 ≤ 255 = omega (arith, c.type_inv.digits c.loop-k.k) in
     let digits = c.args.digits.now in
     let step = decimal_step c.loop-k.n digits c.loop-k.k (omega arith) in
-    (omega arith, sym step ∙ c.loop-k.invariant.1, grown c.loop-k.k c.loop-k.n _ c.loop-k.invariant.2 (byte))
+    (omega arith, sym step ∙ c.loop-k.invariant.1, grown c.loop-k.k c.loop-k.n _ c.loop-k.invariant.2 byte)
 
 pub returns : goal.returns
 unfolding decimal_number

@@ -2,10 +2,9 @@
 use Prim.Native.Nat.{◌-◌}
 use mathlib.Core.Path.{◌≡◌}
 use native.Mathlib.Omega.{arith}
-use borrow.Author.Rules.{rules}
 use lib.ListN.{length, take, drop, length-drop, get_or-eq_default}
 use lib.Seq.{take_all}
-use Rattle.command.specs.Read.{known_kind, kind_of, identifier_outcome, with_kind, with_chute, read_command}
+use Rattle.command.specs.Read.{kind_of, identifier_outcome, with_kind, with_chute, read_command}
 use Rattle.command.proofs.Parts.{part_min, drop_min}
 use Rattle.command.proofs.Command.read.Goals as goal
 

@@ -1,6 +1,5 @@
 -- `Kind::read_identifier` meets its contract: the kind says which text is read. Assumes nothing.
 use mathlib.Core.Path.{sym, ◌∙◌}
-use borrow.Author.Rules.{rules}
 use Rattle.command.specs.Read.{read_identifier}
 use Rattle.command.proofs.Kind.read_identifier.Goals as goal
 

@@ -1,5 +1,4 @@
 -- `Kind::untested` meets its contract. Assumes nothing.
-use borrow.Author.Rules.{rules}
 use Rattle.command.proofs.Kind.untested.Goals as goal
 
 pub returns-in-Known : goal.returns-in-Known
