@@ -1,10 +1,6 @@
 -- `s10::first_fault` meets its contract. The loop's invariant: the search from `i` on finds what the whole search finds. Assumes nothing.
 use mathlib.Core.Path.{refl, sym, ◌∙◌}
 use native.Mathlib.Omega.{arith}
-<<<<<<< HEAD
-use borrow.Author.Tests.{not-true, not-false}
-=======
->>>>>>> 47a731bb4f819753909c0925857c572331c74424
 use lib.ListN.{drop_of_length-le}
 use Rattle.s10.specs.Text.{first_fault}
 use Rattle.s10.proofs.Fault.{fault_step}
