@@ -1,12 +1,9 @@
 -- `image::chain_fits` meets its contract. The loop's invariant: the first n indexes passed, and those from i on decide. The measure is how many
 -- more may come. Assumes nothing.
-use Prim.Native.Nat.{◌+◌, ◌-◌, ◌<◌}
+use Prim.Native.Nat.{◌<◌}
 use native.Mathlib.Omega.{arith}
-use mathlib.Core.Path.{◌≡◌}
-use mathlib.Core.Logic.{⊎_elim}
-use borrow.Author.Tests.{eqb-true, eqb-false, not-true, not-false}
 use Rattle.model.specs.Image.{image_length}
-use Rattle.image.proofs.Chain.{Testing, testing_begins, testing_past, testing_low, testing_goes_on, testing_ends, testing_full}
+use Rattle.image.proofs.Chain.{testing_begins, testing_past, testing_low, testing_goes_on, testing_ends, testing_full}
 use Rattle.image.proofs.chain_fits.Goals as goal
 use Rattle.image.proofs.chain_fits.Goals.{then-n-gt0+else-key-last, else-n-gt0}
 

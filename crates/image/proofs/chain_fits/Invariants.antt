@@ -1,12 +1,7 @@
 -- `image::chain_fits` meets its contract. The loop's invariant: the first n indexes passed, and those from i on decide. The measure is how many
 -- more may come. Assumes nothing.
-use Prim.Native.Nat.{◌+◌, ◌-◌, ◌<◌}
-use native.Mathlib.Omega.{arith}
-use mathlib.Core.Path.{◌≡◌}
-use mathlib.Core.Logic.{⊎_elim}
-use borrow.Author.Tests.{eqb-true, eqb-false, not-true, not-false}
-use Rattle.model.specs.Image.{image_length}
-use Rattle.image.proofs.Chain.{Testing, testing_begins, testing_past, testing_low, testing_goes_on, testing_ends, testing_full}
+use Prim.Native.Nat.{◌+◌, ◌-◌}
+use Rattle.image.proofs.Chain.{Testing}
 use Rattle.image.proofs.chain_fits.Given as goal
 
 abbrev pub invariant-loop-n : goal.invariant-loop-n

@@ -1,5 +1,4 @@
 -- `image::chute_in` meets its contract: the two bytes after the next index. Assumes nothing.
-use borrow.Author.Rules.{rules}
 use Rattle.model.specs.Image.{chute_in}
 use Rattle.image.proofs.chute_in.Goals as goal
 

@@ -1,5 +1,4 @@
 -- `image::key_in` meets its contract: the eight bytes after the chute. Assumes nothing.
-use borrow.Author.Rules.{rules}
 use Rattle.model.specs.Image.{key_in}
 use Rattle.image.proofs.key_in.Goals as goal
 

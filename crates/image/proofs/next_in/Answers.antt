@@ -1,5 +1,4 @@
 -- `image::next_in` meets its contract: the first two bytes of the record. Assumes nothing.
-use borrow.Author.Rules.{rules}
 use Rattle.model.specs.Image.{next_in}
 use Rattle.image.proofs.next_in.Goals as goal
 

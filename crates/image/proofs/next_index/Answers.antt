@@ -1,5 +1,4 @@
 -- `image::next_index` meets its contract: its test is the definition's. Assumes nothing.
-use borrow.Author.Rules.{rules}
 use borrow.Author.Tests.{lt-ltb, le-ltb}
 use Rattle.model.specs.Image.{next_index}
 use Rattle.image.proofs.next_index.Goals as goal

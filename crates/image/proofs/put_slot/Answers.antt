@@ -5,7 +5,6 @@ use Rattle.byte_fields.specs.Bytes.{bytes_of}
 use Rattle.byte_fields.proofs.Bytes.{bytes_length}
 use Rattle.byte_fields.proofs.Paste.{put_none, put_more}
 use Rattle.model.specs.Image.{slot_bytes}
-use borrow.Author.Rules.{rules}
 use Rattle.image.proofs.put_slot.Goals as goal
 
 pub returns : goal.returns

@@ -1,13 +1,9 @@
 -- `image::read_image` meets its contract. The loops' invariants: the chain was followed for `used` indexes, whose entries are laid out; and behind
 -- them zeros are. Assumes nothing.
-use Prim.Native.Nat.{◌+◌, ◌*◌, ◌-◌, ◌≤◌}
 use native.Mathlib.Omega.{arith}
-use mathlib.Core.Path.{◌≡◌, refl, sym, ◌∙◌}
-use mathlib.Core.Logic.{⊎_elim}
-use borrow.Author.Tests.{eqb-true, eqb-false, not-true, not-false}
-use lib.ListN.{length}
-use Rattle.model.specs.Image.{image_length, chain_in}
-use Rattle.image.proofs.Reading.{Along, along_begins, along_in_image, along_goes_on, along_ends, along_full, Laid, laid_none, laid_entry, laid_zero, laid_all}
+use mathlib.Core.Path.{refl, sym, ◌∙◌}
+use Rattle.model.specs.Image.{image_length}
+use Rattle.image.proofs.Reading.{along_begins, along_in_image, along_goes_on, along_ends, along_full, laid_none, laid_entry, laid_zero, laid_all}
 use Rattle.image.proofs.read_image.Goals as goal
 use Rattle.image.proofs.read_image.Goals.{then-loop-used-test+else-index-ne0, else-loop-used-test}
 

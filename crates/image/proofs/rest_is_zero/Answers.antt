@@ -1,5 +1,4 @@
 -- `image::rest_is_zero` meets its contract: four bytes are zeros where both halves are. Assumes nothing.
-use borrow.Author.Rules.{rules}
 use Rattle.image.proofs.Slots.{rest_passes, rest_fails}
 use Rattle.image.proofs.rest_is_zero.Goals as goal
 

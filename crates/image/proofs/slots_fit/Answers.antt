@@ -1,12 +1,9 @@
 -- `image::slots_fit` meets its contract. The loop's invariant: the chain was followed for n indexes, which passed, and those from i on decide.
 -- Assumes nothing.
-use Prim.Native.Nat.{◌+◌, ◌*◌, ◌-◌, ◌≤◌}
 use native.Mathlib.Omega.{arith}
-use mathlib.Core.Path.{◌≡◌, sym, ◌∙◌}
-use lib.ListN.{length, drop}
-use borrow.Author.Tests.{eqb-true, eqb-false, not-true, not-false}
-use Rattle.model.specs.Image.{image_length, chain_in, all, slot_fits, slots_fit}
-use Rattle.image.proofs.Reading.{Along, along_begins, along_in_image, along_goes_on, along_ends, along_full, head_fails, head_passes, slots_pass, slot_fails, slot_passes}
+use mathlib.Core.Path.{sym, ◌∙◌}
+use Rattle.model.specs.Image.{image_length}
+use Rattle.image.proofs.Reading.{along_begins, along_in_image, along_goes_on, along_ends, along_full, head_fails, head_passes, slots_pass, slot_fails, slot_passes}
 use Rattle.image.proofs.slots_fit.Goals as goal
 
 pub head_fits-requires : goal.head_fits-requires

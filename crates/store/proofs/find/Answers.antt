@@ -1,7 +1,6 @@
 -- `store::find` meets its contract: its callees find what the definitions say. Assumes nothing.
 use Rattle.store.specs.Lists.{store_of}
 use Rattle.store.proofs.Operations.{finds}
-use borrow.Author.Rules.{rules}
 use Rattle.store.proofs.find.Goals as goal
 
 pub place-at-requires : goal.place-at-requires

@@ -1,6 +1,5 @@
 -- `store::halved` meets its contract. Assumes nothing.
 use mathlib.Core.Path.{refl}
-use borrow.Author.Rules.{rules}
 use Rattle.store.proofs.Halve.{leads_once}
 use Rattle.store.proofs.halved.Goals as goal
 

@@ -2,7 +2,6 @@
 use native.Mathlib.Omega.{arith}
 use Rattle.store.specs.Lists.{store_of}
 use Rattle.store.proofs.Operations.{in_use_is}
-use borrow.Author.Rules.{rules}
 use Rattle.store.proofs.in_use.Goals as goal
 
 pub returns : goal.returns

@@ -1,7 +1,6 @@
 -- `store::insert` meets its contract: a key that is held gets the chute at the place found; else both lists are shifted up from there, where
 -- both have a place left. Assumes nothing.
 use native.Mathlib.Omega.{arith}
-use borrow.Author.Rules.{rules}
 use Rattle.store.proofs.Operations.{held_within, room_within, inserted, not_inserted, inserted_again}
 use Rattle.store.proofs.insert.Goals as goal
 

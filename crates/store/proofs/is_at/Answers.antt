@@ -1,6 +1,5 @@
 -- `store::is_at` meets its contract: the branch taken is the first test. Assumes nothing.
 use borrow.Author.Tests.{lt-ltb, le-ltb}
-use borrow.Author.Rules.{rules}
 use Rattle.store.proofs.is_at.Goals as goal
 
 pub returns-then-place-n : goal.returns-then-place-n

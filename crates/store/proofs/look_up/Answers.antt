@@ -1,7 +1,6 @@
 -- `store::look_up` meets its contract: the chute stands at the place found, where the key is held. Assumes nothing.
 use mathlib.Core.Path.{◌∙◌}
 use native.Mathlib.Omega.{arith}
-use borrow.Author.Rules.{rules}
 use Rattle.store.proofs.Operations.{chosen_within, chosen_chute, none_held}
 use Rattle.store.proofs.look_up.Goals as goal
 

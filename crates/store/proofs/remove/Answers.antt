@@ -1,6 +1,5 @@
 -- `store::remove` meets its contract: both lists are shifted down from the place found, where the key is held. Assumes nothing.
 use native.Mathlib.Omega.{arith}
-use borrow.Author.Rules.{rules}
 use Rattle.store.proofs.Operations.{held_within, removed, not_removed}
 use Rattle.store.proofs.remove.Goals as goal
 

@@ -1,6 +1,5 @@
 -- `store::replace` meets its contract: the chute is stored at the place found, where the key is held. Assumes nothing.
 use native.Mathlib.Omega.{arith}
-use borrow.Author.Rules.{rules}
 use Rattle.store.proofs.Operations.{held_within, replaced, not_replaced}
 use Rattle.store.proofs.replace.Goals as goal
 

@@ -1,9 +1,7 @@
 -- `store::shift_down_chutes` meets its contract, by what `Shift` says of its loop. The measure is the places left to move. Assumes nothing.
-use Prim.Native.Nat.{◌-◌}
-use mathlib.Core.Path.{◌≡◌, refl}
-use native.Mathlib.Omega.{arith}
+use mathlib.Core.Path.{refl}
 use lib.ListN.{length-set}
-use Rattle.store.proofs.Shift.{ShiftingDown, shifting_down_begins, shifting_down_goes_on, shifting_down_ends}
+use Rattle.store.proofs.Shift.{shifting_down_begins, shifting_down_goes_on, shifting_down_ends}
 use Rattle.store.proofs.shift_down_chutes.Goals as goal
 
 pub loop-i-init : goal.loop-i-init

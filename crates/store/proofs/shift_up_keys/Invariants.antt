@@ -1,7 +1,5 @@
 -- `store::shift_up_keys` meets its contract, by what `Shift` says of its loop. The measure is the free place. Assumes nothing.
-use native.Mathlib.Omega.{arith}
-use lib.ListN.{length-set}
-use Rattle.store.proofs.Shift.{ShiftingUp, shifting_up_begins, shifting_up_goes_on, shifting_up_ends}
+use Rattle.store.proofs.Shift.{ShiftingUp}
 use Rattle.store.proofs.shift_up_keys.Given as goal
 
 abbrev pub invariant-loop-i : goal.invariant-loop-i

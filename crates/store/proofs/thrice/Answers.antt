@@ -1,6 +1,5 @@
 -- `store::thrice` meets its contract: each halving leaves at most half and one. Assumes nothing.
 use native.Mathlib.Omega.{arith}
-use borrow.Author.Rules.{rules}
 use Rattle.store.proofs.Halve.{leads_trans}
 use Rattle.store.proofs.thrice.Goals as goal
 

@@ -2,7 +2,6 @@
 -- within every array. Assumes nothing.
 use native.Mathlib.Omega.{arith}
 use mathlib.Core.Path.{refl}
-use borrow.Author.Rules.{rules}
 use Rattle.graph.proofs.Bridge.{nodes_stored, removed_is_upd}
 use Rattle.graph.proofs.Steps.{clear_returns, clear_waits, clear_steps}
 use Rattle.graph.proofs.chain.clear.Goals as goal

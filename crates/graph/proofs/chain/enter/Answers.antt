@@ -1,5 +1,4 @@
 -- `graph::chain::enter` meets its contract: the two cases of entering. Assumes nothing.
-use borrow.Author.Rules.{rules}
 use Rattle.graph.proofs.Steps.{enter_waits, enter_locks}
 use Rattle.graph.proofs.chain.enter.Goals as goal
 

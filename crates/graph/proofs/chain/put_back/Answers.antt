@@ -1,5 +1,4 @@
 -- `graph::chain::put_back` meets its contract: each of its stores is one of the updates. Assumes nothing.
-use borrow.Author.Rules.{rules}
 use Rattle.graph.proofs.Bridge.{empty_is_none}
 use Rattle.graph.proofs.chain.put_back.Goals as goal
 

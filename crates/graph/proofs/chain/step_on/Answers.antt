@@ -1,5 +1,4 @@
 -- `graph::chain::step_on` meets its contract: its two stores are the two updates. Assumes nothing.
-use borrow.Author.Rules.{rules}
 use Rattle.graph.proofs.chain.step_on.Goals as goal
 
 pub returns : goal.returns

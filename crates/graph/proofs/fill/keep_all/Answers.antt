@@ -1,11 +1,8 @@
 -- `fill::keep_all` meets its contract. The loop's invariant: the first n nodes have their commands, and the others none. Assumes nothing.
-use Prim.Native.Nat.{◌-◌, ◌<◌}
+use Prim.Native.Nat.{◌<◌}
 use native.Mathlib.Omega.{arith}
 use mathlib.Core.Option.{some}
-use borrow.Author.Rules.{rules}
-use Rattle.graph.specs.Arrays.{numbers}
-use Rattle.command.specs.Read.{commands_in}
-use Rattle.graph.proofs.Filled.{KeptBelow, none_kept, kept_without, kept_with, all_kept}
+use Rattle.graph.proofs.Filled.{none_kept, kept_without, kept_with, all_kept}
 use Rattle.graph.proofs.fill.keep_all.Goals as goal
 use Rattle.graph.proofs.fill.keep_all.Goals.{then-place-gt0, else-place-gt0}
 

@@ -1,12 +1,8 @@
 -- `fill::keep_all` meets its contract. The loop's invariant: the first n nodes have their commands, and the others none. Assumes nothing.
-use Prim.Native.Nat.{◌-◌, ◌<◌}
-use native.Mathlib.Omega.{arith}
-use mathlib.Core.Option.{some}
-use mathlib.Core.Logic.{⊎_elim}
-use borrow.Author.Rules.{rules}
+use Prim.Native.Nat.{◌-◌}
 use Rattle.graph.specs.Arrays.{numbers}
 use Rattle.command.specs.Read.{commands_in}
-use Rattle.graph.proofs.Filled.{KeptBelow, none_kept, kept_without, kept_with, all_kept}
+use Rattle.graph.proofs.Filled.{KeptBelow}
 use Rattle.graph.proofs.fill.keep_all.Given as goal
 
 abbrev pub invariant-loop-n : goal.invariant-loop-n

@@ -2,7 +2,6 @@
 use Prim.Native.Nat.{◌-◌, ◌*◌}
 use mathlib.Core.Path.{◌≡◌}
 use native.Mathlib.Omega.{arith}
-use borrow.Author.Rules.{rules}
 use Rattle.graph.proofs.Commands.{command_is}
 use Rattle.graph.proofs.items.command_at.Goals as goal
 

@@ -1,5 +1,4 @@
 -- `items::item_of` meets its contract: a known kind is read with the node's key and chute, any other number is no command. Assumes nothing.
-use borrow.Author.Rules.{rules}
 use Rattle.graph.specs.Items.{kept_at}
 use Rattle.graph.proofs.items.item_of.Goals as goal
 

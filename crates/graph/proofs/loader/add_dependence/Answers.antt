@@ -2,7 +2,6 @@
 use mathlib.Core.Path.{ap}
 use native.Mathlib.Omega.{arith}
 use borrow.Author.Tests.{lt-ltb}
-use borrow.Author.Rules.{rules}
 use Rattle.model.specs.Upd.{upd}
 use Rattle.graph.specs.Arrays.{sets}
 use Rattle.graph.proofs.Loading.{added_is_upd}

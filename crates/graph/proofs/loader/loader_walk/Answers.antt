@@ -2,7 +2,6 @@
 use Prim.Native.Nat.{◌≤◌}
 use mathlib.Core.Path.{refl}
 use native.Mathlib.Omega.{arith}
-use borrow.Author.Rules.{rules}
 use lib.ListN.{get_or}
 use Rattle.graph.proofs.Bridge.{nodes_stored}
 use Rattle.graph.proofs.Loading.{loader_links, loader_waits, loader_steps}

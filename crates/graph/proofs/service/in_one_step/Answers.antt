@@ -1,5 +1,4 @@
 -- `service::in_one_step` meets its contract: by the cases of the item. Assumes nothing.
-use borrow.Author.Rules.{rules}
 use Rattle.model.specs.Service.{in_one_step}
 use Rattle.graph.proofs.service.in_one_step.Goals as goal
 

@@ -1,5 +1,4 @@
 -- `service::limit_after` meets its contract: by the cases of the item. Assumes nothing.
-use borrow.Author.Rules.{rules}
 use Rattle.graph.proofs.service.limit_after.Goals as goal
 
 pub returns-in-Of : goal.returns-in-Of

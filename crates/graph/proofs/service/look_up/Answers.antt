@@ -1,7 +1,5 @@
 -- `service::look_up` meets its contract: by the cases of the item. Assumes nothing.
 use mathlib.Core.Path.{sym, ◌∙◌}
-use borrow.Author.Rules.{rules}
-use borrow.Author.Tests.{not-true, not-false}
 use Rattle.model.specs.Service.{found_for}
 use Rattle.graph.proofs.service.look_up.Goals as goal
 
@@ -9,7 +7,7 @@ use Rattle.graph.proofs.service.look_up.Goals as goal
 pub returns-then-not-has_item : goal.returns-then-not-has_item
 unfolding found_for
 returns-then-not-has_item c =
-    rw (c.in-Of.is, sym c.has_item.ensures ∙ not-true _ c.if-not-has_item.true-raw)
+    rw (c.in-Of.is, sym c.has_item.ensures ∙ c.if-not-has_item.true)
 
 pub returns-in-Nothing : goal.returns-in-Nothing
 unfolding found_for
@@ -18,4 +16,4 @@ returns-in-Nothing c = rw c.in-Nothing.is
 pub returns-else-not-has_item : goal.returns-else-not-has_item
 unfolding found_for
 returns-else-not-has_item c =
-    rw (c.in-Of.is, sym c.has_item.ensures ∙ not-false _ c.if-not-has_item.false-raw) c.look_up.ensures
+    rw (c.in-Of.is, sym c.has_item.ensures ∙ c.if-not-has_item.false) c.look_up.ensures

@@ -1,6 +1,5 @@
 -- `service::save` meets its contract: a checkpoint's image is written, any other command leaves it. Assumes nothing.
 use mathlib.Core.Path.{sym, ◌∙◌}
-use borrow.Author.Rules.{rules}
 use Rattle.graph.proofs.Writing.{image_saved, image_left}
 use Rattle.graph.proofs.service.save.Goals as goal
 

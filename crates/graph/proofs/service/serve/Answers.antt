@@ -1,6 +1,5 @@
 -- `service::serve` meets its contract: each way out answers and stores as the definition does at its kind and tests. Assumes nothing.
 use borrow.Author.Tests.{eq-eqb, ne_eqb}
-use borrow.Author.Rules.{rules}
 use Rattle.model.specs.Service.{write_kind}
 use Rattle.graph.proofs.service.serve.Goals as goal
 

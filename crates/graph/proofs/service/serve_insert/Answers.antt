@@ -1,7 +1,6 @@
 -- `service::serve_insert` meets its contract: present is tested before full and replaces the chute, and else the store inserts. Assumes
 -- nothing.
 use borrow.Author.Tests.{eq-eqb, ne_eqb, le-leb, lt-leb}
-use borrow.Author.Rules.{rules}
 use Rattle.model.specs.Service.{write_kind}
 use Rattle.graph.proofs.service.serve_insert.Goals as goal
 

@@ -1,5 +1,4 @@
 -- `service::write_read` meets its contract: a command written in one step is a read, and its answer is stored at its place. Assumes nothing.
-use borrow.Author.Rules.{rules}
 use Rattle.graph.proofs.Writing.{writes_read}
 use Rattle.graph.proofs.service.write_read.Goals as goal
 
