@@ -28,20 +28,20 @@ largest_of_lem workers most n cs e f =
 
 pub returns-then-not-is_within : goal.returns-then-not-is_within
 unfolding open_on
-returns-then-not-is_within c = (rw (← c.is_within.ensures, not-true c.is_within.result c.if-not-is_within.true-raw), λ n e. absurd (no_refusal_passes e))
+returns-then-not-is_within c = record { outcome = rw (← c.is_within.ensures, not-true c.is_within.result c.if-not-is_within.true-raw); largest = λ n e. absurd (no_refusal_passes e) }
 
 pub returns-then-not-is_within-2 : goal.returns-then-not-is_within-2
 unfolding open_on
 returns-then-not-is_within-2 c =
     let size_fits : let size = c.args.size in (leb 1 size && leb size 150) ≡ true = sym c.is_within.ensures ∙ not-false _ c.if-not-is_within.false-raw in
-    (rw (size_fits, ← c.is_within-2.ensures, not-true c.is_within-2.result c.if-not-is_within-2.true-raw), λ n e. absurd (no_refusal_passes e))
+    record { outcome = rw (size_fits, ← c.is_within-2.ensures, not-true c.is_within-2.result c.if-not-is_within-2.true-raw); largest = λ n e. absurd (no_refusal_passes e) }
 
 pub returns-then-not-is_within-3 : goal.returns-then-not-is_within-3
 unfolding open_on
 returns-then-not-is_within-3 c =
     let size_fits : let size = c.args.size in (leb 1 size && leb size 150) ≡ true = sym c.is_within.ensures ∙ not-false _ c.if-not-is_within.false-raw in
     let workers_fit : let workers = c.args.workers in (leb 1 workers && leb workers 64) ≡ true = sym c.is_within-2.ensures ∙ not-false _ c.if-not-is_within-2.false-raw in
-    (rw (size_fits, workers_fit, ← c.is_within-3.ensures, not-true c.is_within-3.result c.if-not-is_within-3.true-raw), λ n e. absurd (no_refusal_passes e))
+    record { outcome = rw (size_fits, workers_fit, ← c.is_within-3.ensures, not-true c.is_within-3.result c.if-not-is_within-3.true-raw); largest = λ n e. absurd (no_refusal_passes e) }
 
 pub returns-then-commands-ne0 : goal.returns-then-commands-ne0
 unfolding open_on
@@ -49,7 +49,7 @@ returns-then-commands-ne0 c =
     let capacity_fits : let capacity = c.args.capacity in (leb 1 capacity && leb capacity 4096) ≡ true = sym c.is_within-3.ensures ∙ not-false _ c.if-not-is_within-3.false-raw in
     let size_fits : let size = c.args.size in (leb 1 size && leb size 150) ≡ true = sym c.is_within.ensures ∙ not-false _ c.if-not-is_within.false-raw in
     let workers_fit : let workers = c.args.workers in (leb 1 workers && leb workers 64) ≡ true = sym c.is_within-2.ensures ∙ not-false _ c.if-not-is_within-2.false-raw in
-    (rw (size_fits, workers_fit, capacity_fits, ne_eqb _ _ c.if-commands-ne0.true), λ n e. absurd (no_refusal_passes e))
+    record { outcome = rw (size_fits, workers_fit, capacity_fits, ne_eqb _ _ c.if-commands-ne0.true); largest = λ n e. absurd (no_refusal_passes e) }
 
 pub returns-then-count-gt-MOST_COMMANDS : goal.returns-then-count-gt-MOST_COMMANDS
 unfolding open_on
@@ -58,7 +58,7 @@ returns-then-count-gt-MOST_COMMANDS c =
     let capacity_fits : let capacity = c.args.capacity in (leb 1 capacity && leb capacity 4096) ≡ true = sym c.is_within-3.ensures ∙ not-false _ c.if-not-is_within-3.false-raw in
     let size_fits : let size = c.args.size in (leb 1 size && leb size 150) ≡ true = sym c.is_within.ensures ∙ not-false _ c.if-not-is_within.false-raw in
     let workers_fit : let workers = c.args.workers in (leb 1 workers && leb workers 64) ≡ true = sym c.is_within-2.ensures ∙ not-false _ c.if-not-is_within-2.false-raw in
-    (rw (size_fits, workers_fit, capacity_fits, whole, lt-leb _ _ c.if-count-gt-MOST_COMMANDS.true), λ n e. absurd (no_refusal_passes e))
+    record { outcome = rw (size_fits, workers_fit, capacity_fits, whole, lt-leb _ _ c.if-count-gt-MOST_COMMANDS.true); largest = λ n e. absurd (no_refusal_passes e) }
 
 pub lengths_fit-requires : goal.lengths_fit-requires
 lengths_fit-requires c =
@@ -77,7 +77,7 @@ returns-then-not-lengths_fit c =
     let workers_fit : let workers = c.args.workers in (leb 1 workers && leb workers 64) ≡ true = sym c.is_within-2.ensures ∙ not-false _ c.if-not-is_within-2.false-raw in
     let five : let a = c.args in open_on a.size a.workers a.capacity a.commands.now (source_in) (given) ≡ after_five a.size a.workers a.capacity a.commands.now (source_in) (given) = let a = c.args in five_passed a.size a.workers a.capacity a.commands.now (source_in) (given) (size_fits) (workers_fit) (capacity_fits) (whole) (count_fits) in
     let a = c.args in
-    (five ∙ refuses_lengths a.size a.workers a.capacity a.commands.now (source_in) (given) (sym c.lengths_fit.ensures ∙ not-true c.lengths_fit.result c.if-not-lengths_fit.true-raw), λ n e. absurd (no_refusal_passes e))
+    record { outcome = five ∙ refuses_lengths a.size a.workers a.capacity a.commands.now (source_in) (given) (sym c.lengths_fit.ensures ∙ not-true c.lengths_fit.result c.if-not-lengths_fit.true-raw); largest = λ n e. absurd (no_refusal_passes e) }
 
 pub source_long-requires : goal.source_long-requires
 source_long-requires c =
@@ -97,7 +97,7 @@ returns-then-not-source_long c =
     let five : let a = c.args in open_on a.size a.workers a.capacity a.commands.now (source_in) (given) ≡ after_five a.size a.workers a.capacity a.commands.now (source_in) (given) = let a = c.args in five_passed a.size a.workers a.capacity a.commands.now (source_in) (given) (size_fits) (workers_fit) (capacity_fits) (whole) (count_fits) in
     let long : (lengths_fit c.args.capacity (length c.args.commands.now / 16) (given) && image_fits c.args.capacity (given)) ≡ true = sym c.lengths_fit.ensures ∙ not-false c.lengths_fit.result c.if-not-lengths_fit.false-raw in
     let a = c.args in
-    (five ∙ refuses_source a.size a.workers a.capacity a.commands.now (source_in) (given) (long) (sym c.source_long.ensures ∙ not-true c.source_long.result c.if-not-source_long.true-raw), λ n e. absurd (no_refusal_passes e))
+    record { outcome = five ∙ refuses_source a.size a.workers a.capacity a.commands.now (source_in) (given) (long) (sym c.source_long.ensures ∙ not-true c.source_long.result c.if-not-source_long.true-raw); largest = λ n e. absurd (no_refusal_passes e) }
 
 pub source_chained-requires : goal.source_chained-requires
 source_chained-requires c =
@@ -120,7 +120,7 @@ returns-then-not-source_chained c =
     let five : let a = c.args in open_on a.size a.workers a.capacity a.commands.now (source_in) (given) ≡ after_five a.size a.workers a.capacity a.commands.now (source_in) (given) = let a = c.args in five_passed a.size a.workers a.capacity a.commands.now (source_in) (given) (size_fits) (workers_fit) (capacity_fits) (whole) (count_fits) in
     let long : (lengths_fit c.args.capacity (length c.args.commands.now / 16) (given) && image_fits c.args.capacity (given)) ≡ true = sym c.lengths_fit.ensures ∙ not-false c.lengths_fit.result c.if-not-lengths_fit.false-raw in
     let a = c.args in
-    (five ∙ refuses_chain a.size a.workers a.capacity a.commands.now (source_in) (given) (long) (source_long_lem) (sym c.source_chained.ensures ∙ not-true c.source_chained.result c.if-not-source_chained.true-raw), λ n e. absurd (no_refusal_passes e))
+    record { outcome = five ∙ refuses_chain a.size a.workers a.capacity a.commands.now (source_in) (given) (long) (source_long_lem) (sym c.source_chained.ensures ∙ not-true c.source_chained.result c.if-not-source_chained.true-raw); largest = λ n e. absurd (no_refusal_passes e) }
 
 pub source_fits-requires : goal.source_fits-requires
 source_fits-requires c =
@@ -145,7 +145,7 @@ returns-then-not-source_fits c =
     let five : let a = c.args in open_on a.size a.workers a.capacity a.commands.now (source_in) (given) ≡ after_five a.size a.workers a.capacity a.commands.now (source_in) (given) = let a = c.args in five_passed a.size a.workers a.capacity a.commands.now (source_in) (given) (size_fits) (workers_fit) (capacity_fits) (whole) (count_fits) in
     let long : (lengths_fit c.args.capacity (length c.args.commands.now / 16) (given) && image_fits c.args.capacity (given)) ≡ true = sym c.lengths_fit.ensures ∙ not-false c.lengths_fit.result c.if-not-lengths_fit.false-raw in
     let a = c.args in
-    (five ∙ refuses_slot a.size a.workers a.capacity a.commands.now (source_in) (given) (long) (source_long_lem) (source_chained_lem) (sym c.source_fits.ensures ∙ not-true c.source_fits.result c.if-not-source_fits.true-raw), λ n e. absurd (no_refusal_passes e))
+    record { outcome = five ∙ refuses_slot a.size a.workers a.capacity a.commands.now (source_in) (given) (long) (source_long_lem) (source_chained_lem) (sym c.source_fits.ensures ∙ not-true c.source_fits.result c.if-not-source_fits.true-raw); largest = λ n e. absurd (no_refusal_passes e) }
 
 pub returns : goal.returns
 returns c =
@@ -163,7 +163,7 @@ returns c =
     let listed = c.read_list-reading in
     let a = c.args in
     let o = setup_of a.size a.workers a.capacity a.commands.now (source_in) in
-    let fits = sym c.source_fits.ensures ∙ not-false c.source_fits.result c.if-not-source_fits.false-raw in (
-      five ∙ reads_list a.size a.workers a.capacity a.commands.now (source_in) (given) (long) (source_long_lem) (source_chained_lem) fits ∙ sym (ap (λ (x : ListOutcome). opened_with x o) listed.ensures.0) ∙ c.answer_of.ensures.outcome o,
-      λ n e. let most = c.answer_of.ensures.largest n e in largest_of_lem a.workers most.0 n _ most.2 (listed.ensures.1 most.0 most.1),
-    )
+    let fits = sym c.source_fits.ensures ∙ not-false c.source_fits.result c.if-not-source_fits.false-raw in record {
+      outcome = five ∙ reads_list a.size a.workers a.capacity a.commands.now (source_in) (given) (long) (source_long_lem) (source_chained_lem) fits ∙ sym (ap (λ (x : ListOutcome). opened_with x o) listed.ensures.outcome) ∙ c.answer_of.ensures.outcome o;
+      largest = λ n e. let most = c.answer_of.ensures.largest n e in largest_of_lem a.workers most.0 n _ most.2 (listed.ensures.largest most.0 most.1);
+    }

@@ -8,9 +8,11 @@ use Rattle.opening.proofs.answer_of.Goals as goal
 pub returns-in-AllRead : goal.returns-in-AllRead
 unfolding opened_with
 returns-in-AllRead c =
-    let read = c.reading-1.given in
-    (λ o. rw read.1, λ n e. let same : c.larger.result ≡ n = cc in (read.0.0, read.1, sym same ∙ c.larger.ensures))
+    record {
+      outcome = λ o. rw c.in-AllRead.is;
+      largest = λ n e. let same : c.larger.result ≡ n = cc in (c.in-AllRead.most, c.in-AllRead.is, sym same ∙ c.larger.ensures);
+    }
 
 pub returns-in-RefusedAt : goal.returns-in-RefusedAt
 unfolding opened_with
-returns-in-RefusedAt c = (λ o. rw c.in-RefusedAt.is, λ n e. absurd (no_refusal_passes e))
+returns-in-RefusedAt c = record { outcome = λ o. rw c.in-RefusedAt.is; largest = λ n e. absurd (no_refusal_passes e) }

@@ -11,7 +11,7 @@ read_image-requires c =
     (image_long _ _ _ is c.requires.1, c.requires.0, image_chained _ _ _ is c.requires.2)
 
 pub returns-then-from : goal.returns-then-from
-returns-then-from c = entries_of_image _ _ _ c.if-from.taken c.read_image.ensures
+returns-then-from c = entries_of_image _ _ _ c.if-from.true c.read_image.ensures
 
 pub returns : goal.returns
 returns c =

@@ -72,11 +72,14 @@ returns-in-Passed c =
     laid
     (c.clear_numbers.ensures ∙ as_many_zeros p.answers_long)
     (c.clear_bytes.ensures ∙ zeros_are o.capacity p.image_long) in
-    rw answer.ensures.0 (opening_told o _ _ c.in-Passed.is left)
+    let told = opening_told o given _ c.in-Passed.is left in
+    record { refusal = rw answer.ensures.outcome told.0; left = rw answer.ensures.outcome told.1 }
 
 -- a refusal: no list was written
 pub returns-in-Refused : goal.returns-in-Refused
 returns-in-Refused c =
+    let given : Lists = all_lists c.args.state.now c.args.keys.now c.args.chutes.now c.args.answers.now c.args.image.now in
     let source_in : Source = source_of c.args.from c.args.source.now in
     let setup : Setup = setup_of c.args.size c.args.workers c.args.capacity c.args.commands.now (source_in) in
-    rw c.answer_for-tested.ensures.outcome (refusal_told (setup) _ c.in-Refused.is)
+    let told = refusal_told setup given c.in-Refused.is in
+    record { refusal = rw c.answer_for-tested.ensures.outcome told.0; left = rw c.answer_for-tested.ensures.outcome told.1 }
