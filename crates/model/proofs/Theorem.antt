@@ -1,6 +1,6 @@
 -- Demand 3 for the model, proved: the opening state meets the invariant, every step keeps it, and from it the five parts follow.
 -- Assumes nothing.
-use Rattle.std.specs.Prelude.{ℕ, ◌+◌, ◌*◌, ◌≤◌, ◌≡◌, refl, Bool, true, cond, ◌&&◌, List, length}
+use Rattle.std.specs.Prelude.{ℕ, ◌+◌, ◌≤◌, ◌≡◌, refl, Bool, true, cond, ◌&&◌, List}
 use Rattle.std.proofs.Common.{arith, ◌∙◌, inl, ⊎_elim}
 use Rattle.std.proofs.Math.Path.{ap}
 use Rattle.std.proofs.Math.Bool.{or-false}

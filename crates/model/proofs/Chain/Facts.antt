@@ -10,7 +10,7 @@ use Rattle.model.specs.Setup.{Setup}
 use Rattle.model.specs.Step.{State}
 use Rattle.command.proofs.Tests.{fails, true_false, none_some, le_cases}
 use Rattle.model.proofs.Upd.{upd_other}
-use Rattle.model.proofs.Chain.Invariant.{Ghost, Inv, On, In, ChainFrom, Order, at, executes, walks, clears, done, looked}
+use Rattle.model.proofs.Chain.Invariant.{Ghost, Inv, On, In, ChainFrom, Order, executes, walks, clears, done, looked}
 
 -- ---- threads
 

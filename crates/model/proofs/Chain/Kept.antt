@@ -1,6 +1,6 @@
 -- What a step keeps: a thread's new state changes only what it says anew, and a group of clauses that speaks of where threads stand goes
 -- on holding when a thread moves that it does not speak of. Assumes nothing.
-use Rattle.std.specs.Prelude.{ℕ, suc, ◌≡◌, Bool, ◌⊎◌}
+use Rattle.std.specs.Prelude.{ℕ, suc, ◌≡◌, Bool}
 use Rattle.std.proofs.Common.{sym, ap, ◌∙◌, inl, inr, ⊎_elim}
 use Rattle.std.proofs.Math.Option.{Option, none, some}
 use Rattle.model.specs.Upd.{upd}

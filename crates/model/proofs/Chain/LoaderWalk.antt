@@ -2,7 +2,7 @@
 -- loader, so the set is right again. Assumes nothing.
 use Prim.Native.Nat.{ℕ, suc, ◌<◌}
 use Rattle.std.proofs.Common.{arith, ◌∙◌, inl, inr, ⊎_elim}
-use Rattle.std.specs.Prelude.{◌≡◌, Bool, cond, ◌⊎◌}
+use Rattle.std.specs.Prelude.{◌≡◌, Bool, cond}
 use Rattle.std.proofs.Math.Path.{refl, sym, ap}
 use Rattle.std.proofs.Math.Bool.{true, false}
 use Rattle.std.proofs.Math.Option.{Option, none, some}

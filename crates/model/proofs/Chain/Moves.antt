@@ -1,6 +1,6 @@
 -- A worker's move that neither loads nor clears nor changes what it executes: it keeps the invariant as soon as the threads stand right.
 -- Assumes nothing.
-use Rattle.std.specs.Prelude.{ℕ, ◌≤◌, ◌<◌, ◌≡◌, Bool, true, ◌⊎◌}
+use Rattle.std.specs.Prelude.{ℕ, ◌≤◌, ◌<◌, ◌≡◌, Bool, true}
 use Rattle.std.proofs.Common.{arith, sym, ap, ◌∙◌, ⊎_elim}
 use Rattle.std.proofs.Math.Option.{none, some}
 use Rattle.model.specs.declared.Thread.{Thread}

@@ -8,7 +8,7 @@ use Rattle.model.specs.Step.{opened}
 use Rattle.model.specs.Statement.{Accepted}
 use Rattle.command.proofs.Tests.{true_false, none_some, eqb_cases}
 use Rattle.model.proofs.Consistent.{opened_consistent}
-use Rattle.model.proofs.Chain.Invariant.{Ghost, Inv, In, NoRepeat, ChainFrom, at}
+use Rattle.model.proofs.Chain.Invariant.{Ghost, Inv, In, NoRepeat, ChainFrom}
 
 -- the k numbers from a on
 unfoldable pub count_from : ℕ → ℕ → List ℕ

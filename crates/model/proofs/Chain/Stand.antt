@@ -1,5 +1,5 @@
 -- Entering at the head and leaving a node: the threads stand right again. Assumes nothing.
-use Rattle.std.specs.Prelude.{ℕ, ◌≡◌, Bool, true, false, ◌⊎◌}
+use Rattle.std.specs.Prelude.{ℕ, ◌≡◌, Bool, true, false}
 use Rattle.std.proofs.Common.{sym, ap, ◌∙◌, inl, ⊎_elim}
 use Rattle.std.proofs.Math.Option.{Option, none, some}
 use Rattle.model.specs.Upd.{upd}

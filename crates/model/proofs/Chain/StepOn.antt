@@ -1,6 +1,6 @@
 -- Stepping on: a thread that stands on a node locks the next one and unlocks the old. The loader, the searcher, the walker and the
 -- clearer share it. Assumes nothing.
-use Rattle.std.specs.Prelude.{ℕ, ◌≡◌, Bool, true, false, ◌⊎◌}
+use Rattle.std.specs.Prelude.{ℕ, ◌≡◌, Bool, true, false}
 use Rattle.std.proofs.Common.{sym, ap, ◌∙◌, inr, ⊎_elim}
 use Rattle.std.proofs.Math.Option.{Option, some}
 use Rattle.model.specs.Upd.{upd}
