@@ -2,4 +2,3 @@ pub mod Reporting
 pub mod Showing
 pub mod Counts
 pub mod Entries
-pub mod InLocal

@@ -3,17 +3,13 @@ use Prim.Native.Nat.{ℕ}
 use native.Mathlib.Omega.{arith}
 use mathlib.Core.Path.{◌≡◌, refl, ap, ◌∙◌}
 use mathlib.Core.Bool.{Bool, true, false, cond, ◌&&◌, and-false, and-eq-true_iff}
-use mathlib.Core.List.{List, [], ◌∷◌}
-use mathlib.Core.Logic.{⊎_elim}
+use mathlib.Core.List.{List}
 use lib.ListN.{length}
 use lib.Dec.{eqb}
 use borrow.Author.Tests.{eq-eqb, ne_eqb, eqb-true}
-use denote.Enum.Declared.{tag_of}
-use types.Run.{OneOf}
 use Rattle.state_bytes.specs.Layout.{Lists, state_length, handed_back_fit, state_fits}
 use Rattle.state_bytes.proofs.Passed.{lengths_passed}
 use Rattle.panel.specs.declared.Report.{Report}
-use Rattle.panel.specs.contracts.Report.{the_type}
 use Rattle.panel.specs.declared.Report.TheVariants.{Reported, WrongLength, WrongState}
 use Rattle.s10.specs.Refusal.{Refusal, plain}
 use Rattle.panel.specs.Reports.{report_of, report_refusal, report_number, report_left}
@@ -77,9 +73,9 @@ pub made_report {ℓ} : {A : Type ℓ} (n : ℕ) (report old left : List A) → 
 unfolding report_left
 made_report n report old left is none = is ∙ rw none
 
--- a refusal, any variant but the first, leaves the list
-pub left_old {ℓ} : {A : Type ℓ} (r : Report) (report old : List A) → OneOf (1 ∷ 2 ∷ []) (tag_of the_type r) → old ≡ report_left (report_of r) report old
+-- a refusal, any answer but the report, leaves the list
+pub left_old {ℓ} : {A : Type ℓ} (r : Report) (report old : List A) → (r ≡ Reported → ⊥) → old ≡ report_left (report_of r) report old
 unfolding report_left
-left_old Reported report old h = absurd (⊎_elim (λ e. omega arith) (λ e. omega arith) h)
+left_old Reported report old h = absurd (h refl)
 left_old WrongLength report old h = refl
 left_old WrongState report old h = refl

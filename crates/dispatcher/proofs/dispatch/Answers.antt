@@ -19,7 +19,8 @@ returns-then-not-lengths_fit c =
     let commands_of : List ℕ = c.args.commands.now in
     let lengths_is : handed_back_fit (given) (commands_of) ≡ c.lengths_fit.result = c.lengths_fit.ensures (given) (commands_of) refl refl refl refl refl in
     let lent_of : List ℕ = c.args.schedule.now in
-    refused_so (given) (commands_of) (lent_of) 6 (decided _ _ _ (lengths_is ∙ not-true _ c.if-not-lengths_fit.true-raw) refl refl refl)
+    let told = refused_so (given) (commands_of) (lent_of) 6 (decided _ _ _ (lengths_is ∙ not-true _ c.if-not-lengths_fit.true-raw) refl refl refl) in
+    record { refusal = told.0; counted = told.1.0; left = told.1.1.0; written = told.1.1.1 }
 
 pub returns-then-not-image_fits : goal.returns-then-not-image_fits
 returns-then-not-image_fits c =
@@ -29,7 +30,8 @@ returns-then-not-image_fits c =
     let lengths_passed : handed_back_fit (given) (commands_of) ≡ true = lengths_is ∙ not-false _ c.if-not-lengths_fit.false-raw in
     let image_is : image_fits (setup_in (given).state (commands_of)).capacity (given) ≡ c.image_fits.result = c.image_fits.ensures (given) (commands_of) refl refl (lengths_passed) in
     let lent_of : List ℕ = c.args.schedule.now in
-    refused_so (given) (commands_of) (lent_of) 6 (decided _ _ _ (lengths_passed) (image_is ∙ not-true _ c.if-not-image_fits.true-raw) refl refl)
+    let told = refused_so (given) (commands_of) (lent_of) 6 (decided _ _ _ (lengths_passed) (image_is ∙ not-true _ c.if-not-image_fits.true-raw) refl refl) in
+    record { refusal = told.0; counted = told.1.0; left = told.1.1.0; written = told.1.1.1 }
 
 pub state_fits-requires : goal.state_fits-requires
 state_fits-requires c =
@@ -45,18 +47,18 @@ returns-then-not-state_fits c =
     let commands_of : List ℕ = c.args.commands.now in
     let lengths_is : handed_back_fit (given) (commands_of) ≡ c.lengths_fit.result = c.lengths_fit.ensures (given) (commands_of) refl refl refl refl refl in
     let lengths_passed : handed_back_fit (given) (commands_of) ≡ true = lengths_is ∙ not-false _ c.if-not-lengths_fit.false-raw in
-    let image_is : image_fits (setup_in (given).state (commands_of)).capacity (given) ≡ c.image_fits_lem.result = c.image_fits_lem.ensures (given) (commands_of) refl refl (lengths_passed) in
-    let image_passed : image_fits (setup_in (given).state (commands_of)).capacity (given) ≡ true = image_is ∙ not-false _ c.if2.false in
+    let image_is : image_fits (setup_in (given).state (commands_of)).capacity (given) ≡ c.image_fits.result = c.image_fits.ensures (given) (commands_of) refl refl (lengths_passed) in
+    let image_passed : image_fits (setup_in (given).state (commands_of)).capacity (given) ≡ true = image_is ∙ not-false _ c.if-not-image_fits.false-raw in
     let state_is : state_fits (given) ≡ c.state_fits.result = c.state_fits.ensures (given) refl refl in
     let lent_of : List ℕ = c.args.schedule.now in
-    refused_so (given) (commands_of) (lent_of) 12
-    (decided _ _ _ (lengths_passed) (image_passed) (state_is ∙ not-true _ c.if-not-state_fits.true-raw) refl)
+    let told = refused_so (given) (commands_of) (lent_of) 12 (decided _ _ _ (lengths_passed) (image_passed) (state_is ∙ not-true _ c.if-not-state_fits.true-raw) refl) in
+    record { refusal = told.0; counted = told.1.0; left = told.1.1.0; written = told.1.1.1 }
 
 pub needed-limit-requires : goal.needed-limit-requires
 needed-limit-requires c =
     let given : Lists = all_lists c.args.state.now c.args.keys.now c.args.chutes.now c.args.answers.now c.args.image.now in
-    let state_is : state_fits (given) ≡ c.state_fits_lem.result = c.state_fits_lem.ensures (given) refl refl in
-    let state_passed : state_fits (given) ≡ true = state_is ∙ not-false _ c.if3.false in
+    let state_is : state_fits (given) ≡ c.state_fits.result = c.state_fits.ensures (given) refl refl in
+    let state_passed : state_fits (given) ≡ true = state_is ∙ not-false _ c.if-not-state_fits.false-raw in
     let commands_of : List ℕ = c.args.commands.now in
     let lengths_is : handed_back_fit (given) (commands_of) ≡ c.lengths_fit.result = c.lengths_fit.ensures (given) (commands_of) refl refl refl refl refl in
     let lengths_passed : handed_back_fit (given) (commands_of) ≡ true = lengths_is ∙ not-false _ c.if-not-lengths_fit.false-raw in
@@ -65,28 +67,28 @@ needed-limit-requires c =
 pub returns-then-schedule-limit : goal.returns-then-schedule-limit
 returns-then-schedule-limit c =
     let given : Lists = all_lists c.args.state.now c.args.keys.now c.args.chutes.now c.args.answers.now c.args.image.now in
-    let state_is : state_fits (given) ≡ c.state_fits_lem.result = c.state_fits_lem.ensures (given) refl refl in
-    let state_passed : state_fits (given) ≡ true = state_is ∙ not-false _ c.if3.false in
+    let state_is : state_fits (given) ≡ c.state_fits.result = c.state_fits.ensures (given) refl refl in
+    let state_passed : state_fits (given) ≡ true = state_is ∙ not-false _ c.if-not-state_fits.false-raw in
     let commands_of : List ℕ = c.args.commands.now in
     let lengths_is : handed_back_fit (given) (commands_of) ≡ c.lengths_fit.result = c.lengths_fit.ensures (given) (commands_of) refl refl refl refl refl in
     let lengths_passed : handed_back_fit (given) (commands_of) ≡ true = lengths_is ∙ not-false _ c.if-not-lengths_fit.false-raw in
     let needed_is : c.needed-limit.result ≡ needed_now (given) (commands_of) = c.needed-limit.ensures (given) (commands_of) refl (all_there (given) (commands_of) (lengths_passed)) in
     let lent_of : List ℕ = c.args.schedule.now in
-    let image_is : image_fits (setup_in (given).state (commands_of)).capacity (given) ≡ c.image_fits_lem.result = c.image_fits_lem.ensures (given) (commands_of) refl refl (lengths_passed) in
-    let image_passed : image_fits (setup_in (given).state (commands_of)).capacity (given) ≡ true = image_is ∙ not-false _ c.if2.false in
-    refused_so (given) (commands_of) (lent_of) 6
-    (decided _ _ _ (lengths_passed) (image_passed) (state_passed) (too_short (given) (commands_of) (lent_of) (needed_is) c.if-schedule-limit.true))
+    let image_is : image_fits (setup_in (given).state (commands_of)).capacity (given) ≡ c.image_fits.result = c.image_fits.ensures (given) (commands_of) refl refl (lengths_passed) in
+    let image_passed : image_fits (setup_in (given).state (commands_of)).capacity (given) ≡ true = image_is ∙ not-false _ c.if-not-image_fits.false-raw in
+    let told = refused_so (given) (commands_of) (lent_of) 6 (decided _ _ _ (lengths_passed) (image_passed) (state_passed) (too_short (given) (commands_of) (lent_of) (needed_is) c.if-schedule-limit.true)) in
+    record { refusal = told.0; counted = told.1.0; left = told.1.1.0; written = told.1.1.1 }
 
 pub run-made-requires : goal.run-made-requires
 run-made-requires c =
     let given : Lists = all_lists c.args.state.now c.args.keys.now c.args.chutes.now c.args.answers.now c.args.image.now in
-    let state_is : state_fits (given) ≡ c.state_fits_lem.result = c.state_fits_lem.ensures (given) refl refl in
-    let state_passed : state_fits (given) ≡ true = state_is ∙ not-false _ c.if3.false in
+    let state_is : state_fits (given) ≡ c.state_fits.result = c.state_fits.ensures (given) refl refl in
+    let state_passed : state_fits (given) ≡ true = state_is ∙ not-false _ c.if-not-state_fits.false-raw in
     let commands_of : List ℕ = c.args.commands.now in
     let lengths_is : handed_back_fit (given) (commands_of) ≡ c.lengths_fit.result = c.lengths_fit.ensures (given) (commands_of) refl refl refl refl refl in
     let lengths_passed : handed_back_fit (given) (commands_of) ≡ true = lengths_is ∙ not-false _ c.if-not-lengths_fit.false-raw in
-    let image_is : image_fits (setup_in (given).state (commands_of)).capacity (given) ≡ c.image_fits_lem.result = c.image_fits_lem.ensures (given) (commands_of) refl refl (lengths_passed) in
-    let image_passed : image_fits (setup_in (given).state (commands_of)).capacity (given) ≡ true = image_is ∙ not-false _ c.if2.false in
+    let image_is : image_fits (setup_in (given).state (commands_of)).capacity (given) ≡ c.image_fits.result = c.image_fits.ensures (given) (commands_of) refl refl (lengths_passed) in
+    let image_passed : image_fits (setup_in (given).state (commands_of)).capacity (given) ≡ true = image_is ∙ not-false _ c.if-not-image_fits.false-raw in
     let lent_of : List ℕ = c.args.schedule.now in
     let passes : CallPasses (given) (commands_of) (chosen c.needed-limit.result) (lent_of) = record { lengths = lengths_passed; image = image_passed; state = state_passed; named = c.if-schedule-limit.false } in
     passes
@@ -98,10 +100,11 @@ returns c =
     let lengths_is : handed_back_fit (given) (commands_of) ≡ c.lengths_fit.result = c.lengths_fit.ensures (given) (commands_of) refl refl refl refl refl in
     let lengths_passed : handed_back_fit (given) (commands_of) ≡ true = lengths_is ∙ not-false _ c.if-not-lengths_fit.false-raw in
     let needed_is : c.needed-limit.result ≡ needed_now (given) (commands_of) = c.needed-limit.ensures (given) (commands_of) refl (all_there (given) (commands_of) (lengths_passed)) in
-    let state_is : state_fits (given) ≡ c.state_fits_lem.result = c.state_fits_lem.ensures (given) refl refl in
-    let state_passed : state_fits (given) ≡ true = state_is ∙ not-false _ c.if3.false in
-    let image_is : image_fits (setup_in (given).state (commands_of)).capacity (given) ≡ c.image_fits_lem.result = c.image_fits_lem.ensures (given) (commands_of) refl refl (lengths_passed) in
-    let image_passed : image_fits (setup_in (given).state (commands_of)).capacity (given) ≡ true = image_is ∙ not-false _ c.if2.false in
+    let state_is : state_fits (given) ≡ c.state_fits.result = c.state_fits.ensures (given) refl refl in
+    let state_passed : state_fits (given) ≡ true = state_is ∙ not-false _ c.if-not-state_fits.false-raw in
+    let image_is : image_fits (setup_in (given).state (commands_of)).capacity (given) ≡ c.image_fits.result = c.image_fits.ensures (given) (commands_of) refl refl (lengths_passed) in
+    let image_passed : image_fits (setup_in (given).state (commands_of)).capacity (given) ≡ true = image_is ∙ not-false _ c.if-not-image_fits.false-raw in
     let lent_of : List ℕ = c.args.schedule.now in
     let passes : CallPasses (given) (commands_of) (chosen c.needed-limit.result) (lent_of) = record { lengths = lengths_passed; image = image_passed; state = state_passed; named = c.if-schedule-limit.false } in
-    accepted_so (given) (commands_of) (lent_of) (needed_is) (passes) c.run-made.ensures
+    let told = accepted_so (given) (commands_of) (lent_of) (needed_is) (passes) c.run-made.ensures in
+    record { refusal = told.0; counted = told.1.0; left = told.1.1.0; written = told.1.1.1 }

@@ -15,7 +15,8 @@ returns-then-not-lengths_fit c =
     let given : Lists = lists c.args.state.now c.args.keys.now c.args.chutes.now c.args.answers.now in
     let commands_of : List ℕ = c.args.commands.now in
     let lengths_is : handed_back_fit (given) (commands_of) ≡ c.lengths_fit.result = c.lengths_fit.ensures (given) (commands_of) refl refl refl refl refl in
-    needs_lengths (given) (commands_of) (lengths_is ∙ not-true _ c.if-not-lengths_fit.true-raw)
+    let told = needs_lengths (given) (commands_of) (lengths_is ∙ not-true _ c.if-not-lengths_fit.true-raw) in
+    record { refusal = told.0; counted = told.1 }
 
 pub state_fits-requires : goal.state_fits-requires
 state_fits-requires c =
@@ -32,7 +33,8 @@ returns-then-not-state_fits c =
     let lengths_is : handed_back_fit (given) (commands_of) ≡ c.lengths_fit.result = c.lengths_fit.ensures (given) (commands_of) refl refl refl refl refl in
     let lengths_passed : handed_back_fit (given) (commands_of) ≡ true = lengths_is ∙ not-false _ c.if-not-lengths_fit.false-raw in
     let state_is : state_fits (given) ≡ c.state_fits.result = c.state_fits.ensures (given) refl refl in
-    needs_state (given) (commands_of) (lengths_passed) (state_is ∙ not-true _ c.if-not-state_fits.true-raw)
+    let told = needs_state (given) (commands_of) (lengths_passed) (state_is ∙ not-true _ c.if-not-state_fits.true-raw) in
+    record { refusal = told.0; counted = told.1 }
 
 pub needed-requires : goal.needed-requires
 needed-requires c =
@@ -53,4 +55,5 @@ returns c =
     let state_is : state_fits (given) ≡ c.state_fits.result = c.state_fits.ensures (given) refl refl in
     let state_passed : state_fits (given) ≡ true = state_is ∙ not-false _ c.if-not-state_fits.false-raw in
     let fit = lengths_passed in
-    needs_so (given) (commands_of) fit (state_passed) (c.needed.ensures (given) (commands_of) refl (all_there (given) (commands_of) fit))
+    let told = needs_so (given) (commands_of) fit (state_passed) (c.needed.ensures (given) (commands_of) refl (all_there (given) (commands_of) fit)) in
+    record { refusal = told.0; counted = told.1 }

@@ -17,10 +17,10 @@ pub returns-in-Reported : goal.returns-in-Reported
 returns-in-Reported c =
     let given : Lists = lists c.args.state.now c.args.keys.now c.args.chutes.now c.args.answers.now in
     let number_is : report_of c.tested-report.result ≡ report_number (given) c.args.commands.now (length c.args.counts.now) 150 = c.tested-report.ensures (given) c.args.commands.now refl refl refl refl refl in
-    (refusal_told c.tested-report.result (number_is), c.write_counts.ensures (given) refl ∙ left_report c.tested-report.result _ c.args.counts.now c.in-Reported.is)
+    record { refusal = refusal_told c.tested-report.result (number_is); left = c.write_counts.ensures (given) refl ∙ left_report c.tested-report.result _ c.args.counts.now c.in-Reported.is }
 
 pub returns-in_default : goal.returns-in_default
 returns-in_default c =
     let given : Lists = lists c.args.state.now c.args.keys.now c.args.chutes.now c.args.answers.now in
     let number_is : report_of c.tested-report.result ≡ report_number (given) c.args.commands.now (length c.args.counts.now) 150 = c.tested-report.ensures (given) c.args.commands.now refl refl refl refl refl in
-    (refusal_told c.tested-report.result (number_is), left_old c.tested-report.result _ c.args.counts.now c.in_default.in_default-own.keys2)
+    record { refusal = refusal_told c.tested-report.result (number_is); left = left_old c.tested-report.result _ c.args.counts.now c.in_default.not-Reported }

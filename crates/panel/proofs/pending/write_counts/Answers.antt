@@ -3,12 +3,12 @@
 use Prim.Native.Nat.{◌-◌}
 use native.Mathlib.Omega.{arith}
 use mathlib.Core.Path.{◌≡◌, refl, sym, ◌∙◌}
-use mathlib.Core.Logic.{⊎_elim}
 use mathlib.Core.List.{[]}
 use lib.ListN.{length}
 use Rattle.state_bytes.specs.Layout.{Lists, lists, state_in}
 use Rattle.panel.proofs.Counts.{Counted, counted_none, counted_end, counted_more, counted_all}
 use Rattle.panel.proofs.pending.write_counts.Goals as goal
+use Rattle.panel.proofs.pending.write_counts.Goals.{then-node-eq0, else-node-eq0}
 
 pub next_at-node-requires : goal.next_at-node-requires
 next_at-node-requires c = c.requires.0
@@ -34,10 +34,10 @@ pub loop-i-preserved : goal.loop-i-preserved
 loop-i-preserved c l same =
     let counted = c.loop-i.invariant l same in
     let more = c.loop-i-test.true in
-    ⊎_elim
-    (λ w. rw (w.1, w.2) (counted_end counted more w.0.taken))
-    (λ w. rw (w.3, w.4) (counted_more counted more w.0.left (w.1.ensures l same) (w.2.ensures l same)))
-    c.if-node-eq0.branch
+    elim c.if-node-eq0.branch [
+      | then-node-eq0 w ↦ rw (w.counts-is, w.node-is) (counted_end counted more w.if-node-eq0.true)
+      | else-node-eq0 w ↦ rw (w.counts-is, w.node-is) (counted_more counted more w.if-node-eq0.false (w.count_of.ensures l same) (w.next_at-node-else-node-eq0.ensures l same))
+    ]
 
 pub shape_of-counts : goal.shape_of-counts
 shape_of-counts c =

@@ -3,7 +3,6 @@
 use Prim.Native.Nat.{◌-◌}
 use native.Mathlib.Omega.{arith}
 use mathlib.Core.Path.{◌≡◌, refl, sym, ◌∙◌}
-use mathlib.Core.Logic.{⊎_elim}
 use mathlib.Core.List.{[]}
 use lib.ListN.{length}
 use Rattle.state_bytes.specs.Layout.{Lists, lists, state_in}
@@ -11,7 +10,7 @@ use Rattle.panel.proofs.Counts.{Counted, counted_none, counted_end, counted_more
 use Rattle.panel.proofs.pending.write_counts.Given as goal
 
 abbrev pub invariant-loop-i : goal.invariant-loop-i
-invariant-loop-i l = (l : Lists) → l.state ≡ l.state → Counted (state_in l) l.counts l.node.0 l.i
+invariant-loop-i l = (shown : Lists) → shown.state ≡ l.state → Counted (state_in shown) l.counts l.node.0 l.i
 
 abbrev pub decreases-loop-i : goal.decreases-loop-i
 decreases-loop-i l = 150 - l.i

@@ -43,14 +43,14 @@ begins_at i offset xs h =
 pub returns-then-place-eq0 : goal.returns-then-place-eq0
 returns-then-place-eq0 c =
     let xs = c.args.answers.now in
-    (none_taken (length xs) (drop (length xs) xs) ∙ sym (from_none c.args.from.0 xs c.if-place-eq0.true), (refl, begins_at (length xs) c.args.answers.ptr.1 xs (omega arith)))
+    record { answers = none_taken (length xs) (drop (length xs) xs) ∙ sym (from_none c.args.from.0 xs c.if-place-eq0.true); own = (refl, begins_at (length xs) c.args.answers.ref_ptr.1 xs (omega arith)) }
 
 pub returns-then-place-n : goal.returns-then-place-n
 returns-then-place-n c =
     let xs = c.args.answers.now in
-    (none_taken (length xs) (drop (length xs) xs) ∙ sym (from_past c.args.from.0 xs c.if-place-n.true), (refl, begins_at (length xs) c.args.answers.ptr.1 xs (omega arith)))
+    record { answers = none_taken (length xs) (drop (length xs) xs) ∙ sym (from_past c.args.from.0 xs c.if-place-n.true); own = (refl, begins_at (length xs) c.args.answers.ref_ptr.1 xs (omega arith)) }
 
 pub returns : goal.returns
 returns c =
     let xs = c.args.answers.now in
-    (rest_from c.args.from.0 xs c.if-place-eq0.false, (refl, begins_at (c.args.from.0 - 1) c.args.answers.ptr.1 xs (omega arith)))
+    record { answers = rest_from c.args.from.0 xs c.if-place-eq0.false; own = (refl, begins_at (c.args.from.0 - 1) c.args.answers.ref_ptr.1 xs (omega arith)) }

@@ -13,10 +13,10 @@ pub returns-then-bytes-ne-STATUS_BYTES : goal.returns-then-bytes-ne-STATUS_BYTES
 unfolding report_left
 returns-then-bytes-ne-STATUS_BYTES c =
     let given : Lists = lists c.args.state.now c.args.keys.now c.args.chutes.now c.args.answers.now in
-    (ap plain (refuses_report (given) c.args.commands.now (length c.args.bytes.now) 128 c.if-bytes-ne-STATUS_BYTES.true), refl)
+    record { refusal = ap plain (refuses_report given c.args.commands.now (length c.args.bytes.now) 128 c.if-bytes-ne-STATUS_BYTES.true); left = refl }
 
 pub returns : goal.returns
 returns c =
     let given : Lists = lists c.args.state.now c.args.keys.now c.args.chutes.now c.args.answers.now in
     let number = c.status_as_bytes.ensures.0 ∙ as_wanted (given) c.args.commands.now (length c.args.bytes.now) 128 c.if-bytes-ne-STATUS_BYTES.false in
-    (refusal_told c.status_as_bytes.result number, c.status_as_bytes.ensures.1)
+    record { refusal = refusal_told c.status_as_bytes.result number; left = c.status_as_bytes.ensures.1 }

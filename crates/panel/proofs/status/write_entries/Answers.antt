@@ -18,7 +18,7 @@ bounds-bytes-i-in-loop-i c = simp length-set (omega arith)
 
 pub loop-i-preserved : goal.loop-i-preserved
 loop-i-preserved c =
-    (simp length-set c.loop-i.inv.0, λ workers s same. bytes_more workers s _ c.state_number.result (c.loop-i.inv.1 workers s same) c.loop-i-test.true same c.state_number.ensures)
+    (simp length-set c.loop-i.invariant.0, λ workers s same. bytes_more workers s _ c.state_number.result (c.loop-i.invariant.1 workers s same) c.loop-i-test.true same c.state_number.ensures)
 
 pub shape_of-bytes : goal.shape_of-bytes
 shape_of-bytes c = c.loop-i.invariant.0 ∙ sym c.requires

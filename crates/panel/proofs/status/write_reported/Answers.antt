@@ -11,4 +11,4 @@ returns-in-Reported c workers s made =
     c.write_entries.ensures workers s (made (ap report_of c.in-Reported.is)) ∙ left_report args.report _ args.bytes.now c.in-Reported.is
 
 pub returns-in_default : goal.returns-in_default
-returns-in_default c workers s made = left_old c.args.report _ c.args.bytes.now c.in_default.in_default-own.keys2
+returns-in_default c workers s made = left_old c.args.report _ c.args.bytes.now c.in_default.not-Reported
