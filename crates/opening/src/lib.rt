@@ -10,7 +10,7 @@ ghost use Rattle.model.specs.Store.{lay_out};
 ghost use Rattle.model.specs.Image.{image_length};
 ghost use Rattle.model.specs.Graph.{first_next};
 ghost use Rattle.store.specs.Lists.{store_of};
-ghost use Rattle.state_bytes.specs.Layout.{all_at_exit, all_at_entry, state_length, lengths_fit, image_fits};
+ghost use Rattle.state_bytes.specs.Layout.{all_lists, all_at_exit, all_at_entry, state_length, lengths_fit, image_fits};
 ghost use Rattle.opening.specs.declared.Tested.TheVariants.{Passed};
 ghost use Rattle.state_bytes.specs.Outcome.{refusal_in, kept};
 ghost use Rattle.opening.specs.Calls.{refusal_for, opening_refusal, opened_with, open_on, setup_of};
@@ -242,7 +242,7 @@ fn answer_for(
     workers: u64,
     capacity: u64,
 ) -> Tested
-    ensures outcome { open_on size workers capacity commands.now (source_of from source.now) (all_at_entry state keys chutes answers image) ≡ outcome_of result (setup_of size workers capacity commands.now (source_of from source.now)) }
+    ensures outcome { open_on size workers capacity commands.now (source_of from source.now) (all_lists state.now keys.now chutes.now answers.now image.now) ≡ outcome_of result (setup_of size workers capacity commands.now (source_of from source.now)) }
     ensures largest { (n : ℕ) → result ≡ Passed n → n ≡ largest_count workers (commands_in commands.now) }
 {
     let count = commands.len() / Command::LENGTH;
@@ -295,7 +295,7 @@ fn lengths_fit(
     count: usize,
 ) -> bool
     requires { capacity ≤ 4096 }
-    ensures { result ≡ (lengths_fit capacity count (all_at_entry state keys chutes answers image) && image_fits capacity (all_at_entry state keys chutes answers image)) }
+    ensures { result ≡ (lengths_fit capacity count (all_lists state.now keys.now chutes.now answers.now image.now) && image_fits capacity (all_lists state.now keys.now chutes.now answers.now image.now)) }
 {
     if state.len() != STATE_LENGTH {
         return false;

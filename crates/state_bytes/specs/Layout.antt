@@ -1,7 +1,7 @@
 -- The state as bytes ("The run crosses to it as bytes, in a layout written down in docs/"): every field at a fixed offset, docs/STATE-LAYOUT.md.
 -- `state_bytes` lays a model state out; `state_in` reads one. Assumes nothing.
 use Rattle.std.specs.Prelude.{ℕ, suc, ◌+◌, ◌*◌, Bool, true, false, cond, not, ◌&&◌, ◌||◌, List, [], ◌∷◌, ◌++◌, length, get_or, eqb, leb, ltb}
-use Rattle.std.specs.Borrow.{Bor}
+use Rattle.std.specs.Borrow.{Bor, MutBor}
 use denote.Triple.Both.{Both}
 use Rattle.node_set.specs.Members.{member, word_of}
 use Rattle.model.specs.declared.Thread.{Thread}
@@ -29,17 +29,20 @@ all_lists state keys chutes answers image = record { state = state; answers = an
 abbrev pub lists : List ℕ → List ℕ → List ℕ → List ℕ → Lists
 lists state keys chutes answers = all_lists state keys chutes answers []
 
--- a list that a call is lent, and all of them as they are at the call's entry and at its exit
+-- a list that a call is lent to read, and one that it may change too; all of them as they are at the call's entry and at its exit
 abbrev pub Lent : Type 0
 Lent = Both (Bor (List ℕ)) (Bor (List ℕ))
+
+abbrev pub LentToChange : Type 0
+LentToChange = Both (MutBor (List ℕ)) (MutBor (List ℕ))
 
 abbrev pub at_entry : Lent → Lent → Lent → Lent → Lists
 at_entry state keys chutes answers = lists state.entry.now keys.entry.now chutes.entry.now answers.entry.now
 
-abbrev pub all_at_entry : Lent → Lent → Lent → Lent → Lent → Lists
+abbrev pub all_at_entry : LentToChange → LentToChange → LentToChange → LentToChange → LentToChange → Lists
 all_at_entry state keys chutes answers image = all_lists state.entry.now keys.entry.now chutes.entry.now answers.entry.now image.entry.now
 
-abbrev pub all_at_exit : Lent → Lent → Lent → Lent → Lent → Lists
+abbrev pub all_at_exit : LentToChange → LentToChange → LentToChange → LentToChange → LentToChange → Lists
 all_at_exit state keys chutes answers image = all_lists state.exit.now keys.exit.now chutes.exit.now answers.exit.now image.exit.now
 
 unfoldable pub state_length : ℕ
