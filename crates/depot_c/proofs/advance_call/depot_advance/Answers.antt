@@ -19,17 +19,17 @@ returns-then-not-are_whole c =
     let b = all_lists args.state.now args.keys.now args.chutes.now args.answers.now args.image.now in
     let none = decoded_none b (sym c.are_whole.ensures ∙ not-true _ c.if-not-are_whole.true-raw) in
     let six = nothing_advanced args.commands.now args.schedule.now in
-    (rw (none, six), rw (none, six))
+    record { number = rw (none, six); left = rw (none, six) }
 
 pub returns-then-not-have_room : goal.returns-then-not-have_room
 returns-then-not-have_room c =
     let args = c.args in
     let b = all_lists args.state.now args.keys.now args.chutes.now args.answers.now args.image.now in
     let whole = decoded_whole b (sym c.are_whole.ensures ∙ not-false _ c.if-not-are_whole.false-raw) in
-    let long = long_answered b args.commands.now args.schedule.now (sym c.have-room.ensures ∙ not-true _ c.if2.true) in
+    let long = long_answered b args.commands.now args.schedule.now (sym c.have_room.ensures ∙ not-true _ c.if-not-have_room.true-raw) in
     let answer = of_entries args.state.now args.keys.now args.chutes.now args.answers.now args.image.now args.commands.now
     {P = λ l list. c.long_image_answer.result ≡ cond (all_fit l list) 12 6} c.long_image_answer.ensures in
-    (rw whole (answer ∙ long.0), rw whole long.1)
+    record { number = rw whole (answer ∙ long.0); left = rw whole long.1 }
 
 pub slice_bounds-key_room-end : goal.slice_bounds-key_room-end
 slice_bounds-key_room-end c =
@@ -65,7 +65,7 @@ pub advance_within-requires : goal.advance_within-requires
 advance_within-requires c =
     let bounds : let args = c.args in (length args.keys.now / 8 ≤ 4096) × (length args.chutes.now / 2 ≤ 4096) × (length args.answers.now / 2 ≤ 4096) = room_bounds _ _ _ (sym c.have_room.ensures ∙ not-false _ c.if-not-have_room.false-raw) in
     let fit = bounds in
-    let whole = whole_lengths _ _ _ (sym c.are_whole.ensures ∙ not-false _ c.if-not-are_whole.left) in
+    let whole = whole_lengths _ _ _ (sym c.are_whole.ensures ∙ not-false _ c.if-not-are_whole.false-raw) in
     record {
       keys_fit = whole.0 ∙ ap (λ (m : ℕ). 8 * m) (sym (length-take-le _ _ fit.0));
       chutes_fit = whole.1 ∙ ap (λ (m : ℕ). 2 * m) (sym (length-take-le _ _ fit.1));
@@ -76,5 +76,5 @@ pub returns : goal.returns
 returns c =
     let args = c.args in
     let b = all_lists args.state.now args.keys.now args.chutes.now args.answers.now args.image.now in
-    let whole = decoded_whole b (sym c.are_whole.ensures ∙ not-false _ c.if-not-are_whole.left) in
-    (rw whole c.advance_within.ensures.number, rw whole c.advance_within.ensures.left)
+    let whole = decoded_whole b (sym c.are_whole.ensures ∙ not-false _ c.if-not-are_whole.false-raw) in
+    record { number = rw whole c.advance_within.ensures.number; left = rw whole c.advance_within.ensures.left }

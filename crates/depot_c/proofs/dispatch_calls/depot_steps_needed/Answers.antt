@@ -20,7 +20,8 @@ returns-then-count-ne-KEY c =
     let given : Lists = lists c.args.state.now c.args.keys.now c.args.chutes.now c.args.answers.now in
     let args = c.args in
     let l = decoded (given) in
-    needed_short (needed_on l args.commands.now) (count_needed l args.commands.now) args.count.now (ne_eqb _ _ c.if-count-ne-KEY.true)
+    let told = needed_short (needed_on l args.commands.now) (count_needed l args.commands.now) args.count.now (ne_eqb _ _ c.if-count-ne-KEY.true) in
+    record { number = told.0; left = told.1 }
 
 pub returns-then-not-are_whole : goal.returns-then-not-are_whole
 returns-then-not-are_whole c =
@@ -30,7 +31,8 @@ returns-then-not-are_whole c =
     let none = decoded_none b (sym c.are_whole.ensures ∙ not-true _ c.if-not-are_whole.true-raw) in
     let turns = count_needed (decoded b) args.commands.now in
     let six = ap (λ (l : Lists). needed_on l args.commands.now) none ∙ nothing_needed args.commands.now in
-    needed_told turns args.count.now (eq-eqb _ _ c.if-count-ne-KEY.false) (sym six) (uncounted turns args.count.now (nonzero false refl))
+    let told = needed_told turns args.count.now (eq-eqb _ _ c.if-count-ne-KEY.false) (sym six) (uncounted turns args.count.now (nonzero false refl)) in
+    record { number = told.0; left = told.1 }
 
 pub returns-then-not-have_room : goal.returns-then-not-have_room
 returns-then-not-have_room c =
@@ -43,7 +45,8 @@ returns-then-not-have_room c =
     {P = λ l list. c.long_answer.result ≡ cond (handed_back_fit l list) 12 6} (λ l list s a k h n _. c.long_answer.ensures l list s a k h n) in
     let long = long_needed b args.commands.now (sym c.have_room.ensures ∙ not-true _ c.if-not-have_room.true-raw) in
     let same = ap (λ (l : Lists). needed_on l args.commands.now) (sym (decoded_whole b (whole))) in
-    needed_told turns args.count.now (eq-eqb _ _ c.if-count-ne-KEY.left) (answer ∙ long ∙ same) (uncounted turns args.count.now (nonzero (handed_back_fit (number_lists b) args.commands.now) answer))
+    let told = needed_told turns args.count.now (eq-eqb _ _ c.if-count-ne-KEY.false) (answer ∙ long ∙ same) (uncounted turns args.count.now (nonzero (handed_back_fit (number_lists b) args.commands.now) answer)) in
+    record { number = told.0; left = told.1 }
 
 pub slice_bounds-key_room-end : goal.slice_bounds-key_room-end
 slice_bounds-key_room-end c =
@@ -97,8 +100,9 @@ returns-then-answer-eq0 c =
     let b = given in
     let is = c.count.ensures ∙ c.needed_within-needing.ensures.counted
     ∙ ap (λ (l : Lists). count_needed l args.commands.now) (sym (decoded_whole b (whole))) in
-    let put = put_count args.count.now c.if-answer-eq0.true c.if-count-ne-KEY.left c.put_number.ensures is in
-    needed_told (count_needed (decoded b) args.commands.now) args.count.now (eq-eqb _ _ c.if-count-ne-KEY.left) (answer_is) put
+    let put = put_count args.count.now c.if-answer-eq0.true c.if-count-ne-KEY.false c.put_number.ensures is in
+    let told = needed_told (count_needed (decoded b) args.commands.now) args.count.now (eq-eqb _ _ c.if-count-ne-KEY.false) (answer_is) put in
+    record { number = told.0; left = told.1 }
 
 pub returns-else-answer-eq0 : goal.returns-else-answer-eq0
 returns-else-answer-eq0 c =
@@ -107,4 +111,5 @@ returns-else-answer-eq0 c =
     let answer_is : c.number-answer.result ≡ needed_on (decoded (given)) c.args.commands.now = c.number-answer.ensures.0 ∙ c.needed_within-needing.ensures.number ∙ ap (λ (l : Lists). needed_on l c.args.commands.now) (sym (decoded_whole (given) (whole))) in
     let args = c.args in
     let turns = count_needed (decoded (given)) args.commands.now in
-    needed_told turns args.count.now (eq-eqb _ _ c.if-count-ne-KEY.left) (answer_is) (uncounted turns args.count.now c.if-answer-eq0.false)
+    let told = needed_told turns args.count.now (eq-eqb _ _ c.if-count-ne-KEY.false) (answer_is) (uncounted turns args.count.now c.if-answer-eq0.false) in
+    record { number = told.0; left = told.1 }

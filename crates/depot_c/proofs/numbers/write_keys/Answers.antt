@@ -18,7 +18,7 @@ pub loop-i-preserved : goal.loop-i-preserved
 loop-i-preserved c =
     let pass = c.loop-i in
     let args = c.args in
-    fields_put pass.inv (8 * pass.i) (omega arith) (omega arith) (bytes_length 8 (get_or args.from.now pass.i 0)) c.put_number.ensures
+    fields_put pass.invariant (8 * pass.i) (omega arith) (omega arith) (bytes_length 8 (get_or args.from.now pass.i 0)) c.put_number.ensures
 
 pub shape_of-bytes : goal.shape_of-bytes
 shape_of-bytes c = fields_put_length c.loop-i.invariant

@@ -18,7 +18,7 @@ pub returns-then-not-are_lent : goal.returns-then-not-are_lent
 returns-then-not-are_lent c =
     let args = c.args in
     let b = lists args.state.now args.keys.now args.chutes.now args.answers.now in
-    (sym (unlent_reported b _ _ _ (sym c.are_lent.ensures ∙ not-true _ c.if-not-are_lent.true-raw)), refused_left false 6 _ _ refl)
+    record { number = sym (unlent_reported b _ _ _ (sym c.are_lent.ensures ∙ not-true _ c.if-not-are_lent.true-raw)); left = refused_left false 6 _ _ refl }
 
 pub returns-then-not-have_room : goal.returns-then-not-have_room
 returns-then-not-have_room c =
@@ -29,7 +29,7 @@ returns-then-not-have_room c =
     let answer = of_entries args.state.now args.keys.now args.chutes.now args.answers.now [] args.commands.now
     {P = λ l list. c.long_answer.result ≡ cond (handed_back_fit l list) 12 6} (λ l list s a k h n _. c.long_answer.ensures l list s a k h n) in
     let long = long_reported b args.commands.now _ _ _ (sym c.have_room.ensures ∙ not-true _ c.if-not-have_room.true-raw) (lent).1 answer in
-    (rw whole long.0, long.1 _ _)
+    record { number = rw whole long.0; left = long.1 _ _ }
 
 pub slice_bounds-key_room-end : goal.slice_bounds-key_room-end
 slice_bounds-key_room-end c =
@@ -79,4 +79,4 @@ returns c =
     let args = c.args in
     let b = lists args.state.now args.keys.now args.chutes.now args.answers.now in
     let whole = decoded_whole b (lent).0 in
-    (rw whole c.report_within.ensures.number, rw whole c.report_within.ensures.left)
+    record { number = rw whole c.report_within.ensures.number; left = rw whole c.report_within.ensures.left }
