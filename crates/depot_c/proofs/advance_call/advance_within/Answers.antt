@@ -31,9 +31,9 @@ returns-then-answer-eq0 c =
     let args = c.args in
     let whole = entries_read_back args.state.now args.keys.now args.chutes.now args.answers.now args.image.now (length args.key_room.now) (length args.chute_room.now)
     (length args.answer_room.now) c.requires.keys_fit c.requires.chutes_fit c.requires.answers_fit
-    (λ i. omega (arith, c.slice_known-2-1.given i))
-    (λ i. omega (arith, c.slice_known-3-1.given i))
-    (λ i. omega (arith, c.slice_known-4-1.given i)) in record {
+    (λ i. search rules)
+    (λ i. search rules)
+    (λ i. search rules) in record {
       number = answer_is;
       left = written_on args.state.now args.keys.now args.chutes.now args.answers.now args.image.now (outcome c.args.commands.now c.args.schedule.now) c.read_lists.ensures whole
           c.advance-advancing.ensures.left c.write_lists.ensures;

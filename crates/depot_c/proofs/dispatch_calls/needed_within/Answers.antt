@@ -1,5 +1,4 @@
 -- `depot_c::dispatch_calls::needed_within` meets its contract: the numbers are read, and what is told of them is told of the entries. Assumes nothing.
-use borrow.Author.Rules.{rules}
 use Rattle.depot_c.proofs.Dispatched.{needed_on_lem}
 use Rattle.depot_c.proofs.dispatch_calls.needed_within.Goals as goal
 

@@ -3,7 +3,6 @@ use mathlib.Core.Path.{◌∙◌}
 use Rattle.depot_c.specs.Boundary.{answer_of}
 use Rattle.depot_c.proofs.Outcomes.{opening_place_below, no_list_opened}
 use Rattle.opening.specs.Calls.{nothing}
-use borrow.Author.Rules.{rules}
 use Rattle.depot_c.proofs.open_calls.open_without.Goals as goal
 
 pub opening_answer-requires : goal.opening_answer-requires

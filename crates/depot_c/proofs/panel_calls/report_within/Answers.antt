@@ -1,5 +1,4 @@
 -- `depot_c::panel_calls::report_within` meets its contract: the numbers are read, and the proved report on them is that on the entries. Assumes nothing.
-use borrow.Author.Rules.{rules}
 use Rattle.depot_c.specs.declared.Wanted.TheVariants.{PendingCounts, WorkerStatus}
 use Rattle.depot_c.proofs.Reporting.{report_on}
 use Rattle.panel.proofs.Reporting.{number_told}

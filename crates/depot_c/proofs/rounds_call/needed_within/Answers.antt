@@ -4,7 +4,6 @@ use mathlib.Core.Path.{◌≡◌, sym, ap, ◌∙◌}
 use mathlib.Core.List.{List}
 use native.Mathlib.Omega.{arith}
 use lib.ListN.{length}
-use borrow.Author.Rules.{rules}
 use Rattle.byte_fields.specs.Bytes.{bytes_of}
 use Rattle.byte_fields.proofs.Bytes.{bytes_length}
 use Rattle.byte_fields.proofs.Paste.{pasted_whole}
