@@ -1,6 +1,5 @@
 -- `depot_c::identifiers::depot_read_identifier` meets its contract: the key is written where the text was accepted. Assumes nothing.
 use native.Mathlib.Omega.{arith}
-use borrow.Author.Rules.{rules}
 use borrow.Author.Tests.{eq-eqb, ne_eqb}
 use mathlib.Core.Path.{◌≡◌, refl, sym, ap, ◌∙◌}
 use mathlib.Core.List.{List}
@@ -32,7 +31,7 @@ refused_left (Refused reason) old e = refl
 
 pub returns-then-key-ne-KEY : goal.returns-then-key-ne-KEY
 unfolding read_answer read_left
-returns-then-key-ne-KEY c = (rw (ne_eqb _ _ c.if-key-ne-KEY.true), rw (ne_eqb _ _ c.if-key-ne-KEY.true))
+returns-then-key-ne-KEY c = record { number = rw (ne_eqb _ _ c.if-key-ne-KEY.true); left = rw (ne_eqb _ _ c.if-key-ne-KEY.true) }
 
 pub returns-then-answer-eq0 : goal.returns-then-answer-eq0
 unfolding read_answer read_left
@@ -41,16 +40,18 @@ returns-then-answer-eq0 c =
     let old = c.args.key.now in
     let long = c.if-key-ne-KEY.false in
     let zero_read = sym c.reading_answer-answer.ensures ∙ c.if-answer-eq0.true in
-    let put = c.put_number.ensures ∙ pasted_whole _ old (bytes_length 8 c.reading_key.result ∙ sym long) in (
-      rw (eq-eqb _ _ long) (c.reading_answer-answer.ensures ∙ ap (λ (o : TextOutcome). packed (refusal_read o)) reading.ensures),
-      rw (eq-eqb _ _ long, ← reading.ensures) (put ∙ ap (bytes_of 8) c.reading_key.ensures ∙ sym (accepted_left reading.result old zero_read)),
-    )
+    let put = c.put_number.ensures ∙ pasted_whole _ old (bytes_length 8 c.reading_key.result ∙ sym long) in
+    record {
+      number = rw (eq-eqb _ _ long) (c.reading_answer-answer.ensures ∙ ap (λ (o : TextOutcome). packed (refusal_read o)) reading.ensures);
+      left = rw (eq-eqb _ _ long, ← reading.ensures) (put ∙ ap (bytes_of 8) c.reading_key.ensures ∙ sym (accepted_left reading.result old zero_read));
+    }
 
 pub returns-else-answer-eq0 : goal.returns-else-answer-eq0
 unfolding read_answer read_left
 returns-else-answer-eq0 c =
     let reading = c.read-reading in
-    let none = refused_left reading.result _ (λ e. c.if-answer-eq0.false (c.reading_answer-answer.ensures ∙ e)) in (
-      rw (eq-eqb _ _ c.if-key-ne-KEY.false) (c.reading_answer-answer.ensures ∙ ap (λ (o : TextOutcome). packed (refusal_read o)) reading.ensures),
-      rw (eq-eqb _ _ c.if-key-ne-KEY.false, ← reading.ensures) (sym none),
-    )
+    let none = refused_left reading.result _ (λ e. c.if-answer-eq0.false (c.reading_answer-answer.ensures ∙ e)) in
+    record {
+      number = rw (eq-eqb _ _ c.if-key-ne-KEY.false) (c.reading_answer-answer.ensures ∙ ap (λ (o : TextOutcome). packed (refusal_read o)) reading.ensures);
+      left = rw (eq-eqb _ _ c.if-key-ne-KEY.false, ← reading.ensures) (sym none);
+    }

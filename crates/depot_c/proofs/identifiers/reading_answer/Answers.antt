@@ -1,7 +1,6 @@
 -- `depot_c::identifiers::reading_answer` meets its contract: a text's refusal names no command. Assumes nothing.
 use mathlib.Core.Path.{◌≡◌, refl}
 use native.Mathlib.Omega.{arith}
-use borrow.Author.Rules.{rules}
 use Rattle.s10.specs.declared.Reason.{Reason}
 use Rattle.s10.specs.declared.Reason.TheVariants.{WrongLength, WrongLetter, WrongDigit, WrongCheckDigit}
 use Rattle.s10.specs.Outcome.{refusal_for}

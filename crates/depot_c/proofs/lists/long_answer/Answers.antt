@@ -1,5 +1,4 @@
 -- `depot_c::lists::long_answer` meets its contract: the test is the definition's. Assumes nothing.
-use borrow.Author.Rules.{rules}
 use Rattle.depot_c.proofs.lists.long_answer.Goals as goal
 
 pub returns-then-lengths_fit : goal.returns-then-lengths_fit

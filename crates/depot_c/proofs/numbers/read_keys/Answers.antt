@@ -1,10 +1,8 @@
 -- `depot_c::numbers::read_keys` meets its contract. The loop's invariant: the first i numbers are filled. Assumes nothing.
-use Prim.Native.Nat.{ℕ, ◌*◌, ◌-◌}
+use Prim.Native.Nat.{◌*◌, ◌-◌}
 use native.Mathlib.Omega.{arith}
 use mathlib.Core.Path.{refl}
-use lib.ListN.{length}
-use Rattle.byte_fields.specs.Bytes.{number_at}
-use Rattle.byte_fields.proofs.Fill.{Filled, filled_none, filled_more}
+use Rattle.byte_fields.proofs.Fill.{filled_none, filled_more}
 use Rattle.depot_c.proofs.Entries.{filled_numbers}
 use Rattle.depot_c.proofs.numbers.read_keys.Goals as goal
 

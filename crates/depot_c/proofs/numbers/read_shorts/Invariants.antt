@@ -1,11 +1,8 @@
 -- `depot_c::numbers::read_shorts` meets its contract. The loop's invariant: the first i numbers are filled. Assumes nothing.
 use Prim.Native.Nat.{ℕ, ◌*◌, ◌-◌}
-use native.Mathlib.Omega.{arith}
-use mathlib.Core.Path.{refl}
 use lib.ListN.{length}
 use Rattle.byte_fields.specs.Bytes.{number_at}
-use Rattle.byte_fields.proofs.Fill.{Filled, filled_none, filled_more}
-use Rattle.depot_c.proofs.Entries.{filled_numbers}
+use Rattle.byte_fields.proofs.Fill.{Filled}
 use Rattle.depot_c.proofs.numbers.read_shorts.Given as goal
 
 abbrev pub invariant-loop-i : goal.invariant-loop-i

@@ -1,11 +1,10 @@
 -- `depot_c::numbers::write_keys` meets its contract. The loop's invariant: the first i numbers are put. Assumes nothing.
-use Prim.Native.Nat.{ℕ, ◌*◌, ◌-◌}
+use Prim.Native.Nat.{◌*◌, ◌-◌}
 use native.Mathlib.Omega.{arith}
-use lib.ListN.{length, get_or}
-use Rattle.byte_fields.specs.Bytes.{bytes_of}
+use lib.ListN.{get_or}
 use Rattle.byte_fields.proofs.Bytes.{bytes_length}
 use Rattle.depot_c.proofs.Entries.{put_numbers}
-use Rattle.byte_fields.proofs.Paste.{PutFields, fields_none, fields_put, fields_put_length}
+use Rattle.byte_fields.proofs.Paste.{fields_none, fields_put, fields_put_length}
 use Rattle.depot_c.proofs.numbers.write_keys.Goals as goal
 
 pub loop-i-init : goal.loop-i-init
@@ -18,7 +17,7 @@ pub loop-i-preserved : goal.loop-i-preserved
 loop-i-preserved c =
     let pass = c.loop-i in
     let args = c.args in
-    fields_put pass.inv (8 * pass.i) (omega arith) (omega arith) (bytes_length 8 (get_or args.from.now pass.i 0)) c.put_number.ensures
+    fields_put pass.invariant (8 * pass.i) (omega arith) (omega arith) (bytes_length 8 (get_or args.from.now pass.i 0)) c.put_number.ensures
 
 pub shape_of-bytes : goal.shape_of-bytes
 shape_of-bytes c = fields_put_length c.loop-i.invariant

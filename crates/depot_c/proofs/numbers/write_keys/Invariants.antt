@@ -1,11 +1,8 @@
 -- `depot_c::numbers::write_keys` meets its contract. The loop's invariant: the first i numbers are put. Assumes nothing.
 use Prim.Native.Nat.{ℕ, ◌*◌, ◌-◌}
-use native.Mathlib.Omega.{arith}
 use lib.ListN.{length, get_or}
 use Rattle.byte_fields.specs.Bytes.{bytes_of}
-use Rattle.byte_fields.proofs.Bytes.{bytes_length}
-use Rattle.depot_c.proofs.Entries.{put_numbers}
-use Rattle.byte_fields.proofs.Paste.{PutFields, fields_none, fields_put, fields_put_length}
+use Rattle.byte_fields.proofs.Paste.{PutFields}
 use Rattle.depot_c.proofs.numbers.write_keys.Given as goal
 
 abbrev pub invariant-loop-i : goal.invariant-loop-i

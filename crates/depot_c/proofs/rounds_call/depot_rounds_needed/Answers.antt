@@ -3,7 +3,6 @@ use mathlib.Core.Path.{◌≡◌, sym, ◌∙◌}
 use native.Mathlib.Omega.{arith}
 use lib.ListN.{length, take}
 use lib.Seq.{length-take-le}
-use borrow.Author.Rules.{rules}
 use Rattle.depot_c.proofs.rounds_call.depot_rounds_needed.Goals as goal
 
 pub slice_bounds-needed_within-end : goal.slice_bounds-needed_within-end
