@@ -14,8 +14,6 @@ use Rattle.runner.proofs.Handed.{ReadOut, fit_count, fit_order, fit_largest, fit
 use borrow.Author.Rules.{rules}
 use Rattle.runner.proofs.run.Goals as goal
 
-}
-
 pub settings_in-settings-requires : goal.settings_in-settings-requires
 settings_in-settings-requires c =
     let given : Lists = all_lists c.args.state.now c.args.keys.now c.args.chutes.now c.args.answers.now c.args.image.now in
@@ -75,13 +73,13 @@ read_threads-threads-requires c =
 pub keep_all-requires : goal.keep_all-requires
 keep_all-requires c =
     let counters_of : Counters = c.counters_in-counters.result in
-    let next_of : List ℕ = c.read_bytes.new.1.1.0 in
-    let seq_of : List ℕ = c.read_numbers.new.1.1.0 in
-    let executing_of : List Bool = c.read_flags.new.1.1.0 in
-    let locked_of : List Bool = c.read_flags-2.new.1.1.0 in
-    let waits_of : List (List ℕ) = c.read_sets.new.1.0 in
+    let next_of : List ℕ = c.read_bytes.new.out in
+    let seq_of : List ℕ = c.read_numbers.new.out in
+    let executing_of : List Bool = c.read_flags.new.out in
+    let locked_of : List Bool = c.read_flags-2.new.out in
+    let waits_of : List (List ℕ) = c.read_sets.new.out in
     let given : Lists = all_lists c.args.state.now c.args.keys.now c.args.chutes.now c.args.answers.now c.args.image.now in
-    let read_out : ReadOut (given) (counters_of) (next_of) (seq_of) (executing_of) (locked_of) (waits_of) c.read_threads-threads.result = record { counters = c.counters_in-counters.ensures; next_is = c.read_bytes.ensures; seq_is = c.read_numbers.ensures; executing_is = c.read_flags.ensures; locked_is = c.read_flags-2.ensures; waits_is = c.read_sets.ensures; threads_are = c.read_threads-threads.ensures; in
+    let read_out : ReadOut (given) (counters_of) (next_of) (seq_of) (executing_of) (locked_of) (waits_of) c.read_threads-threads.result = record { counters = c.counters_in-counters.ensures; next_is = c.read_bytes.ensures; seq_is = c.read_numbers.ensures; executing_is = c.read_flags.ensures; locked_is = c.read_flags-2.ensures; waits_is = c.read_sets.ensures; threads_are = c.read_threads-threads.ensures } in
     let lengths : Long (given) c.args.commands.now = lengths_passed (given) c.args.commands.now c.requires.lengths in
     let range : InRange (given) = state_passed (given) c.requires.state in
     (read_placed (given) (read_out) c.args.commands.now (lengths) (range), zeros 151)
@@ -89,13 +87,13 @@ keep_all-requires c =
 pub perform-requires : goal.perform-requires
 perform-requires c =
     let counters_of : Counters = c.counters_in-counters.result in
-    let next_of : List ℕ = c.read_bytes.new.1.1.0 in
-    let seq_of : List ℕ = c.read_numbers.new.1.1.0 in
-    let executing_of : List Bool = c.read_flags.new.1.1.0 in
-    let locked_of : List Bool = c.read_flags-2.new.1.1.0 in
-    let waits_of : List (List ℕ) = c.read_sets.new.1.0 in
+    let next_of : List ℕ = c.read_bytes.new.out in
+    let seq_of : List ℕ = c.read_numbers.new.out in
+    let executing_of : List Bool = c.read_flags.new.out in
+    let locked_of : List Bool = c.read_flags-2.new.out in
+    let waits_of : List (List ℕ) = c.read_sets.new.out in
     let given : Lists = all_lists c.args.state.now c.args.keys.now c.args.chutes.now c.args.answers.now c.args.image.now in
-    let read_out : ReadOut (given) (counters_of) (next_of) (seq_of) (executing_of) (locked_of) (waits_of) c.read_threads-threads.result = record { counters = c.counters_in-counters.ensures; next_is = c.read_bytes.ensures; seq_is = c.read_numbers.ensures; executing_is = c.read_flags.ensures; locked_is = c.read_flags-2.ensures; waits_is = c.read_sets.ensures; threads_are = c.read_threads-threads.ensures; in
+    let read_out : ReadOut (given) (counters_of) (next_of) (seq_of) (executing_of) (locked_of) (waits_of) c.read_threads-threads.result = record { counters = c.counters_in-counters.ensures; next_is = c.read_bytes.ensures; seq_is = c.read_numbers.ensures; executing_is = c.read_flags.ensures; locked_is = c.read_flags-2.ensures; waits_is = c.read_sets.ensures; threads_are = c.read_threads-threads.ensures } in
     let lengths : Long (given) c.args.commands.now = lengths_passed (given) c.args.commands.now c.requires.lengths in
     let range : InRange (given) = state_passed (given) c.requires.state in
     let long : length c.args.state.now ≡ state_length = (lengths).state in
@@ -112,13 +110,13 @@ perform-requires c =
 pub returns : goal.returns
 returns c =
     let counters_of : Counters = c.counters_in-counters.result in
-    let next_of : List ℕ = c.read_bytes.new.1.1.0 in
-    let seq_of : List ℕ = c.read_numbers.new.1.1.0 in
-    let executing_of : List Bool = c.read_flags.new.1.1.0 in
-    let locked_of : List Bool = c.read_flags-2.new.1.1.0 in
-    let waits_of : List (List ℕ) = c.read_sets.new.1.0 in
+    let next_of : List ℕ = c.read_bytes.new.out in
+    let seq_of : List ℕ = c.read_numbers.new.out in
+    let executing_of : List Bool = c.read_flags.new.out in
+    let locked_of : List Bool = c.read_flags-2.new.out in
+    let waits_of : List (List ℕ) = c.read_sets.new.out in
     let given : Lists = all_lists c.args.state.now c.args.keys.now c.args.chutes.now c.args.answers.now c.args.image.now in
-    let read_out : ReadOut (given) (counters_of) (next_of) (seq_of) (executing_of) (locked_of) (waits_of) c.read_threads-threads.result = record { counters = c.counters_in-counters.ensures; next_is = c.read_bytes.ensures; seq_is = c.read_numbers.ensures; executing_is = c.read_flags.ensures; locked_is = c.read_flags-2.ensures; waits_is = c.read_sets.ensures; threads_are = c.read_threads-threads.ensures; in
+    let read_out : ReadOut (given) (counters_of) (next_of) (seq_of) (executing_of) (locked_of) (waits_of) c.read_threads-threads.result = record { counters = c.counters_in-counters.ensures; next_is = c.read_bytes.ensures; seq_is = c.read_numbers.ensures; executing_is = c.read_flags.ensures; locked_is = c.read_flags-2.ensures; waits_is = c.read_sets.ensures; threads_are = c.read_threads-threads.ensures } in
     let lengths : Long (given) c.args.commands.now = lengths_passed (given) c.args.commands.now c.requires.lengths in
     let commands = c.args.commands.now in
     let o = setup_in c.args.state.now commands in
