@@ -103,4 +103,3 @@ returns c =
     let l = c.loop-plan in
     performed a.chooses a.schedule.now a.limit c.if-looks.plan kept.new.ahead a.settings l.counters l.next l.seq l.executing l.locked l.waits l.keys l.chutes l.answers l.image _ kept.new.lent
     l.invariant.0 (planned (goal.at.returns c).After-look_ahead-n) kept.ensures.0 c.if-n-eq0.true kept.ensures.1 c.write_state.ensures
-
