@@ -6,7 +6,6 @@ use mathlib.Core.Bool.{Bool, true, false}
 use mathlib.Core.List.{List}
 use mathlib.Core.Logic.{◌⊎◌, inl, inr}
 use borrow.Author.Rules.{rules}
-use borrow.Author.Tests.{not-true, not-false}
 use lib.ListN.{length, set}
 use lib.Seq.{get_or-set_same}
 use Rattle.command.proofs.Tests.{true_false}
@@ -52,29 +51,29 @@ module _ (plan : Plan) (schedule : List ℕ) (limit done : ℕ) (ahead : List �
 pub copy_ahead-requires : goal.copy_ahead-requires
 copy_ahead-requires c =
     let a = c.args in
-    (c.requires.0, not_over a.plan a.schedule.now a.limit a.done a.ahead.now a.chooses (not-true _ c.if-not-chooses.true-raw) c.requires.1)
+    (c.requires.0, not_over a.plan a.schedule.now a.limit a.done a.ahead.now a.chooses c.if-not-chooses.true c.requires.1)
 
 pub returns-then-not-chooses : goal.returns-then-not-chooses
 returns-then-not-chooses c =
     let a = c.args in
-    copied a.plan a.schedule.now a.limit a.done _ a.chooses a.lent.now (not-true _ c.if-not-chooses.true-raw) (c.copy_ahead.ensures a.plan)
+    copied a.plan a.schedule.now a.limit a.done _ a.chooses a.lent.now c.if-not-chooses.true (c.copy_ahead.ensures a.plan)
 
 pub bounds-lent-done : goal.bounds-lent-done
 bounds-lent-done c =
     let a = c.args in
-    room a.plan a.schedule.now a.limit a.done a.ahead.now a.chooses a.lent.now (not-false _ c.if-not-chooses.false-raw) c.if-done-limit.true c.requires.2
+    room a.plan a.schedule.now a.limit a.done a.ahead.now a.chooses a.lent.now c.if-not-chooses.false c.if-done-limit.true c.requires.2
 
 pub returns-then-done-limit : goal.returns-then-done-limit
 returns-then-done-limit c =
     let a = c.args in
-    picked a.plan a.schedule.now a.limit a.done a.ahead.now a.chooses a.lent.now (not-false _ c.if-not-chooses.false-raw) c.if-plan.true c.if-done-limit.true (omega (arith, c.requires.0))
+    picked a.plan a.schedule.now a.limit a.done a.ahead.now a.chooses a.lent.now c.if-not-chooses.false c.if-plan.true c.if-done-limit.true (omega (arith, c.requires.0))
 
 pub returns-else-done-limit : goal.returns-else-done-limit
 returns-else-done-limit c =
     let a = c.args in
-    over a.plan a.schedule.now a.limit a.done a.ahead.now a.chooses a.lent.now (not-false _ c.if-not-chooses.false-raw) c.requires.1 (inr c.if-done-limit.false)
+    over a.plan a.schedule.now a.limit a.done a.ahead.now a.chooses a.lent.now c.if-not-chooses.false c.requires.1 (inr c.if-done-limit.false)
 
 pub returns-else-plan : goal.returns-else-plan
 returns-else-plan c =
     let a = c.args in
-    over a.plan a.schedule.now a.limit a.done a.ahead.now a.chooses a.lent.now (not-false _ c.if-not-chooses.false-raw) c.requires.1 (inl c.if-plan.false)
+    over a.plan a.schedule.now a.limit a.done a.ahead.now a.chooses a.lent.now c.if-not-chooses.false c.requires.1 (inl c.if-plan.false)
