@@ -1,6 +1,6 @@
 -- `byte_fields::put_number` meets its contract. The loop's invariant: the bytes from k on are put. Assumes nothing.
 use native.Mathlib.Omega.{arith}
-use Rattle.byte_fields.proofs.Paste.{PutBytes, bytes_none, bytes_more, bytes_all, bytes_put_length}
+use Rattle.byte_fields.proofs.Paste.{bytes_none, bytes_more, bytes_all, bytes_put_length}
 use Rattle.byte_fields.proofs.put_number.Goals as goal
 
 pub loop-k-init : goal.loop-k-init

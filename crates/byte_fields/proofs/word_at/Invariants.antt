@@ -1,10 +1,7 @@
 -- `byte_fields::word_at` meets its contract. The loop's invariant: n is the number of the first i bytes, and below 256 ^ i. Assumes nothing.
-use Prim.Native.Nat.{◌+◌, ◌-◌, ◌^◌, ◌≤◌, ◌<◌}
-use native.Mathlib.Omega.{arith}
-use mathlib.Core.Path.{◌≡◌, sym}
-use lib.ListN.{get_or}
+use Prim.Native.Nat.{◌-◌, ◌^◌, ◌≤◌, ◌<◌}
+use mathlib.Core.Path.{◌≡◌}
 use Rattle.byte_fields.specs.Bytes.{number_at}
-use Rattle.byte_fields.proofs.Fill.{number_none, number_more, byte_more, byte_fits}
 use Rattle.byte_fields.proofs.word_at.Given as goal
 
 abbrev pub invariant-loop-i : goal.invariant-loop-i
