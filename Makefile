@@ -32,7 +32,7 @@ program: $(program)
 
 # Made again when a source changed; making one proves it.
 $(archive): $(sources)
-	cd crates/depot_c && rt lib
+	cd crates/depot_c && rt lib --cpu x86-64
 	@mkdir -p $(@D) && cp crates/depot_c/out/libdepot_c.a $@
 
 $(program): $(sources)
