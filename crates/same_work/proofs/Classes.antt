@@ -133,11 +133,11 @@ writer_code c a = by c.kind (chute_low c.kind c.chute a.chute)
 
 -- what reading a command has tested
 pub accepted_command : (part : List ℕ) (c : Command) → read_command part ≡ accepted c → Accepted c
+unfolding command_in
 accepted_command part c e =
     record { key = accepted_key_is_at_most_largest part c e; no_item = rw (← accepted_as_untested part c e) (no_item part); chute = accepted_chute_fits part c e }
   where
     no_item : (part : List ℕ) → has_item (command_in part).kind ≡ false → (command_in part).key ≡ 0
-    unfolding command_in
     no_item part = by (eqb (length part) 16) (untested_kind (kind_of (get_or part 0 0))) (untested_key (take 13 (drop 1 part))) (chute_of (drop 14 part))
       where
         by : (t : Bool) (k : Kind) (key chute : ℕ) →
