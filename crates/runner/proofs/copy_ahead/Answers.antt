@@ -1,6 +1,6 @@
 -- `runner::copy_ahead` meets its contract. The loop's invariant: the first k threads are the schedule's. The measure is how many are left to
 -- copy. Assumes nothing.
-use Prim.Native.Nat.{ℕ, ◌+◌, ◌-◌, ◌≤◌, ◌<◌}
+use Prim.Native.Nat.{ℕ, ◌+◌, ◌<◌}
 use native.Mathlib.Omega.{arith}
 use mathlib.Core.Path.{◌≡◌, sym, ◌∙◌}
 use borrow.Author.Rules.{rules}
