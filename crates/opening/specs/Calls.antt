@@ -1,5 +1,5 @@
 -- What opening answers and leaves, in the numbers of document 01, "Numbers of refusal", and document 02, A.1, A.2 and A.3. Assumes nothing.
-use Rattle.std.specs.Prelude.{ℕ, ◌/◌, ◌%◌, Bool, true, cond, ◌&&◌, List, [], ◌∷◌, length, eqb, leb}
+use Rattle.std.specs.Prelude.{ℕ, ◌/◌, ◌%◌, Bool, true, cond, ◌&&◌, List, [], length, eqb, leb}
 use Rattle.s10.specs.Refusal.{Refusal, plain, at_place}
 use Rattle.command.specs.Read.{ListOutcome, all_accepted, list_refused, first_refusal, readings, commands_in}
 use Rattle.command.specs.Read as Command

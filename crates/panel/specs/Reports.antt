@@ -1,5 +1,5 @@
 -- The panel's two reports of document 01, "Records and turns", and the answers from a place on. Assumes nothing.
-use Rattle.std.specs.Prelude.{ℕ, zero, suc, ◌+◌, ◌-◌, cond, ◌&&◌, List, [], ◌∷◌, ◌++◌, map, length, drop, replicate, eqb, leb}
+use Rattle.std.specs.Prelude.{ℕ, zero, suc, ◌-◌, cond, ◌&&◌, List, [], ◌∷◌, ◌++◌, map, length, drop, replicate, eqb, leb}
 use Rattle.s10.specs.Refusal.{Refusal, plain}
 use Rattle.node_set.specs.Members.{count_below}
 use Rattle.model.specs.declared.Thread.{Thread}

@@ -5,7 +5,6 @@ use native.Mathlib.Omega.{arith}
 use mathlib.Core.Path.{◌≡◌, sym, ap₂, ◌∙◌}
 use mathlib.Core.List.{List}
 use lib.ListN.{length, get_or}
-use borrow.Author.Rules.{rules}
 use Rattle.byte_fields.specs.Bytes.{number_at}
 use Rattle.byte_fields.proofs.Fill.{number_one}
 use Rattle.state_bytes.specs.Layout.{state_length}
@@ -83,7 +82,7 @@ returns c =
     needed_in (record {
       left_is = c.not_loaded-left.ensures.0 ∙ ap₂ ◌-◌ count loaded;
       used_is = c.used_nodes-used.ensures.0;
-      size_is = sym (size_in);
+      size_is = sym size_in;
       size_fits = omega (arith, size_in, c.requires);
-      largest_is = sym (largest_in);
+      largest_is = sym largest_in;
     })

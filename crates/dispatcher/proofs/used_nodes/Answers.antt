@@ -1,12 +1,11 @@
 -- `dispatcher::used_nodes` meets its contract. The loop's invariant: the nodes below n that have a command are counted. The measure is how many
 -- nodes are left. Assumes nothing.
-use Prim.Native.Nat.{ℕ, suc, ◌+◌, ◌-◌, ◌≤◌}
+use Prim.Native.Nat.{ℕ, suc, ◌+◌}
 use native.Mathlib.Numerals.{add-one}
 use native.Mathlib.Omega.{arith}
 use mathlib.Core.Path.{◌≡◌, refl, ap, ◌∙◌}
 use mathlib.Core.Bool.{Bool, cond, not}
 use lib.Dec.{eqb}
-use borrow.Author.Rules.{rules}
 use Rattle.node_set.specs.Members.{count_below}
 use Rattle.state_bytes.specs.Layout.{state_length}
 use Rattle.dispatcher.proofs.Bound.{has_one}

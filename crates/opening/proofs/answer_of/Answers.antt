@@ -1,6 +1,5 @@
 -- `opening::answer_of` meets its contract: each arm's answer is the one of its reading. Assumes nothing.
 use mathlib.Core.Path.{◌≡◌, sym, ◌∙◌}
-use borrow.Author.Rules.{rules}
 use Rattle.opening.specs.Calls.{opened_with}
 use Rattle.opening.proofs.Answer.{no_refusal_passes}
 use Rattle.opening.proofs.answer_of.Goals as goal

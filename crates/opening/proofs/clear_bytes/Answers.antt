@@ -1,9 +1,7 @@
 -- `opening::clear_bytes` meets its contract. The loop's invariant: the first i bytes are 0. Assumes nothing.
-use Prim.Native.Nat.{ℕ, ◌-◌}
 use native.Mathlib.Omega.{arith}
 use mathlib.Core.Path.{refl, ◌∙◌}
-use lib.ListN.{length}
-use Rattle.byte_fields.proofs.Fill.{Filled, filled_none, filled_more, filled_all}
+use Rattle.byte_fields.proofs.Fill.{filled_none, filled_more, filled_all}
 use Rattle.opening.proofs.FirstState.{tabulate_constant}
 use Rattle.opening.proofs.clear_bytes.Goals as goal
 

@@ -1,6 +1,5 @@
 -- `opening::fill_store` meets its contract: the image's entries, or zeros. Assumes nothing.
 use mathlib.Core.Path.{◌∙◌}
-use borrow.Author.Rules.{rules}
 use Rattle.opening.proofs.FirstState.{as_many_zeros, empty_store}
 use Rattle.opening.proofs.Source.{image_long, image_chained, entries_of_image, entries_of_none}
 use Rattle.opening.proofs.fill_store.Goals as goal

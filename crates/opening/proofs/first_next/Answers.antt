@@ -1,9 +1,9 @@
 -- `opening::first_next` meets its contract. The loop's invariant: the next indexes are those of a graph of n nodes. Assumes nothing.
-use Prim.Native.Nat.{ℕ, ◌-◌, ◌≤◌}
+use Prim.Native.Nat.{ℕ}
 use native.Mathlib.Omega.{arith}
 use mathlib.Core.Path.{◌≡◌, ap, ◌∙◌}
 use Rattle.model.specs.Graph.{first_next}
-use Rattle.opening.proofs.FirstState.{IsFirst, first_none, first_more}
+use Rattle.opening.proofs.FirstState.{first_none, first_more}
 use Rattle.opening.proofs.first_next.Goals as goal
 
 pub loop-n-init : goal.loop-n-init

@@ -1,5 +1,4 @@
 -- `opening::lengths_fit` meets its contract: the first test that fails fails them all. Assumes nothing.
-use borrow.Author.Rules.{rules}
 use borrow.Author.Tests.{eq-eqb, ne_eqb}
 use Rattle.state_bytes.specs.Layout.{state_length, lengths_fit, image_fits}
 use Rattle.opening.proofs.lengths_fit.Goals as goal

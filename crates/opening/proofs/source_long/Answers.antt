@@ -1,5 +1,4 @@
 -- `opening::source_long` meets its contract: with no image there is nothing to test. Assumes nothing.
-use borrow.Author.Rules.{rules}
 use borrow.Author.Tests.{not-true, not-false}
 use Rattle.opening.specs.Calls.{source_long}
 use Rattle.opening.proofs.source_long.Goals as goal

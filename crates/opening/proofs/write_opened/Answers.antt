@@ -1,7 +1,6 @@
 -- `opening::write_opened` meets its contract: the arrays written are those of the opening state. Assumes nothing.
 use mathlib.Core.Path.{sym, ap, ◌∙◌}
 use Prim.Native.Nat.{ℕ}
-use borrow.Author.Rules.{rules}
 use Rattle.model.specs.Graph.{first_next}
 use Rattle.model.specs.Step.{opened}
 use Rattle.opening.proofs.FirstState.{opened_shown}

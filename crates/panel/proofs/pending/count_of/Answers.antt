@@ -1,5 +1,4 @@
 -- `panel::pending::count_of` meets its contract: a set has at most 192 members, so that their count is a byte. Assumes nothing.
-use borrow.Author.Rules.{rules}
 use native.Mathlib.Omega.{arith}
 use Rattle.node_set.specs.Members.{member}
 use Rattle.panel.proofs.Counts.{count_within, count_past, count_read}

@@ -1,12 +1,11 @@
 -- `panel::pending::write_counts` meets its contract. The loop's invariant: the first i entries are the counts of the first i nodes, with 0 past the
 -- last, and node is the one after them. The measure is what is left of the entries, so a chain that runs in a circle ends too. Assumes nothing.
-use Prim.Native.Nat.{◌-◌}
 use native.Mathlib.Omega.{arith}
 use mathlib.Core.Path.{◌≡◌, refl, sym, ◌∙◌}
 use mathlib.Core.List.{[]}
 use lib.ListN.{length}
-use Rattle.state_bytes.specs.Layout.{Lists, lists, state_in}
-use Rattle.panel.proofs.Counts.{Counted, counted_none, counted_end, counted_more, counted_all}
+use Rattle.state_bytes.specs.Layout.{lists}
+use Rattle.panel.proofs.Counts.{counted_none, counted_end, counted_more, counted_all}
 use Rattle.panel.proofs.pending.write_counts.Goals as goal
 use Rattle.panel.proofs.pending.write_counts.Goals.{then-node-eq0, else-node-eq0}
 

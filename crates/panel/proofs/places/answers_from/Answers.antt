@@ -1,6 +1,5 @@
 -- `panel::places::answers_from` meets its contract: the part that it lends is the list from the place on, and empty for 0 and past the end;
 -- it is the end of the list that was lent. Assumes nothing.
-use borrow.Author.Rules.{rules}
 use Prim.Native.Nat.{ℕ, zero, suc, ◌+◌, ◌*◌, ◌-◌, ◌≤◌, ◌<◌}
 use native.Mathlib.Omega.{arith}
 use mathlib.Core.Path.{◌≡◌, refl, sym, ◌∙◌}

@@ -1,5 +1,4 @@
 -- `panel::status::shown` meets its contract: a report has all entries, and a refusal none. Assumes nothing.
-use borrow.Author.Rules.{rules}
 use Prim.Native.Nat.{ℕ}
 use mathlib.Core.Path.{sym, ap}
 use mathlib.Core.Bool.{cond}

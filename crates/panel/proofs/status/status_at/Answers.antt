@@ -1,5 +1,4 @@
 -- `panel::status::status_at` meets its contract: a worker past the count is idle, any other as the state has it. Assumes nothing.
-use borrow.Author.Rules.{rules}
 use native.Mathlib.Omega.{arith}
 use Rattle.state_bytes.specs.Layout.{state_length, state_in}
 use Rattle.panel.proofs.Showing.{past_shown, worker_shown}

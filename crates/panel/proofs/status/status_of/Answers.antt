@@ -1,5 +1,4 @@
 -- `panel::status::status_of` meets its contract: each state of a thread is shown as its own. Assumes nothing.
-use borrow.Author.Rules.{rules}
 use mathlib.Core.Path.{sym, ap}
 use Rattle.panel.specs.Reports.{status_of}
 use Rattle.panel.proofs.status.status_of.Goals as goal

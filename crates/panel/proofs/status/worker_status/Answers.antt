@@ -1,5 +1,4 @@
 -- `panel::status::worker_status` meets its contract: what the tests answer says how many entries are written, and those leave the report. Assumes nothing.
-use Prim.Native.Nat.{ℕ}
 use mathlib.Core.Path.{◌≡◌, refl}
 use lib.ListN.{length}
 use Rattle.state_bytes.specs.Layout.{Lists, lists}

@@ -1,13 +1,9 @@
 -- `panel::status::write_entries` meets its contract. The loop's invariant: the bytes of the first i workers are put. Assumes nothing.
-use borrow.Author.Rules.{rules}
-use Prim.Native.Nat.{ℕ, ◌-◌}
 use native.Mathlib.Omega.{arith}
-use mathlib.Core.Path.{◌≡◌, sym, ◌∙◌}
-use lib.ListN.{length, length-set}
-use Rattle.model.specs.Step.{State}
+use mathlib.Core.Path.{sym, ◌∙◌}
+use lib.ListN.{length-set}
 use Rattle.byte_fields.proofs.Paste.{fields_none}
-use Rattle.panel.specs.Reports.{worker_status}
-use Rattle.panel.proofs.Showing.{BytesPut, bytes_more, bytes_all}
+use Rattle.panel.proofs.Showing.{bytes_more, bytes_all}
 use Rattle.panel.proofs.status.write_entries.Goals as goal
 
 pub loop-i-init : goal.loop-i-init

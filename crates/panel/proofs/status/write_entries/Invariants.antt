@@ -1,13 +1,10 @@
 -- `panel::status::write_entries` meets its contract. The loop's invariant: the bytes of the first i workers are put. Assumes nothing.
-use borrow.Author.Rules.{rules}
 use Prim.Native.Nat.{ℕ, ◌-◌}
-use native.Mathlib.Omega.{arith}
-use mathlib.Core.Path.{◌≡◌, sym, ◌∙◌}
-use lib.ListN.{length, length-set}
+use mathlib.Core.Path.{◌≡◌}
+use lib.ListN.{length}
 use Rattle.model.specs.Step.{State}
-use Rattle.byte_fields.proofs.Paste.{fields_none}
 use Rattle.panel.specs.Reports.{worker_status}
-use Rattle.panel.proofs.Showing.{BytesPut, bytes_more, bytes_all}
+use Rattle.panel.proofs.Showing.{BytesPut}
 use Rattle.panel.proofs.status.write_entries.Given as goal
 
 abbrev pub invariant-loop-i : goal.invariant-loop-i

@@ -1,5 +1,4 @@
 -- `panel::status::write_reported` meets its contract: a report that was made is written, and a refusal leaves the list. Assumes nothing.
-use borrow.Author.Rules.{rules}
 use mathlib.Core.Path.{ap, ◌∙◌}
 use Rattle.panel.specs.Reports.{report_of}
 use Rattle.panel.proofs.Reporting.{left_report, left_old}

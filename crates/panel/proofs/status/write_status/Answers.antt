@@ -4,7 +4,7 @@ use native.Mathlib.Numerals.{add-one}
 use native.Mathlib.Omega.{arith}
 use mathlib.Core.Path.{◌≡◌, refl, sym, ◌∙◌, subst}
 use mathlib.Core.List.{List}
-use lib.ListN.{length, length-set, set}
+use lib.ListN.{length-set, set}
 use Rattle.panel.specs.declared.WorkerStatus.{WorkerStatus}
 use Rattle.panel.proofs.Entries.{Wrote, wrote_none, wrote_next}
 use Rattle.panel.proofs.status.write_status.Goals as goal

@@ -1,7 +1,6 @@
 -- `state_bytes::fits::image_fits` meets its contract: the capacity is read where the layout has it. Assumes nothing.
 use mathlib.Core.Path.{sym, ap, ◌∙◌}
 use lib.ListN.{length}
-use borrow.Author.Rules.{rules}
 use Rattle.model.specs.Image.{image_length}
 use Rattle.state_bytes.specs.Layout.{state_length, setup_in, image_fits}
 use Rattle.state_bytes.proofs.Passed.{lengths_passed}

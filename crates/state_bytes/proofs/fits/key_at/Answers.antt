@@ -1,5 +1,4 @@
 -- `state_bytes::fits::key_at` meets its contract: past the end `get_or` is 0 too. Assumes nothing.
-use borrow.Author.Rules.{rules}
 use mathlib.Core.Path.{sym}
 use lib.ListN.{get_or-eq_default}
 use Rattle.state_bytes.proofs.fits.key_at.Goals as goal

@@ -1,22 +1,17 @@
 -- `state_bytes::fits::keys_ascend` meets its contract: the loop has passed the places before `place`, and ends at the first whose key is not below the next. Assumes nothing.
-use borrow.Author.Rules.{rules}
 use borrow.Author.Tests.{lt-leb, le-leb, lt-ltb, le-ltb}
-use Prim.Native.Nat.{ℕ, ◌+◌, ◌-◌, ◌≤◌, ◌<◌}
+use Prim.Native.Nat.{ℕ, ◌+◌, ◌≤◌, ◌<◌}
 use native.Mathlib.Omega.{arith}
-use mathlib.Core.Bool.{Bool, true, false, ◌||◌, or-true}
+use mathlib.Core.Bool.{true, false, or-true}
 use mathlib.Core.List.{List}
 use mathlib.Core.Path.{◌≡◌, refl, sym, ◌∙◌}
-use lib.Dec.{leb, ltb}
 use lib.ListN.{get_or}
 use Rattle.byte_fields.specs.Bytes.{all_below}
 use Rattle.state_bytes.specs.Layout.{ascends}
 use Rattle.state_bytes.proofs.Below.{all_below_none, all_below_more, one_fails}
 use Rattle.byte_fields.proofs.Bytes.{below_or_past, all_below_each, each_all_below}
+use Rattle.state_bytes.proofs.fits.keys_ascend.Invariants.{ascending}
 use Rattle.state_bytes.proofs.fits.keys_ascend.Goals as goal
-
--- whether place i is the last, or its key is below the next
-abbrev ascending : ℕ → List ℕ → ℕ → Bool
-ascending used keys i = leb used (i + 1) || ltb (get_or keys i 0) (get_or keys (i + 1) 0)
 
 -- `ascends` tests it of each place
 ascends_by : (used : ℕ) (keys : List ℕ) → ascends used keys ≡ all_below used (ascending used keys)

@@ -1,17 +1,11 @@
 -- `state_bytes::fits::keys_ascend` meets its contract: the loop has passed the places before `place`, and ends at the first whose key is not below the next. Assumes nothing.
-use borrow.Author.Rules.{rules}
-use borrow.Author.Tests.{lt-leb, le-leb, lt-ltb, le-ltb}
-use Prim.Native.Nat.{ℕ, ◌+◌, ◌-◌, ◌≤◌, ◌<◌}
-use native.Mathlib.Omega.{arith}
-use mathlib.Core.Bool.{Bool, true, false, ◌||◌, or-true}
+use Prim.Native.Nat.{ℕ, ◌+◌, ◌-◌, ◌≤◌}
+use mathlib.Core.Bool.{Bool, true, ◌||◌}
 use mathlib.Core.List.{List}
-use mathlib.Core.Path.{◌≡◌, refl, sym, ◌∙◌}
+use mathlib.Core.Path.{◌≡◌}
 use lib.Dec.{leb, ltb}
 use lib.ListN.{get_or}
 use Rattle.byte_fields.specs.Bytes.{all_below}
-use Rattle.state_bytes.specs.Layout.{ascends}
-use Rattle.state_bytes.proofs.Below.{all_below_none, all_below_more, one_fails}
-use Rattle.byte_fields.proofs.Bytes.{below_or_past, all_below_each, each_all_below}
 use Rattle.state_bytes.proofs.fits.keys_ascend.Given as goal
 
 -- whether place i is the last, or its key is below the next

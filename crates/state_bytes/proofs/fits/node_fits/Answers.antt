@@ -1,5 +1,4 @@
 -- `state_bytes::fits::node_fits` meets its contract: the first test that fails fails them all. Assumes nothing.
-use borrow.Author.Rules.{rules}
 use borrow.Author.Tests.{lt-leb, le-leb}
 use mathlib.Core.Bool.{Bool, true, false}
 use mathlib.Core.List.{List, [], ◌∷◌, ◌++◌}

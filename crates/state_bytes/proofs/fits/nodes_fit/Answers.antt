@@ -1,10 +1,5 @@
 -- `state_bytes::fits::nodes_fit` meets its contract: the loop has passed the nodes before n, and ends at the first that fails. Assumes nothing.
-use Prim.Native.Nat.{◌≤◌, ◌-◌}
 use native.Mathlib.Omega.{arith}
-use mathlib.Core.Bool.{true}
-use mathlib.Core.Path.{◌≡◌}
-use Rattle.byte_fields.specs.Bytes.{all_below}
-use Rattle.state_bytes.specs.Layout.{node_fits_at}
 use Rattle.state_bytes.proofs.Below.{all_below_none, all_below_more, one_fails, passed_all_below}
 use Rattle.state_bytes.proofs.Tested.{answer_fails, answer_passes}
 use Rattle.state_bytes.proofs.fits.nodes_fit.Goals as goal

@@ -1,5 +1,4 @@
 -- `state_bytes::fits::state_fits` meets its contract: the first test that fails fails them all. Assumes nothing.
-use borrow.Author.Rules.{rules}
 use borrow.Author.Tests.{lt-leb, le-leb}
 use Prim.Native.Nat.{ℕ}
 use native.Mathlib.Omega.{arith}

@@ -1,5 +1,4 @@
 -- `state_bytes::fits::thread_fits` meets its contract: the first test that fails fails them all. Assumes nothing.
-use borrow.Author.Rules.{rules}
 use mathlib.Core.Bool.{and-false}
 use mathlib.Core.Path.{◌∙◌}
 use borrow.Author.Tests.{lt-leb, le-leb}

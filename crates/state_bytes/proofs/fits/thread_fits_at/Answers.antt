@@ -1,5 +1,4 @@
 -- `state_bytes::fits::thread_fits_at` meets its contract: the fields of a thread lie one after the other. Assumes nothing.
-use borrow.Author.Rules.{rules}
 use Prim.Native.Nat.{◌+◌, ◌*◌}
 use native.Mathlib.Omega.{arith}
 use mathlib.Core.Path.{◌≡◌}

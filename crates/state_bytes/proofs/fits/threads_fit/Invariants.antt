@@ -1,12 +1,9 @@
 -- `state_bytes::fits::threads_fit` meets its contract: the loop has passed the threads before t, and ends at the first that fails. Assumes nothing.
 use Prim.Native.Nat.{◌≤◌, ◌-◌}
-use native.Mathlib.Omega.{arith}
 use mathlib.Core.Bool.{true}
 use mathlib.Core.Path.{◌≡◌}
 use Rattle.byte_fields.specs.Bytes.{all_below}
 use Rattle.state_bytes.specs.Layout.{thread_fits_at}
-use Rattle.state_bytes.proofs.Below.{all_below_none, all_below_more, one_fails, passed_all_below}
-use Rattle.state_bytes.proofs.Tested.{answer_fails, answer_passes}
 use Rattle.state_bytes.proofs.fits.threads_fit.Given as goal
 
 abbrev pub invariant-loop-t : goal.invariant-loop-t

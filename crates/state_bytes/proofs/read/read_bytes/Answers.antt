@@ -1,9 +1,7 @@
 -- `state_bytes::read::read_bytes` meets its contract. The loop's invariant: the first i bytes are filled. Assumes nothing.
-use Prim.Native.Nat.{ℕ, ◌+◌, ◌-◌}
 use native.Mathlib.Omega.{arith}
 use mathlib.Core.Path.{refl}
-use lib.ListN.{length, get_or}
-use Rattle.byte_fields.proofs.Fill.{Filled, filled_none, filled_more, filled_all}
+use Rattle.byte_fields.proofs.Fill.{filled_none, filled_more, filled_all}
 use Rattle.state_bytes.proofs.read.read_bytes.Goals as goal
 
 pub loop-i-init : goal.loop-i-init

@@ -1,10 +1,8 @@
 -- `state_bytes::read::read_flags` meets its contract. The loop's invariant: the first i flags are filled. Assumes nothing.
 use Prim.Native.Nat.{ℕ, ◌+◌, ◌-◌}
-use native.Mathlib.Omega.{arith}
-use mathlib.Core.Path.{refl}
 use lib.ListN.{length, get_or}
 use lib.Dec.{eqb}
-use Rattle.byte_fields.proofs.Fill.{Filled, filled_none, filled_more, filled_all}
+use Rattle.byte_fields.proofs.Fill.{Filled}
 use Rattle.state_bytes.proofs.read.read_flags.Given as goal
 
 abbrev pub invariant-loop-i : goal.invariant-loop-i

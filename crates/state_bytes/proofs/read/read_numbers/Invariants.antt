@@ -1,10 +1,8 @@
 -- `state_bytes::read::read_numbers` meets its contract. The loop's invariant: the first i numbers are filled. Assumes nothing.
 use Prim.Native.Nat.{ℕ, ◌+◌, ◌*◌, ◌-◌}
-use native.Mathlib.Omega.{arith}
-use mathlib.Core.Path.{refl}
 use lib.ListN.{length}
 use Rattle.byte_fields.specs.Bytes.{number_at}
-use Rattle.byte_fields.proofs.Fill.{Filled, filled_none, filled_more, filled_all}
+use Rattle.byte_fields.proofs.Fill.{Filled}
 use Rattle.state_bytes.proofs.read.read_numbers.Given as goal
 
 abbrev pub invariant-loop-i : goal.invariant-loop-i

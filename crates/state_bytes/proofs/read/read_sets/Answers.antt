@@ -1,8 +1,6 @@
 -- `state_bytes::read::read_sets` meets its contract. The loop's invariant: the first n sets are filled. Assumes nothing.
-use Prim.Native.Nat.{◌-◌}
 use native.Mathlib.Omega.{arith}
-use Rattle.state_bytes.specs.Layout.{set_at}
-use Rattle.byte_fields.proofs.Fill.{Filled, filled_none, filled_more, filled_all}
+use Rattle.byte_fields.proofs.Fill.{filled_none, filled_more, filled_all}
 use Rattle.state_bytes.proofs.read.read_sets.Goals as goal
 
 pub loop-n-init : goal.loop-n-init

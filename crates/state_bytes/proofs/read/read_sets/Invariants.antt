@@ -1,8 +1,7 @@
 -- `state_bytes::read::read_sets` meets its contract. The loop's invariant: the first n sets are filled. Assumes nothing.
 use Prim.Native.Nat.{◌-◌}
-use native.Mathlib.Omega.{arith}
 use Rattle.state_bytes.specs.Layout.{set_at}
-use Rattle.byte_fields.proofs.Fill.{Filled, filled_none, filled_more, filled_all}
+use Rattle.byte_fields.proofs.Fill.{Filled}
 use Rattle.state_bytes.proofs.read.read_sets.Given as goal
 
 abbrev pub invariant-loop-n : goal.invariant-loop-n

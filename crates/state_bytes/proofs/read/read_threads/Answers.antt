@@ -1,9 +1,7 @@
 -- `state_bytes::read::read_threads` meets its contract. The loop's invariant: the first t states are filled. Assumes nothing.
-use Prim.Native.Nat.{◌-◌}
 use native.Mathlib.Omega.{arith}
 use mathlib.Core.Path.{refl}
-use Rattle.state_bytes.specs.Layout.{thread_at}
-use Rattle.byte_fields.proofs.Fill.{Filled, filled_none, filled_more, filled_all}
+use Rattle.byte_fields.proofs.Fill.{filled_none, filled_more, filled_all}
 use Rattle.state_bytes.proofs.read.read_threads.Goals as goal
 
 pub loop-t-init : goal.loop-t-init

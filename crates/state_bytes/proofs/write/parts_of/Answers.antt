@@ -1,5 +1,4 @@
 -- `state_bytes::write::parts_of` meets its contract: each state has its number. Assumes nothing.
-use borrow.Author.Rules.{rules}
 use mathlib.Core.Path.{ap}
 use Rattle.state_bytes.specs.Layout.{thread_bytes}
 use Rattle.state_bytes.proofs.write.parts_of.Goals as goal

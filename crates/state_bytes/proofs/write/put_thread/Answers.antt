@@ -6,7 +6,6 @@ use mathlib.Core.Path.{ap, sym, ◌∙◌}
 use mathlib.Core.List.{List}
 use Rattle.byte_fields.specs.Bytes.{bytes_of, pasted}
 use Rattle.byte_fields.proofs.Paste.{stores_before}
-use borrow.Author.Rules.{rules}
 use Rattle.state_bytes.proofs.write.put_thread.Goals as goal
 
 pub bounds-state-at-2 : goal.bounds-state-at-2

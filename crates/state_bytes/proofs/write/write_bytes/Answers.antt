@@ -1,10 +1,9 @@
 -- `state_bytes::write::write_bytes` meets its contract. The loop's invariant: the first i bytes are put. Assumes nothing.
-use Prim.Native.Nat.{ℕ, ◌+◌, ◌-◌}
+use Prim.Native.Nat.{◌+◌}
 use native.Mathlib.Omega.{arith}
-use lib.ListN.{length, get_or}
-use Rattle.byte_fields.specs.Bytes.{bytes_of}
+use lib.ListN.{get_or}
 use Rattle.byte_fields.proofs.Bytes.{bytes_length}
-use Rattle.byte_fields.proofs.Paste.{PutFields, fields_none, fields_put, fields_all, fields_put_length, byte_pastes}
+use Rattle.byte_fields.proofs.Paste.{fields_none, fields_put, fields_all, fields_put_length, byte_pastes}
 use Rattle.state_bytes.proofs.write.write_bytes.Goals as goal
 
 pub loop-i-init : goal.loop-i-init

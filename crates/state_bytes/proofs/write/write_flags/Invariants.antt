@@ -1,11 +1,7 @@
 -- `state_bytes::write::write_flags` meets its contract. The loop's invariant: the first i flags are put. Assumes nothing.
-use Prim.Native.Nat.{ℕ, ◌+◌, ◌-◌}
-use native.Mathlib.Omega.{arith}
+use Prim.Native.Nat.{ℕ, ◌-◌}
 use lib.ListN.{length, get_or}
-use mathlib.Core.Path.{ap, sym, ◌∙◌}
-use mathlib.Core.List.{List}
-use Rattle.byte_fields.specs.Bytes.{pasted}
-use Rattle.byte_fields.proofs.Paste.{PutFields, fields_none, fields_put, fields_all, fields_put_length, store_pastes}
+use Rattle.byte_fields.proofs.Paste.{PutFields}
 use mathlib.Core.Bool.{false}
 use Rattle.state_bytes.specs.Layout.{flag_byte}
 use Rattle.state_bytes.proofs.write.write_flags.Given as goal

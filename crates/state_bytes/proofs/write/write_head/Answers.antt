@@ -1,13 +1,11 @@
 -- `state_bytes::write::write_head` meets its contract: ten fields, one after the other. Assumes nothing.
 use native.Mathlib.Omega.{arith}
 use mathlib.Core.Path.{refl}
-use mathlib.Core.List.{◌++◌}
 use Rattle.byte_fields.specs.Bytes.{bytes_of}
 use Rattle.state_bytes.specs.Layout.{lock_coupled}
 use Rattle.state_bytes.specs.Head.{head_of}
 use Rattle.byte_fields.proofs.Bytes.{bytes_length}
-use Rattle.byte_fields.proofs.Paste.{Put, put_none, put_more, put_length}
-use borrow.Author.Rules.{rules}
+use Rattle.byte_fields.proofs.Paste.{Put, put_none, put_more}
 use Rattle.state_bytes.proofs.write.write_head.Goals as goal
 
 pub put_number-requires-6 : goal.put_number-requires-6

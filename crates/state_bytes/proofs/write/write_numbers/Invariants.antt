@@ -1,10 +1,8 @@
 -- `state_bytes::write::write_numbers` meets its contract. The loop's invariant: the first i numbers are put. Assumes nothing.
-use Prim.Native.Nat.{ℕ, ◌+◌, ◌*◌, ◌-◌}
-use native.Mathlib.Omega.{arith}
+use Prim.Native.Nat.{ℕ, ◌-◌}
 use lib.ListN.{length, get_or}
 use Rattle.byte_fields.specs.Bytes.{bytes_of}
-use Rattle.byte_fields.proofs.Bytes.{bytes_length}
-use Rattle.byte_fields.proofs.Paste.{PutFields, fields_none, fields_put, fields_all, fields_put_length}
+use Rattle.byte_fields.proofs.Paste.{PutFields}
 use Rattle.state_bytes.proofs.write.write_numbers.Given as goal
 
 abbrev pub invariant-loop-i : goal.invariant-loop-i

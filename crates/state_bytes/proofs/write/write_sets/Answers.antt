@@ -1,12 +1,11 @@
 -- `state_bytes::write::write_sets` meets its contract. The loop's invariant: the first i sets are put. Assumes nothing.
-use Prim.Native.Nat.{ℕ, ◌+◌, ◌*◌, ◌-◌}
+use Prim.Native.Nat.{◌+◌, ◌*◌}
 use native.Mathlib.Omega.{arith}
-use lib.ListN.{length, get_or}
+use lib.ListN.{get_or}
 use Rattle.state_bytes.proofs.StateParts.{set_length}
-use Rattle.byte_fields.proofs.Paste.{PutFields, fields_none, fields_put, fields_all, fields_put_length}
+use Rattle.byte_fields.proofs.Paste.{fields_none, fields_put, fields_all, fields_put_length}
 use mathlib.Core.List.{[]}
 use Rattle.node_set.specs.Members.{member}
-use Rattle.state_bytes.specs.Layout.{set_bytes}
 use Rattle.state_bytes.proofs.write.write_sets.Goals as goal
 
 pub loop-i-init : goal.loop-i-init

@@ -1,9 +1,7 @@
 -- `state_bytes::write::write_sets` meets its contract. The loop's invariant: the first i sets are put. Assumes nothing.
-use Prim.Native.Nat.{ℕ, ◌+◌, ◌*◌, ◌-◌}
-use native.Mathlib.Omega.{arith}
+use Prim.Native.Nat.{ℕ, ◌-◌}
 use lib.ListN.{length, get_or}
-use Rattle.state_bytes.proofs.StateParts.{set_length}
-use Rattle.byte_fields.proofs.Paste.{PutFields, fields_none, fields_put, fields_all, fields_put_length}
+use Rattle.byte_fields.proofs.Paste.{PutFields}
 use mathlib.Core.List.{[]}
 use Rattle.node_set.specs.Members.{member}
 use Rattle.state_bytes.specs.Layout.{set_bytes}

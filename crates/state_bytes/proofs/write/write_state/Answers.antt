@@ -9,7 +9,6 @@ use Rattle.state_bytes.proofs.StateParts.{flag_length, set_length, thread_length
 use Rattle.byte_fields.proofs.Bytes.{bytes_length}
 use Rattle.byte_fields.proofs.Paste.{put_none, put_more, put_fields, put_whole}
 use Rattle.state_bytes.proofs.Shown.{head_length, shown_bytes}
-use borrow.Author.Rules.{rules}
 use Rattle.state_bytes.proofs.write.write_state.Goals as goal
 
 pub write_head-requires : goal.write_head-requires

@@ -1,9 +1,7 @@
 -- `state_bytes::write::write_threads` meets its contract. The loop's invariant: the first t threads are put. Assumes nothing.
-use Prim.Native.Nat.{ℕ, ◌+◌, ◌*◌, ◌-◌}
-use native.Mathlib.Omega.{arith}
+use Prim.Native.Nat.{ℕ, ◌-◌}
 use lib.ListN.{get_or}
-use Rattle.state_bytes.proofs.StateParts.{thread_length}
-use Rattle.byte_fields.proofs.Paste.{PutFields, fields_none, fields_put, fields_all, fields_put_length}
+use Rattle.byte_fields.proofs.Paste.{PutFields}
 use Rattle.model.specs.declared.Thread.TheVariants.{Idle}
 use Rattle.state_bytes.specs.Layout.{thread_bytes}
 use Rattle.state_bytes.proofs.write.write_threads.Given as goal
