@@ -15,7 +15,7 @@ use Rattle.model.specs.Serial.{serial_answers, serial_entries}
 use Rattle.model.specs.Store.{lay_out}
 use Rattle.model.specs.Setup.{Setup}
 use Rattle.model.specs.Image.{image_length, seq_in}
-use Rattle.model.specs.Step.{opened, steps}
+use Rattle.model.specs.Step.{opened}
 use Rattle.model.specs.Statement.{Accepted, wrote, serial_answer}
 use Rattle.model.specs.Checkpoint.{resumed, Resumes}
 use Rattle.model.proofs.Checkpoint.{restart}

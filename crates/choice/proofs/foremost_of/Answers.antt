@@ -1,22 +1,12 @@
 -- `choice::foremost_of` meets its contract. The loop's invariant: best is the foremost of the threads 0 to t, and highest its rank. The measure is
 -- how many threads are left. Assumes nothing.
-use Prim.Native.Nat.{ℕ, ◌+◌, ◌-◌, ◌≤◌, ◌<◌}
+use Prim.Native.Nat.{ℕ, ◌+◌, ◌≤◌, ◌<◌}
 use native.Mathlib.Numerals.{add-one}
 use native.Mathlib.Omega.{arith}
 use mathlib.Core.Path.{◌≡◌, refl, ap, ◌∙◌}
-use mathlib.Core.List.{List}
-use borrow.Author.Rules.{rules}
 use borrow.Author.Tests.{lt-ltb, le-ltb}
-use lib.ListN.{get_or}
-use Rattle.model.specs.declared.Thread.{Thread}
-use Rattle.model.specs.declared.Thread.TheVariants.{Idle}
-use Rattle.model.specs.Dispatch.{rank, foremost}
-use Rattle.graph.specs.Arrays.{numbers}
+use Rattle.model.specs.Dispatch.{foremost}
 use Rattle.choice.proofs.foremost_of.Goals as goal
-
--- the rank of the thread at a place
-abbrev rank_at : List ℕ → List Thread → ℕ → ℕ
-rank_at seq threads t = rank (numbers seq) (get_or threads t Idle)
 
 module _ (ranks : ℕ → ℕ) (t best highest next : ℕ) (is : best ≡ foremost ranks t) (has : highest ≡ ranks best) (new : next ≡ ranks (t + 1)) where
   -- a thread of a larger rank than the foremost of those before it is the foremost, by the definition's test

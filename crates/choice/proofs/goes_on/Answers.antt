@@ -1,7 +1,6 @@
 -- `choice::goes_on` meets its contract: each state of a thread goes on as in the model, settled or not. Assumes nothing.
 use mathlib.Core.Path.{◌≡◌, refl}
 use mathlib.Core.Bool.{Bool, true, false}
-use borrow.Author.Rules.{rules}
 use Rattle.model.specs.declared.Thread.{Thread}
 use Rattle.model.specs.Dispatch.{rank, is_idle, stands, goes_on}
 use Rattle.choice.proofs.goes_on.Goals as goal

@@ -1,7 +1,6 @@
 -- `choice::looks` meets its contract, test by test. Assumes nothing.
 use mathlib.Core.Path.{ap}
 use mathlib.Core.Bool.{not}
-use borrow.Author.Rules.{rules}
 use Rattle.choice.proofs.looks.Goals as goal
 
 pub returns-then-not-chooses : goal.returns-then-not-chooses

@@ -1,7 +1,6 @@
 -- `choice::next_plan` meets its contract: the plan stays where it should, and else, as it is settled, nobody else can be at work. Assumes nothing.
 use mathlib.Core.Path.{◌≡◌, refl, sym, ◌∙◌}
 use mathlib.Core.Bool.{Bool, true, false}
-use borrow.Author.Rules.{rules}
 use Rattle.model.specs.declared.Thread.{Thread}
 use Rattle.command.proofs.Tests.{true_false}
 use Rattle.choice.specs.declared.Plan.{Plan}

@@ -1,5 +1,4 @@
 -- `choice::rank_of` meets its contract: each state of a thread has the model's rank. Assumes nothing.
-use borrow.Author.Rules.{rules}
 use Rattle.model.specs.Dispatch.{rank}
 use Rattle.choice.proofs.rank_of.Goals as goal
 

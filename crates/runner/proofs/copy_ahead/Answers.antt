@@ -1,6 +1,6 @@
 -- `runner::copy_ahead` meets its contract. The loop's invariant: the first k threads are the schedule's. The measure is how many are left to
 -- copy. Assumes nothing.
-use Prim.Native.Nat.{ℕ, ◌+◌, ◌-◌, ◌≤◌, ◌<◌}
+use Prim.Native.Nat.{ℕ, ◌+◌, ◌<◌}
 use native.Mathlib.Omega.{arith}
 use mathlib.Core.Path.{◌≡◌, sym, ◌∙◌}
 use borrow.Author.Rules.{rules}
@@ -9,13 +9,10 @@ use mathlib.Core.Logic.{⊎_elim}
 use lib.ListN.{length, get_or, set, length-set}
 use lib.Seq.{get_or-set_same, get_or-set_other}
 use Rattle.command.proofs.Tests.{eqb_cases, le_cases}
+use Rattle.runner.proofs.copy_ahead.Invariants.{Copied}
 use Rattle.runner.proofs.copy_ahead.Goals as goal
 
--- so many threads are the schedule's from a place on
-abbrev Copied : List ℕ → ℕ → List ℕ → ℕ → Type 0
-Copied schedule done ahead k = (i : ℕ) → i < k → get_or ahead i 0 ≡ get_or schedule (done + i) 0
-
--- and with one more
+-- so many threads are the schedule's from a place on, and with one more
 copied_more : (schedule ahead : List ℕ) (done k : ℕ) → k < length ahead → Copied schedule done ahead k → Copied schedule done (set ahead k (get_or schedule (done + k) 0)) (k + 1)
 copied_more schedule ahead done k h all i less =
     ⊎_elim

@@ -1,14 +1,9 @@
 -- `runner::copy_ahead` meets its contract. The loop's invariant: the first k threads are the schedule's. The measure is how many are left to
 -- copy. Assumes nothing.
 use Prim.Native.Nat.{ℕ, ◌+◌, ◌-◌, ◌≤◌, ◌<◌}
-use native.Mathlib.Omega.{arith}
-use mathlib.Core.Path.{◌≡◌, sym, ◌∙◌}
-use borrow.Author.Rules.{rules}
+use mathlib.Core.Path.{◌≡◌}
 use mathlib.Core.List.{List}
-use mathlib.Core.Logic.{⊎_elim}
-use lib.ListN.{length, get_or, set, length-set}
-use lib.Seq.{get_or-set_same, get_or-set_other}
-use Rattle.command.proofs.Tests.{eqb_cases, le_cases}
+use lib.ListN.{length, get_or}
 use Rattle.runner.proofs.copy_ahead.Given as goal
 
 -- so many threads are the schedule's from a place on

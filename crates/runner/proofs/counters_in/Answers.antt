@@ -3,7 +3,6 @@ use native.Mathlib.Omega.{arith}
 use mathlib.Core.Path.{sym, ◌∙◌}
 use Rattle.state_bytes.specs.Layout.{state_length}
 use Rattle.byte_fields.proofs.Fill.{number_one}
-use borrow.Author.Rules.{rules}
 use Rattle.runner.proofs.counters_in.Goals as goal
 
 pub bounds-state-12 : goal.bounds-state-12

@@ -1,16 +1,12 @@
 -- `runner::perform` meets its contract. The outer loop's invariant: after so many steps the arrays show the state after them, and with what is
 -- left, the rest of the schedule or what the dispatcher still chooses, they are all. The inner loop's: the steps of the first j threads kept
 -- ahead are made. Assumes nothing.
-use Prim.Native.Nat.{◌+◌, ◌-◌, ◌^◌, ◌≤◌, ◌<◌}
-use native.Mathlib.Omega.{arith}
-use mathlib.Core.Path.{◌≡◌, refl, sym, ap, ◌∙◌}
-use borrow.Author.Rules.{rules}
-use mathlib.Core.Logic.{⊎_elim}
-use lib.ListN.{length, get_or}
-use Rattle.model.specs.Image.{image_length}
+use Prim.Native.Nat.{◌-◌, ◌≤◌}
+use mathlib.Core.Path.{◌≡◌}
+use lib.ListN.{length}
 use Rattle.graph.specs.Memory.{memory}
 use Rattle.runner.specs.Performed.{order_from, most}
-use Rattle.runner.proofs.Performing.{Along, Block, along_none, along_block, block_none, block_more, ahead_named, lent_long, named_still, most_fits, positive, performed, ready_for, PlannedBy, by_looking, by_keeping}
+use Rattle.runner.proofs.Performing.{Along, Block}
 use Rattle.runner.proofs.perform.Given as goal
 
 abbrev pub invariant-loop-j : goal.invariant-loop-j

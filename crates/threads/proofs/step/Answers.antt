@@ -1,7 +1,6 @@
 -- `threads::step` meets its contract: thread 0 takes the loader's step, any other a worker's. Assumes nothing.
 use mathlib.Core.Path.{sym}
 use mathlib.Core.List.{[]}
-use borrow.Author.Rules.{rules}
 use lib.ListN.{length}
 use Rattle.command.specs.Read.{commands_in}
 use Rattle.graph.proofs.Commands.{commands_length, kept_placed}

@@ -4,7 +4,6 @@ use mathlib.Core.Path.{◌≡◌, refl}
 use mathlib.Core.Bool.{true, false}
 use lib.ListN.{length}
 use borrow.Author.Tests.{le-leb, lt-leb, eq-eqb, ne_eqb}
-use borrow.Author.Rules.{rules}
 use Rattle.threads.proofs.LoaderSteps.{blocked, blocked_if, load_waits, load_takes}
 use Rattle.threads.proofs.Readiness.{ready_beside}
 use Rattle.threads.proofs.loader_thread.load_next.Goals.{then-answers-loaded-via-then-answers-loaded, then-answers-loaded-via-else-answers-loaded+then-free-eq0, then-answers-loaded-via-else-answers-loaded+else-free-eq0+then-locked-offset0}

@@ -1,5 +1,4 @@
 -- `threads::loader_thread::loader_step` meets its contract, by the loader's state. Assumes nothing.
-use borrow.Author.Rules.{rules}
 use Rattle.threads.proofs.LoaderSteps.{worker_state_waits, walk_steps}
 use Rattle.threads.proofs.Readiness.{from_known, ready_beside}
 use Rattle.threads.proofs.loader_thread.loader_step.Goals as goal

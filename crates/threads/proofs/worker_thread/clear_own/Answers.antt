@@ -1,7 +1,6 @@
 -- `threads::worker_thread::clear_own` meets its contract: `clear` makes the thread idle exactly where it returns the node, whose command is
 -- then forgotten. Assumes nothing.
 use mathlib.Core.Option.{none}
-use borrow.Author.Rules.{rules}
 use Rattle.graph.proofs.Commands.{kept_stored, kept_unchanged, none_at_zero}
 use Rattle.threads.proofs.WorkerSteps.{idle_returned, other_stayed}
 use Rattle.threads.proofs.worker_thread.clear_own.Goals as goal
