@@ -32,11 +32,11 @@ returns c =
     let third_end = c.put_byte-at.ensures.end in
     let fourth_end = c.put_number-at.ensures.end in
     let fifth_end = c.put_byte.ensures.end in
-    let first = rw c.of.ensures at c.put_start-at.ensures.wrote in (
-      wrote_then (omega arith)
+    let first = rw c.of.ensures at c.put_start-at.ensures.wrote in record {
+      wrote = wrote_then (omega arith)
           (wrote_then (omega arith)
           (wrote_then (omega arith) (wrote_then (omega arith) first c.put_text-at.ensures) c.put_byte-at.ensures)
           c.put_number-at.ensures)
-          c.put_byte.ensures,
-      omega arith,
-    )
+          c.put_byte.ensures;
+      upper_bound = omega arith;
+    }

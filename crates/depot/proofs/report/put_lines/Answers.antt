@@ -34,7 +34,7 @@ loop-i-preserved c =
     let cut : 16 * l.i + 16 - 16 * l.i ≡ 16 = omega arith in
     let own = first_from l.i c.args.answers.now c.answers_from-rest.result.now c.answers_from-rest.ensures.answers in
     let line = rw (own, add-one, cut) at c.put_line-at.ensures.wrote in
-    (omega arith, omega arith, omega arith, rw (add-one, fields_more) (wrote_then (omega arith) l.inv.3 line))
+    (omega arith, omega arith, omega arith, rw (add-one, fields_more) (wrote_then (omega arith) l.invariant.3 line))
 
 pub returns : goal.returns
 unfolding command_lines
@@ -42,4 +42,4 @@ returns c =
     let l = c.loop-i in
     let a = c.args in
     let count : length a.commands.now / 16 ≡ l.i = omega arith in
-    (rw count l.invariant.3, omega arith)
+    record { wrote = rw count l.invariant.3; upper_bound = omega arith }

@@ -27,9 +27,9 @@ put_byte-requires c = let place_length : length (decimal c.args.place.0) ≤ 4 =
 pub returns : goal.returns
 returns c =
     let place_length : length (decimal c.args.place.0) ≤ 4 = decimal_length 3 c.args.place.0 c.requires.1 in
-    let room = place_length in (
-      wrote_then (omega arith)
+    let room = place_length in record {
+      wrote = wrote_then (omega arith)
           (wrote_then (omega arith) (wrote_then (omega arith) c.put_number-at.ensures c.put_byte-at.ensures) c.put_kind-at.ensures.wrote)
-          c.put_byte.ensures,
-      omega arith,
-    )
+          c.put_byte.ensures;
+      upper_bound = omega arith;
+    }
