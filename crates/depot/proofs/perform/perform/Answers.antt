@@ -21,11 +21,13 @@ pub slice_bounds-open_and_advance-end-4 : goal.slice_bounds-open_and_advance-end
 slice_bounds-open_and_advance-end-4 c = sym (length-take-le c.args.count c.new_numbers-answers.result (omega arith))
 
 pub slice_bounds-image-end : goal.slice_bounds-image-end
+unfolding image_length
 slice_bounds-image-end c = let lent_image : ℕ = c.image_length-image_bytes.result in
     let image_small : lent_image ≤ 65552 = omega (arith, c.image_length-image_bytes.ensures, c.lent_entries-entries.ensures) in
     omega (arith, image_small, c.new_image-image.ensures)
 
 pub slice_bounds-open_and_advance-end-5 : goal.slice_bounds-open_and_advance-end-5
+unfolding image_length
 slice_bounds-open_and_advance-end-5 c =
     let lent_image : ℕ = c.image_length-image_bytes.result in
     let image_small : lent_image ≤ 65552 = omega (arith, c.image_length-image_bytes.ensures, c.lent_entries-entries.ensures) in
@@ -34,9 +36,10 @@ slice_bounds-open_and_advance-end-5 c =
 pub open_and_advance-requires : goal.open_and_advance-requires
 open_and_advance-requires c =
     let lent = length-take-le c.args.count c.new_numbers-answers.result (omega arith) in
-    ((omega arith, omega arith, omega arith), omega arith)
+    record { commands_len = (omega arith, omega arith, omega arith); state_len = omega arith }
 
 pub returns : goal.returns
+unfolding image_length
 returns c =
     let lent_image : ℕ = c.image_length-image_bytes.result in
     let image_small : lent_image ≤ 65552 = omega (arith, c.image_length-image_bytes.ensures, c.lent_entries-entries.ensures) in
