@@ -1,7 +1,6 @@
 -- `depot::perform::advance_and_report` meets its contract: a number that is not 0 is printed, and else the report of the lists that are left. Assumes nothing.
 use mathlib.Core.Path.{refl, sym, ap, ◌∙◌}
 use mathlib.Core.List.{[]}
-use borrow.Author.Rules.{rules}
 use Rattle.state_bytes.specs.Layout.{all_lists, lists}
 use Rattle.controller.specs.Calls.{advance_on}
 use Rattle.depot.specs.Program.{report, advanced}

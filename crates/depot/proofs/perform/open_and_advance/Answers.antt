@@ -1,6 +1,5 @@
 -- `depot::perform::open_and_advance` meets its contract: a number that is not 0 is printed, and else what the opened lists give. Assumes nothing.
 use mathlib.Core.Path.{sym, ap, ◌∙◌}
-use borrow.Author.Rules.{rules}
 use Rattle.state_bytes.specs.Layout.{all_lists}
 use Rattle.opening.specs.Calls.{nothing, open_on}
 use Rattle.depot.specs.Program.{advanced}

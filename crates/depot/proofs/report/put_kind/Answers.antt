@@ -1,7 +1,6 @@
 -- `depot::report::put_kind` meets its contract: nothing is written for an unknown kind, and each arm writes the name of its kind. Assumes
 -- nothing.
 use native.Mathlib.Omega.{arith}
-use borrow.Author.Rules.{rules}
 use Rattle.depot.proofs.Wrote.{wrote_nothing}
 use Rattle.depot.proofs.report.put_kind.Goals as goal
 

@@ -1,14 +1,11 @@
 -- `depot::report::put_lines` meets its contract. The loop's invariant: the lines of the first i commands stand at the start. Assumes nothing.
-use Prim.Native.Nat.{◌/◌, ℕ, suc, ◌+◌, ◌*◌, ◌-◌, ◌≤◌}
+use Prim.Native.Nat.{◌/◌, ℕ, suc, ◌+◌, ◌*◌, ◌-◌}
 use native.Mathlib.Numerals.{add-one}
 use native.Mathlib.Omega.{arith}
 use mathlib.Core.Path.{◌≡◌, refl}
 use mathlib.Core.List.{List}
-use borrow.Author.Rules.{rules}
 use lib.ListN.{length-take, length-drop, length, take, drop, get_or}
-use Rattle.byte_fields.specs.Bytes.{fields}
 use Rattle.depot.specs.Program.{command_line, command_lines}
-use Rattle.depot.specs.Wrote.{Wrote}
 use Rattle.depot.proofs.Wrote.{wrote_then}
 use Rattle.byte_fields.proofs.Paste.{fields_more}
 use Rattle.depot.proofs.Lines.{none_wrote, some_from, first_from}

@@ -1,6 +1,5 @@
 -- `depot::report::put_refusal` meets its contract: three texts one behind the other. Assumes nothing.
 use native.Mathlib.Omega.{arith}
-use borrow.Author.Rules.{rules}
 use Rattle.depot.specs.Program.{refusal}
 use Rattle.depot.proofs.Decimal.{decimal_length}
 use Rattle.depot.proofs.Wrote.{wrote_then}

@@ -1,7 +1,6 @@
 -- `depot::report::put_start` meets its contract: four texts one behind the other. Assumes nothing.
 use Prim.Native.Nat.{◌≤◌}
 use native.Mathlib.Omega.{arith}
-use borrow.Author.Rules.{rules}
 use lib.ListN.{length}
 use Rattle.depot.specs.Program.{decimal}
 use Rattle.depot.proofs.Decimal.{decimal_length}

@@ -1,7 +1,6 @@
 -- `depot::report::put_totals` meets its contract: five texts one behind the other. Assumes nothing.
 use Prim.Native.Nat.{◌≤◌}
 use native.Mathlib.Omega.{arith}
-use borrow.Author.Rules.{rules}
 use lib.ListN.{length}
 use Rattle.state_bytes.specs.Layout.{state_in}
 use Rattle.depot.specs.Program.{decimal, totals}

@@ -1,6 +1,5 @@
 -- `depot::text::put_number` meets its contract: the fewest digits that hold a number are its text. Assumes nothing.
 use mathlib.Core.Path.{◌≡◌, ◌∙◌}
-use borrow.Author.Rules.{rules}
 use lib.ListN.{take}
 use Rattle.depot.specs.Program.{decimal}
 use Rattle.depot.proofs.Decimal.{digits_decimal}
