@@ -9,7 +9,7 @@ use Rattle.depot.specs.Wrote.{Wrote}
 use Rattle.depot.proofs.report.put_lines.Given as goal
 
 -- the line of the command at an index
-abbrev line_of : List ℕ → List ℕ → ℕ → List ℕ
+abbrev pub line_of : List ℕ → List ℕ → ℕ → List ℕ
 line_of commands answers i = command_line (suc i) (take 16 (drop (16 * i) commands)) (get_or answers i 0)
 
 abbrev pub invariant-loop-i : goal.invariant-loop-i

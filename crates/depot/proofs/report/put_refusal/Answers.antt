@@ -14,5 +14,5 @@ put_byte-requires c = omega (arith, decimal_length 1 c.args.number c.requires.1)
 pub returns : goal.returns
 unfolding refusal
 returns c =
-    let length_two = decimal_length 1 c.args.number c.requires.1 in
+    let two = decimal_length 1 c.args.number c.requires.1 in
     wrote_then (omega arith) (wrote_then (omega arith) c.put_text-at.ensures c.put_number-at.ensures) c.put_byte.ensures

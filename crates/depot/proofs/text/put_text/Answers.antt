@@ -17,9 +17,6 @@ loop-i-preserved c =
     let step = paste-suc a.out.now a.at a.text.now l.i 0 (omega arith) (omega arith) in
     (omega arith, rw length-set l.invariant.1, rw (add-one, l.invariant.2) step)
 
-pub shape_of-out : goal.shape_of-out
-shape_of-out c = c.loop-i.invariant.1
-
 pub returns : goal.returns
 returns c =
     let l = c.loop-i in
