@@ -1,6 +1,6 @@
 -- What the program prints is what the model's steps reach: an accepted opening leaves the opening state's lists, the call on them performs
 -- the schedule, and what is read of the lists left is the state reached. Assumes nothing.
-use Prim.Native.Nat.{ℕ, suc, ◌+◌}
+use Prim.Native.Nat.{ℕ, suc}
 use native.Mathlib.Omega.{arith}
 use mathlib.Core.Path.{◌≡◌, refl, ap, ap₂, ◌∙◌}
 use mathlib.Core.List.{List, [], ◌++◌, append_assoc}
@@ -14,7 +14,6 @@ use Rattle.model.specs.Setup.{Setup}
 use Rattle.model.specs.Step.{State}
 use Rattle.byte_fields.specs.Bytes.{tabulate}
 use Rattle.state_bytes.specs.Layout.{lists_of, state_in}
-use Rattle.state_bytes.specs.Outcome.{accepted}
 use Rattle.opening.specs.Calls.{nothing, first_entries}
 use Rattle.state_bytes.proofs.RoundTrip.{lists_answers}
 use Rattle.byte_fields.proofs.Bytes.{tabulate_is}

@@ -1,6 +1,5 @@
 -- `depot::perform::image_length` meets its contract. Assumes nothing.
 use mathlib.Core.Path.{refl}
-use borrow.Author.Rules.{rules}
 use Rattle.model.specs.Image.{image_length}
 use Rattle.depot.proofs.perform.image_length.Goals as goal
 

@@ -1,11 +1,9 @@
 -- `depot::report::chain_length` meets its contract. The loop's invariant: the nodes counted, and those behind the last of them, are the chain.
 -- The measure is how many nodes may still follow. Assumes nothing.
-use Prim.Native.Nat.{◌-◌}
 use native.Mathlib.Omega.{arith}
 use mathlib.Core.Path.{refl, sym, ◌∙◌}
-use mathlib.Core.List.{[]}
-use Rattle.state_bytes.specs.Layout.{lists, state_in, state_length}
-use Rattle.depot.proofs.Chain.{Walked, walk_begins, walk_goes_on, walk_ends, walk_is_cut}
+use Rattle.state_bytes.specs.Layout.{state_length}
+use Rattle.depot.proofs.Chain.{walk_begins, walk_goes_on, walk_ends, walk_is_cut}
 use Rattle.depot.proofs.report.chain_length.Goals as goal
 
 pub loop-count-init : goal.loop-count-init
@@ -18,14 +16,17 @@ next_at-node-requires c = omega arith
 pub returns-then-node-eq0 : goal.returns-then-node-eq0
 returns-then-node-eq0 c =
     let l = c.loop-count in
-    (walk_ends _ l.node.0 l.count l.inv (sym (c.next_at-node.ensures _ refl) ∙ c.if-node-eq0.true), l.inv.0)
+    record {
+      value = walk_ends _ l.node.0 l.count l.invariant (sym (c.next_at-node.ensures _ refl) ∙ c.if-node-eq0.true);
+      upper_bound = l.invariant.0;
+    }
 
 pub loop-count-preserved : goal.loop-count-preserved
 loop-count-preserved c =
     let l = c.loop-count in
-    walk_goes_on _ l.node.0 c.next_at-node.result.0 l.count l.inv c.loop-count-test.true (c.next_at-node.ensures _ refl) c.if-node-eq0.false
+    walk_goes_on _ l.node.0 c.next_at-node.result.0 l.count l.invariant c.loop-count-test.true (c.next_at-node.ensures _ refl) c.if-node-eq0.false
 
 pub returns : goal.returns
 returns c =
     let l = c.loop-count in
-    (walk_is_cut _ l.node.0 l.count l.invariant c.loop-count-test.false, l.invariant.0)
+    record { value = walk_is_cut _ l.node.0 l.count l.invariant c.loop-count-test.false; upper_bound = l.invariant.0 }

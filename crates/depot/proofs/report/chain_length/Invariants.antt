@@ -1,11 +1,9 @@
 -- `depot::report::chain_length` meets its contract. The loop's invariant: the nodes counted, and those behind the last of them, are the chain.
 -- The measure is how many nodes may still follow. Assumes nothing.
 use Prim.Native.Nat.{◌-◌}
-use native.Mathlib.Omega.{arith}
-use mathlib.Core.Path.{refl, sym, ◌∙◌}
 use mathlib.Core.List.{[]}
-use Rattle.state_bytes.specs.Layout.{lists, state_in, state_length}
-use Rattle.depot.proofs.Chain.{Walked, walk_begins, walk_goes_on, walk_ends, walk_is_cut}
+use Rattle.state_bytes.specs.Layout.{lists, state_in}
+use Rattle.depot.proofs.Chain.{Walked}
 use Rattle.depot.proofs.report.chain_length.Given as goal
 
 abbrev pub invariant-loop-count : goal.invariant-loop-count

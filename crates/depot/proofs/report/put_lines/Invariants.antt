@@ -1,21 +1,15 @@
 -- `depot::report::put_lines` meets its contract. The loop's invariant: the lines of the first i commands stand at the start. Assumes nothing.
-use Prim.Native.Nat.{◌/◌, ℕ, suc, ◌+◌, ◌*◌, ◌-◌, ◌≤◌}
-use native.Mathlib.Numerals.{add-one}
-use native.Mathlib.Omega.{arith}
-use mathlib.Core.Path.{◌≡◌, refl}
+use Prim.Native.Nat.{ℕ, suc, ◌*◌, ◌-◌, ◌≤◌}
+use mathlib.Core.Path.{◌≡◌}
 use mathlib.Core.List.{List}
-use borrow.Author.Rules.{rules}
-use lib.ListN.{length-take, length-drop, length, take, drop, get_or}
+use lib.ListN.{length, take, drop, get_or}
 use Rattle.byte_fields.specs.Bytes.{fields}
-use Rattle.depot.specs.Program.{command_line, command_lines}
+use Rattle.depot.specs.Program.{command_line}
 use Rattle.depot.specs.Wrote.{Wrote}
-use Rattle.depot.proofs.Wrote.{wrote_then}
-use Rattle.byte_fields.proofs.Paste.{fields_more}
-use Rattle.depot.proofs.Lines.{none_wrote, some_from, first_from}
 use Rattle.depot.proofs.report.put_lines.Given as goal
 
 -- the line of the command at an index
-abbrev line_of : List ℕ → List ℕ → ℕ → List ℕ
+abbrev pub line_of : List ℕ → List ℕ → ℕ → List ℕ
 line_of commands answers i = command_line (suc i) (take 16 (drop (16 * i) commands)) (get_or answers i 0)
 
 abbrev pub invariant-loop-i : goal.invariant-loop-i

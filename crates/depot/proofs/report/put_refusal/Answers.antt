@@ -1,6 +1,5 @@
 -- `depot::report::put_refusal` meets its contract: three texts one behind the other. Assumes nothing.
 use native.Mathlib.Omega.{arith}
-use borrow.Author.Rules.{rules}
 use Rattle.depot.specs.Program.{refusal}
 use Rattle.depot.proofs.Decimal.{decimal_length}
 use Rattle.depot.proofs.Wrote.{wrote_then}
@@ -15,5 +14,5 @@ put_byte-requires c = omega (arith, decimal_length 1 c.args.number c.requires.1)
 pub returns : goal.returns
 unfolding refusal
 returns c =
-    let length_two = decimal_length 1 c.args.number c.requires.1 in
+    let two = decimal_length 1 c.args.number c.requires.1 in
     wrote_then (omega arith) (wrote_then (omega arith) c.put_text-at.ensures c.put_number-at.ensures) c.put_byte.ensures

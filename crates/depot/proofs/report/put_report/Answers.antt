@@ -2,7 +2,6 @@
 use native.Mathlib.Omega.{arith}
 use mathlib.Core.Path.{refl}
 use mathlib.Core.List.{[]}
-use borrow.Author.Rules.{rules}
 use Rattle.state_bytes.specs.Layout.{lists}
 use Rattle.depot.specs.Program.{report}
 use Rattle.depot.proofs.Chain.{totals_by_bytes}

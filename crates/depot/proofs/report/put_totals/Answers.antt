@@ -1,44 +1,28 @@
 -- `depot::report::put_totals` meets its contract: five texts one behind the other. Assumes nothing.
-use Prim.Native.Nat.{◌≤◌}
 use native.Mathlib.Omega.{arith}
-use borrow.Author.Rules.{rules}
-use lib.ListN.{length}
 use Rattle.state_bytes.specs.Layout.{state_in}
-use Rattle.depot.specs.Program.{decimal, totals}
+use Rattle.depot.specs.Program.{totals}
 use Rattle.depot.proofs.Decimal.{decimal_length}
 use Rattle.depot.proofs.Wrote.{wrote_then}
 use Rattle.depot.proofs.report.put_totals.Goals as goal
 
 pub put_number-at-requires : goal.put_number-at-requires
-put_number-at-requires c = let used_length : length (decimal c.number_at.result) ≤ 5 = decimal_length 4 c.number_at.result (omega arith) in
-    omega (arith, used_length)
+put_number-at-requires c = omega (arith, decimal_length 4 c.number_at.result (omega arith))
 
 pub put_text-at-requires-2 : goal.put_text-at-requires-2
-put_text-at-requires-2 c = let used_length : length (decimal c.number_at.result) ≤ 5 = decimal_length 4 c.number_at.result (omega arith) in
-    omega (arith, used_length)
+put_text-at-requires-2 c = omega (arith, decimal_length 4 c.number_at.result (omega arith))
 
 pub put_number-at-requires-2 : goal.put_number-at-requires-2
-put_number-at-requires-2 c = let count_length : length (decimal c.chain_length.result) ≤ 3 = decimal_length 2 c.chain_length.result (omega arith) in
-    let used_length : length (decimal c.number_at.result) ≤ 5 = decimal_length 4 c.number_at.result (omega arith) in
-    omega (arith, used_length, count_length)
+put_number-at-requires-2 c = omega (arith, decimal_length 4 c.number_at.result (omega arith), decimal_length 2 c.chain_length.result (omega arith))
 
 pub put_byte-requires : goal.put_byte-requires
-put_byte-requires c = let count_length : length (decimal c.chain_length.result) ≤ 3 = decimal_length 2 c.chain_length.result (omega arith) in
-    let used_length : length (decimal c.number_at.result) ≤ 5 = decimal_length 4 c.number_at.result (omega arith) in
-    omega (arith, used_length, count_length)
+put_byte-requires c = omega (arith, decimal_length 4 c.number_at.result (omega arith), decimal_length 2 c.chain_length.result (omega arith))
 
 pub returns : goal.returns
 unfolding totals state_in
 returns c =
-    let count_length : length (decimal c.chain_length.result) ≤ 3 = decimal_length 2 c.chain_length.result (omega arith) in
-    let used_length : length (decimal c.number_at.result) ≤ 5 = decimal_length 4 c.number_at.result (omega arith) in
-    let used_room = used_length in
-    let chain_room = count_length in
-    let room = c.requires in
-    let first_end = c.put_text-at.ensures.end in
-    let second_end = c.put_number-at.ensures.end in
-    let third_end = c.put_text-at-2.ensures.end in
-    let fourth_end = c.put_number-at-2.ensures.end in
+    let used = decimal_length 4 c.number_at.result (omega arith) in
+    let count = decimal_length 2 c.chain_length.result (omega arith) in
     let second = rw c.number_at.ensures at c.put_number-at.ensures in
     let fourth = rw c.chain_length.ensures.value at c.put_number-at-2.ensures in
     wrote_then (omega arith)

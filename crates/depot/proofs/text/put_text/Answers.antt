@@ -1,10 +1,10 @@
 -- `depot::text::put_text` meets its contract. The loop's invariant: the first i characters stand in their place. Assumes nothing.
-use Prim.Native.Nat.{◌+◌, ◌-◌, ◌≤◌}
+use Prim.Native.Nat.{◌+◌}
 use native.Mathlib.Omega.{arith}
 use native.Mathlib.Numerals.{add-one}
 use mathlib.Core.Path.{◌≡◌, refl, ap, ◌∙◌}
 use lib.ListN.{length, length-set}
-use lib.Seq.{paste, paste-zero, paste-suc, take-length}
+use lib.Seq.{paste-zero, paste-suc, take-length}
 use Rattle.depot.proofs.text.put_text.Goals as goal
 
 pub loop-i-init : goal.loop-i-init
@@ -16,9 +16,6 @@ loop-i-preserved c =
     let a = c.args in
     let step = paste-suc a.out.now a.at a.text.now l.i 0 (omega arith) (omega arith) in
     (omega arith, rw length-set l.invariant.1, rw (add-one, l.invariant.2) step)
-
-pub shape_of-out : goal.shape_of-out
-shape_of-out c = c.loop-i.invariant.1
 
 pub returns : goal.returns
 returns c =

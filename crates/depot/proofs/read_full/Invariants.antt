@@ -1,0 +1,9 @@
+-- `depot::read_full` meets its contract. The loop's invariant: the bytes read are within the list, whose length stays. Assumes nothing.
+use Rattle.std.proofs.Common.{length, ◌-◌, ◌≤◌, ◌≡◌}
+use Rattle.depot.proofs.read_full.Given as goal
+
+abbrev pub invariant-loop-done : goal.invariant-loop-done
+invariant-loop-done g l = (l.done ≤ length l.list) × (length l.list ≡ length l.initial.list)
+
+abbrev pub decreases-loop-done : goal.decreases-loop-done
+decreases-loop-done g l = length l.initial.list - l.done
