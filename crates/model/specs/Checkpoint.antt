@@ -1,5 +1,5 @@
 -- Restart (02, A.3) as a promise about every schedule: a run opened from the image that it leaves, with the rest of the list, gives the answers
--- and the table of the unbroken run. Cites Serial, Image and Step; proved in Proof/Checkpoint. Assumes nothing.
+-- and the table of the unbroken run. Cites Serial, Image and Step; proved in proofs/Checkpoint. Assumes nothing.
 use Rattle.std.specs.Prelude.{ℕ, ◌≤◌, ◌≡◌, true, List, drop}
 use Rattle.command.specs.Count.{largest_count}
 use Rattle.model.specs.Setup.{Setup}

@@ -1,5 +1,5 @@
 -- "A manager must be able to rely on this" (02, A.2), as a promise about every schedule: which worker has which command, and what the worker
--- count in force does. Cites Step; proved in Proof/Count. Assumes nothing.
+-- count in force does. Cites Step; proved in proofs/Count. Assumes nothing.
 use Rattle.std.specs.Prelude.{ℕ, suc, ◌≤◌, ◌<◌, ◌≡◌, Bool, true, cond, List, [], ◌∷◌, ltb}
 use Rattle.std.proofs.Math.Option.{Option, none, some}
 use Rattle.command.specs.declared.Command.{Command}

@@ -1,5 +1,5 @@
 -- The dispatcher's promise (02, A.6) for every state that a schedule reaches: its schedule removes every command, leaves every thread idle, and
--- is within the document's limit. Cites Dispatch and Statement alone; proved in Proof/Dispatching. Assumes nothing.
+-- is within the document's limit. Cites Dispatch and Statement alone; proved in proofs/Dispatching. Assumes nothing.
 use Rattle.std.specs.Prelude.{ℕ, suc, ◌≤◌, ◌≡◌, true, not, List, ◌++◌, length}
 use Rattle.node_set.specs.Members.{count_below}
 use Rattle.model.specs.declared.Thread.TheVariants.{Idle}

@@ -1,4 +1,4 @@
--- What holds of images. Statements only: Proof/ImageLaws proves them. Assumes nothing.
+-- What holds of images. Statements only: proofs/ImageLaws proves them. Assumes nothing.
 use Rattle.std.specs.Prelude.{ℕ, ◌+◌, ◌≤◌, ◌≡◌, true, List, [], length}
 use Rattle.model.specs.Serial.{Entry, Stored}
 use Rattle.model.specs.Store.{lay_out}

@@ -1,5 +1,5 @@
 -- "A worker's look and writing become one turn for kind 3; other kinds keep two." (02, A.8), as a promise about every schedule. Cites Step
--- and the serial run's answers; proved in Proof/OneTurn. Assumes nothing.
+-- and the serial run's answers; proved in proofs/OneTurn. Assumes nothing.
 use Rattle.std.specs.Prelude.{ℕ, ◌≤◌, ◌≡◌, true, List}
 use Rattle.std.proofs.Math.Option.{some}
 use Rattle.command.specs.declared.Kind.TheVariants.{Read}

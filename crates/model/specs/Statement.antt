@@ -1,6 +1,6 @@
 -- Demand 3 for the model: whatever the order of steps, each answer is the serial run's, the last table is the serial run's, and no order
 -- can block for good; with document 02's A.10, the table and the image at any moment. Cites Serial, Service, Step and Moment alone; proved in
--- Proof/. Assumes nothing.
+-- proofs/. Assumes nothing.
 use Rattle.std.specs.Prelude.{ℕ, ◌≤◌, ◌≡◌, Bool, true, false, cond, ◌&&◌, ◌||◌, List, [], ◌∷◌, ◌++◌, length, get_or, eqb, leb}
 use Rattle.std.proofs.Math.Option.{some}
 use Rattle.command.specs.declared.Command.{Command}

@@ -1,5 +1,5 @@
 -- The store of document 01, "Command list and store": two lists, both as long as the capacity ("room"), of which the first places are in
--- use. The operations are defined for any contents; on ascending keys they are the serial run's (Proof/Store). Assumes nothing.
+-- use. The operations are defined for any contents; on ascending keys they are the serial run's (proofs/Store). Assumes nothing.
 use Rattle.std.specs.Prelude.{ℕ, zero, suc, ◌+◌, ◌-◌, ◌/◌, min, Bool, cond, ◌&&◌, List, ◌∷◌, ◌++◌, map, length, get_or, take, drop, set, replicate, eqb, leb, ltb}
 use Rattle.model.specs.Serial.{Entry}
 

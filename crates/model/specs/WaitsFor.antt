@@ -1,5 +1,5 @@
 -- "Inserts that let reads through" (02, A.5), as a promise about every schedule: for whom a node waits. Cites Step; proved in
--- Proof/WaitsFor. Assumes nothing.
+-- proofs/WaitsFor. Assumes nothing.
 use Rattle.std.specs.Prelude.{ℕ, ◌<◌, ◌≡◌, true, false, ◌&&◌, ◌⊎◌, List}
 use Rattle.std.proofs.Math.Option.{some}
 use Rattle.command.specs.declared.Command.{Command}

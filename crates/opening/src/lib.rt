@@ -188,7 +188,9 @@ pub fn open_from(
     )
 }
 
-// Opens a list of commands, with the store of an image if there is one. A refusal leaves every list as it was.
+// Opens a list of commands, with the store of an image if there is one. A refusal leaves every list as it was. The archive for C
+// keeps its name, for debuggers.
+#[inline(never)]
 pub fn open_with(
     state: &mut [u8],
     keys: &mut [u64],
