@@ -37,15 +37,19 @@ module _ (o : Setup) where
   loader_without (Clearing at own) s = refl
 
   -- and a worker's for the commands and the capacity
+  holding_without : (t own : ℕ) (s : State) → holding (without_entries o) t own s ≡ holding o t own s
+  unfolding holding command_of
+  holding_without t own s =
+      let m : Option Command = command_of o s.graph own in
+      let found : ℕ = found_for m s.service.store in
+      ap (λ (s' : State). cond (in_one_step m) s' (serve_to t (LookedUp (node own) found) s.service s)) (looked_up_without t own found s)
+
   worker_without : (t : ℕ) (thread : Thread) (s : State) → worker_step (without_entries o) t thread s ≡ worker_step o t thread s
-  unfolding worker_step holding command_of
+  unfolding worker_step
   worker_without t Idle s = refl
   worker_without t (Loading at own) s = refl
   worker_without t (Searching at) s = refl
-  worker_without t (Holding own) s =
-      let m : Option Command = command_of o s.graph own.0 in
-      let found : ℕ = found_for m s.service.store in
-      ap (λ (s' : State). cond (in_one_step m) s' (serve_to t (LookedUp (node own.0) found) s.service s)) (looked_up_without t own.0 found s)
+  worker_without t (Holding own) s = holding_without t own.0 s
   worker_without t (LookedUp own found) s = looked_up_without t own.0 found s
   worker_without t (Written own) s = refl
   worker_without t (Walking at own) s = refl
