@@ -14,6 +14,7 @@ use Rattle.model.specs.Upd.{upd}
 use Rattle.model.specs.Setup.{Setup, both_dependent}
 use Rattle.model.specs.Graph.{Graph, set_next, set_seq, set_executing, set_locked, set_waits, set_free, set_loaded}
 use Rattle.model.specs.Service.{in_one_step}
+use Rattle.model.proofs.Searches.{searches}
 use Rattle.model.specs.Step.{State, node, opened, command_of, loader_step, loader_idle, load, loader_walk, link, add_dependence, step_on, move_to, serve_to, is_allowed, ready, idle, enter, searching, leave, examine, holding, looked_up, walking, bypass, clearing, return, worker_step, step, steps}
 use Rattle.model.specs.Statement.{Accepted, all_within}
 use Rattle.model.specs.Count.{count_before, node_of, with_limit, CountIsKept}
@@ -127,6 +128,7 @@ module _ (o : Setup) (acc : Accepted o) (s : State) (g : Ghost) (i : Inv o s g) 
     worker_owned Idle e = cond_cases (OwnedAt o) (is_allowed t s) (λ _. cond_cases (OwnedAt o) (s.graph.locked 0) (λ _. p) (λ _. empty t (Searching (node 0)) refl)) (λ _. p)
     worker_owned (Loading a x) e = p
     worker_owned (Searching a) e =
+        let looks = searches o t a s in
         let y = s.graph.next a.0 in
         cond_cases (OwnedAt o) (eqb y 0) (λ _. empty t Idle refl) (λ b. cond_cases (OwnedAt o) (s.graph.locked y) (λ _. p)
         (λ u. cond_cases (OwnedAt o) (is_allowed t s && ready s.graph y) (takes a e (eqb-false y 0 b) u) (λ _. empty t (Searching (node y)) refl)))

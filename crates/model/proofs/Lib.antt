@@ -1,4 +1,5 @@
 pub mod Upd
+pub mod Searches
 pub mod Trace
 pub mod Places
 pub mod Commute

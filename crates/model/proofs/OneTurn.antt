@@ -18,6 +18,7 @@ use Rattle.model.specs.Upd.{upd}
 use Rattle.model.specs.Setup.{Setup, command_at, both_dependent}
 use Rattle.model.specs.Graph.{Graph, set_next, set_seq, set_executing, set_locked, set_waits, set_free, set_loaded}
 use Rattle.model.specs.Service.{found_for, in_one_step}
+use Rattle.model.proofs.Searches.{searches}
 use Rattle.model.specs.Step.{State, node, opened, move_to, serve_to, command_of, step_on, load, loader_idle, link, add_dependence, loader_walk, loader_step, is_allowed, idle}
 use Rattle.model.specs.Step.{enter, ready, examine, leave, searching, holding, looked_up, bypass, walking, return, clearing, worker_step, step, steps}
 use Rattle.model.specs.Statement.{Accepted, all_within, serial_answer}
@@ -90,6 +91,7 @@ module _ (o : Setup) (s : State) (g : Ghost) (i : Inv o s g) (p : InTwoAt o s) w
     worker_two Idle e = cond_cases (InTwoAt o) (is_allowed t s) (λ _. cond_cases (InTwoAt o) (s.graph.locked 0) (λ _. p) (λ _. stays t (Searching (node 0)) refl)) (λ _. p)
     worker_two (Loading a x) e = p
     worker_two (Searching a) e =
+        let looks = searches o t a s in
         let y = s.graph.next a.0 in
         cond_cases (InTwoAt o) (eqb y 0) (λ _. stays t Idle refl) (λ _. cond_cases (InTwoAt o) (s.graph.locked y) (λ _. p)
         (λ _. cond_cases (InTwoAt o) (is_allowed t s && ready s.graph y) (λ _. stays t (Holding (node y)) refl) (λ _. stays t (Searching (node y)) refl)))

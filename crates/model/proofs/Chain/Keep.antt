@@ -4,10 +4,12 @@ use Rattle.std.proofs.Common.{arith, sym, ap, ◌∙◌}
 use Rattle.std.proofs.Math.Bool.{and-eq-true_iff}
 use Rattle.std.proofs.Math.Dec.{eqb}
 use borrow.Author.Tests.{eqb-true, eqb-false, leb-true, leb-false}
+use Rattle.node_set.specs.declared.Node.{Node}
 use Rattle.model.specs.declared.Thread.{Thread}
 use Rattle.model.specs.declared.Thread.TheVariants.{Idle, Loading, Searching, Holding, LookedUp, Written, Walking, Clearing}
 use Rattle.model.specs.Setup.{Setup}
 use Rattle.model.specs.Service.{in_one_step}
+use Rattle.model.proofs.Searches.{searches}
 use Rattle.model.specs.Step.{State, step, steps, loader_step, worker_step, loader_idle, loader_walk, command_of, enter, searching, examine, ready, holding, walking, clearing, is_allowed, idle}
 use Rattle.model.specs.Statement.{Accepted, all_within}
 use Rattle.command.proofs.Tests.{neither}
@@ -53,17 +55,25 @@ module _ (o : Setup) (acc : Accepted o) (s : State) (g : Ghost) (i : Inv o s g) 
   loader_keeps (Clearing a x) e = i
 
   module _ (t : ℕ) (low : 1 ≤ t) (high : t ≤ o.largest) where
-    worker_keeps : (th : Thread) → s.threads t ≡ th → Inv o (worker_step o t th s) (worker_ghost o th s g)
-    unfolding worker_step worker_ghost idle enter searching examine holding command_of walking clearing
-    worker_keeps Idle e = by (is_allowed t s) (λ _. by (s.graph.locked 0) (λ _. i) (search_entered o s g i t low high e)) (λ _. i)
-    worker_keeps (Loading a x) e = i
-    worker_keeps (Searching a) e =
+    searching_keeps : (a : Node) → s.threads t ≡ Searching a → Inv o (searching t a.0 (s.graph.next a.0) s) g
+    unfolding searching examine
+    searching_keeps a e =
         by (eqb (s.graph.next a.0) 0) (λ b. search_left o s g i t low high a e)
         (λ b. by (s.graph.locked (s.graph.next a.0)) (λ _. i)
         (λ u. by (is_allowed t s && ready s.graph (s.graph.next a.0)) (λ r. node_taken o acc s g i t low high a e (eqb-false (s.graph.next a.0) 0 b) u ((and-eq-true_iff (is_allowed t s) _).0 r).1)
         (λ r. search_stepped o s g i t low high a e (eqb-false (s.graph.next a.0) 0 b) u)))
-    worker_keeps (Holding x) e =
+
+    holding_keeps : (x : Node) → s.threads t ≡ Holding x → Inv o (holding o t x.0 s) (worker_ghost o (Holding x) s g)
+    unfolding worker_ghost holding command_of
+    holding_keeps x e =
         by_both (in_one_step (command_of o s.graph x.0)) (λ _. worker_read o s g i t low high x e acc) (λ _. worker_looked_up o s g i t low high x e)
+
+    worker_keeps : (th : Thread) → s.threads t ≡ th → Inv o (worker_step o t th s) (worker_ghost o th s g)
+    unfolding worker_step worker_ghost idle enter walking clearing
+    worker_keeps Idle e = by (is_allowed t s) (λ _. by (s.graph.locked 0) (λ _. i) (search_entered o s g i t low high e)) (λ _. i)
+    worker_keeps (Loading a x) e = i
+    worker_keeps (Searching a) e = let looks = searches o t a s in searching_keeps a e
+    worker_keeps (Holding x) e = holding_keeps x e
     worker_keeps (LookedUp x f) e = worker_written o acc s g i t low high x f e
     worker_keeps (Written x) e = by (s.graph.locked 0) (λ _. i) (walk_entered o s g i t low high x e)
     worker_keeps (Walking a x) e =

@@ -17,6 +17,7 @@ use Rattle.model.specs.Upd.{upd}
 use Rattle.model.specs.Setup.{Setup, both_dependent}
 use Rattle.model.specs.Graph.{set_locked, set_executing, set_waits, set_next, set_free, set_seq}
 use Rattle.model.specs.Service.{found_for, in_one_step, write_for}
+use Rattle.model.proofs.Searches.{searches}
 use Rattle.model.specs.Step.{State, node, step, worker_step, loader_step, searching, leave, step_on, examine, ready, move_to, serve_to, walking, bypass, clearing, return, enter, holding, looked_up, loader_walk, link, add_dependence, command_of, is_allowed}
 use Rattle.model.specs.Dispatch.{rank}
 use Rattle.command.proofs.Tests.{fails, true_false, none_some, eqb_cases}
@@ -122,7 +123,7 @@ module _ (o : Setup) (s : State) (g : Ghost) (i : Inv o s g) where
 
       searching_lowered : Φ o (worker_step o t (Searching a) s) (worker_ghost o (Searching a) s g) + 1 ≤ Φ o s g
       unfolding worker_step worker_ghost searching examine
-      searching_lowered = ⊎_elim (λ e. rw e.1 search_leaves) (λ e. rw (e.1, next_open a.0 (ap at here) e.0) (go e.0 (is_allowed t s && ready s.graph (s.graph.next a.0)) refl)) (eqb_cases (s.graph.next a.0) 0)
+      searching_lowered = let looks = searches o t a s in ⊎_elim (λ e. rw e.1 search_leaves) (λ e. rw (e.1, next_open a.0 (ap at here) e.0) (go e.0 (is_allowed t s && ready s.graph (s.graph.next a.0)) refl)) (eqb_cases (s.graph.next a.0) 0)
         where
           go : (s.graph.next a.0 ≡ 0 → ⊥) → (b : Bool) → is_allowed t s && ready s.graph (s.graph.next a.0) ≡ b → Φ o (examine t a.0 (s.graph.next a.0) s) g + 1 ≤ Φ o s g
           go more true e = rw e (search_takes more (not-true (s.graph.executing (s.graph.next a.0)) ((and-eq-true_iff (not (s.graph.executing (s.graph.next a.0))) (none_below 192 (s.graph.waits (s.graph.next a.0)))).0 ((and-eq-true_iff (is_allowed t s) _).0 e).1).0))

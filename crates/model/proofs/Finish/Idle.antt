@@ -14,6 +14,7 @@ use Rattle.model.specs.declared.Thread.TheVariants.{Idle, Loading, Searching, Ho
 use Rattle.model.specs.Upd.{upd}
 use Rattle.model.specs.Setup.{Setup}
 use Rattle.model.specs.Graph.{set_locked, set_executing, set_next, set_free, set_seq, set_loaded}
+use Rattle.model.proofs.Searches.{searches}
 use Rattle.model.specs.Step.{State, node, is_allowed, idle as step_idle, step, worker_step, loader_step, loader_idle, loader_walk, load, link, enter, searching, examine, ready, step_on, move_to}
 use Rattle.model.specs.Dispatch.{is_idle}
 use Rattle.command.proofs.Tests.{fails, none_some, eqb_cases}
@@ -77,7 +78,7 @@ module _ (o : Setup) (s : State) (g : Ghost) (i : Inv o s g) (idle : (t : ℕ) �
 
     takes : step o 1 entered ≡ held
     unfolding held entered step worker_step first searching examine is_allowed ready move_to set_locked
-    takes = rw (upd_same s.threads 1 (Searching (node 0)), ne_eqb (s.graph.next 0) 0 more, upd_other s.graph.locked 0 true (s.graph.next 0) more, open_all (s.graph.next 0), le-leb 1 s.service.limit allowed, first_ready)
+    takes = let looks = searches o 1 (node 0) entered in rw (upd_same s.threads 1 (Searching (node 0)), ne_eqb (s.graph.next 0) 0 more, upd_other s.graph.locked 0 true (s.graph.next 0) more, open_all (s.graph.next 0), le-leb 1 s.service.limit allowed, first_ready)
 
     enters_ghost : ghost_step o 1 s g ≡ g
     unfolding ghost_step worker_ghost

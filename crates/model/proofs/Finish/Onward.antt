@@ -13,6 +13,7 @@ use Rattle.model.specs.Setup.{Setup, both_dependent}
 use Rattle.model.specs.Upd.{upd}
 use Rattle.model.specs.Graph.{Graph, set_next, set_executing, set_locked, set_waits}
 use Rattle.model.specs.Service.{Service, found_for, in_one_step, write_for}
+use Rattle.model.proofs.Searches.{searches}
 use Rattle.model.specs.Step.{State, node, step, worker_step, loader_step, idle, enter, searching, leave, step_on, examine, ready, is_allowed, move_to, serve_to, walking, bypass, clearing, return, holding, looked_up, loader_idle, load, loader_walk, link, add_dependence, command_of}
 use Rattle.model.specs.Dispatch.{rank, stands}
 use Rattle.command.proofs.Tests.{true_false, eqb_cases, cond_cases, neither}
@@ -41,6 +42,7 @@ module _ (o : Setup) (s : State) (t : ℕ) where
   worker_others Idle = cond_cases (Others s t) (is_allowed t s) (λ _. waits_or (s.graph.locked 0) _ (moves _)) (λ _. stays)
   worker_others (Loading a x) = stays
   worker_others (Searching a) =
+      let looks = searches o t a s in
       let y = s.graph.next a.0 in
       cond_cases (Others s t) (eqb y 0) (λ _. moves _)
       (λ _. waits_or (s.graph.locked y) _ (cond_cases (Others s t) (is_allowed t s && ready s.graph y) (λ _. moves _) (λ _. moves _)))
@@ -109,6 +111,7 @@ module _ (o : Setup) (s : State) (g : Ghost) (i : Inv o s g) (t : ℕ) where
   worker_onward Idle here r = absurd (omega arith)
   worker_onward (Loading a x) here r = waits
   worker_onward (Searching a) here r =
+      let looks = searches o t a s in
       let y = s.graph.next a.0 in
       cond_cases (Onward s t) (eqb y 0) (λ _. leaves Idle (set_locked a.0 false s.graph) refl)
       (λ n. cond_cases (Onward s t) (s.graph.locked y) (λ _. waits) (λ _. cond_cases (Onward s t) (is_allowed t s && ready s.graph y)

@@ -17,6 +17,7 @@ use Rattle.model.specs.Setup.{Setup, command_at, both_dependent}
 use Rattle.model.specs.Graph.{Graph, no_node}
 use Rattle.model.specs.Image.{image_length}
 use Rattle.model.specs.Service.{Service, found_for, in_one_step, image_after, write_for}
+use Rattle.model.proofs.Searches.{searches}
 use Rattle.model.specs.Step.{State, node, move_to, serve_to, command_of, step_on, load, loader_idle, link, add_dependence, loader_walk, loader_step, is_allowed, idle}
 use Rattle.model.specs.Step.{enter, ready, examine, leave, searching, holding, looked_up, bypass, walking, return, clearing, worker_step, step, steps}
 use Rattle.model.specs.Statement.{all_within}
@@ -185,6 +186,7 @@ module _ (o : Setup) (fit : SetupFormed o) where
       worker_formed Idle e = cond_cases (Formed o) (is_allowed t s) (λ _. enter_formed (Searching (node 0)) (omega arith) refl) (λ _. k)
       worker_formed (Loading a x) e = k
       worker_formed (Searching a) e =
+          let looks = searches o t a s in
           let h = says k t e in
           let y = s.graph.next a.0 in
           cond_cases (Formed o) (eqb y 0) (λ _. leave_formed a.0 h)
