@@ -1,5 +1,7 @@
 -- `panel::status::status_at` meets its contract: a worker past the count is idle, any other as the state has it. Assumes nothing.
+use Prim.Native.Nat.{◌≤◌}
 use native.Mathlib.Omega.{arith}
+use lib.ListN.{get_or}
 use Rattle.state_bytes.specs.Layout.{state_length, state_in}
 use Rattle.panel.proofs.Showing.{past_shown, worker_shown}
 use Rattle.panel.proofs.status.status_at.Goals as goal
@@ -17,4 +19,5 @@ returns-then-worker-largest c l same =
 
 pub returns : goal.returns
 returns c l same =
-    worker_shown c.args.state.now l c.args.worker same c.requires.0 c.if-worker-largest.false c.requires.1 c.thread_at.ensures c.status_of.ensures
+    let within : c.args.worker ≤ get_or c.args.state.now 3 0 = omega arith in
+    worker_shown c.args.state.now l c.args.worker same c.requires.0 within c.requires.1 c.thread_at.ensures c.status_of.ensures
