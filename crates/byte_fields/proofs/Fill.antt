@@ -1,9 +1,9 @@
 -- Laws of reading: a loop that fills a list from the front makes a tabulated list, and a number grows by one byte at a time. Assumes nothing.
-use Prim.Native.Nat.{ℕ, zero, suc, ◌+◌, ◌*◌, ◌^◌, ◌≤◌, ◌<◌}
-use native.Mathlib.Nat.{pow-suc, pow-le-pow_right, add-zero}
+use Prim.Native.Nat.{ℕ, zero, suc, ◌+◌, ◌*◌, ◌≤◌, ◌<◌}
+use native.Mathlib.Nat.{add-zero}
 use native.Mathlib.Numerals.{add-one}
 use native.Mathlib.Omega.{arith}
-use mathlib.Core.Path.{◌≡◌, refl, sym, ap, ◌∙◌}
+use mathlib.Core.Path.{◌≡◌, refl, sym, ap, ap₂, ◌∙◌}
 use mathlib.Core.List.{List, [], ◌∷◌, ◌++◌}
 use lib.ListN.{length, get_or, take, drop, set, length-drop, length-set}
 use lib.Seq.{take_all, take-suc, take-suc-set, get_or-drop}
@@ -16,6 +16,16 @@ pub tabulate_more {ℓ} : {A : Type ℓ} (n : ℕ) (f : ℕ → A) → tabulate 
 unfolding tabulate
 tabulate_more zero f = refl
 tabulate_more (suc n) f = ap (λ (l : List _). f 0 ∷ l) (tabulate_more n (λ i. f (suc i)))
+
+-- tabulated lists with the same elements are the same
+pub tabulate_same {ℓ} : {A : Type ℓ} (n : ℕ) (f g : ℕ → A) → ((i : ℕ) → f i ≡ g i) → tabulate n f ≡ tabulate n g
+unfolding tabulate
+tabulate_same zero f g same = refl
+tabulate_same (suc n) f g same = ap₂ ◌∷◌ (same 0) (tabulate_same n (λ i. f (suc i)) (λ i. g (suc i)) (λ i. same (suc i)))
+
+-- so a list that one of them is, is the other
+pub tabulate_as {ℓ} : {A : Type ℓ} {f g : ℕ → A} {m n : ℕ} {xs : List A} → xs ≡ tabulate m f → m ≡ n → ((i : ℕ) → f i ≡ g i) → xs ≡ tabulate n g
+tabulate_as {f} {g} {m} {n} is e same = is ∙ tabulate_same m f g same ∙ ap (λ (k : ℕ). tabulate k g) e
 
 -- A list of n elements, of which the first i are f 0, f 1 and so on.
 pub record Filled {ℓ} {A : Type ℓ} (f : ℕ → A) (n : ℕ) (l : List A) (i : ℕ) : Type ℓ where
@@ -72,12 +82,3 @@ number_one at bytes h = number_more 0 at bytes (omega arith) ∙ rw (number_none
 pub number_two : (at : ℕ) (bytes : List ℕ) → at + 2 ≤ length bytes → number_at 2 at bytes ≡ get_or bytes at 0 * 256 + get_or bytes (at + 1) 0
 number_two at bytes h =
     number_more 1 at bytes (omega arith) ∙ rw (number_one at bytes (omega arith))
-
--- a number of i bytes and one byte more is one of i + 1 bytes
-pub byte_more : (i n b : ℕ) → n < 256 ^ i → b < 256 → n * 256 + b < 256 ^ (i + 1)
-byte_more i n b h k = rw (add-one, pow-suc 256 i) (omega arith)
-
--- so it fits eight bytes
-pub byte_fits : (i n b : ℕ) → n < 256 ^ i → b < 256 → i < 8 → n * 256 + b < 256 ^ 8
-byte_fits i n b h k short =
-    omega (arith, byte_more i n b h k, pow-le-pow_right {n = 256} (omega arith) {i = i + 1} {j = 8} (omega arith))

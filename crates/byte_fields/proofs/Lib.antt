@@ -1,3 +1,4 @@
 pub mod Bytes
 pub mod Fill
+pub mod Library
 pub mod Paste

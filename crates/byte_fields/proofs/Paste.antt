@@ -158,10 +158,6 @@ module _ {at width n : ℕ} {a b : List ℕ} {rest k : ℕ} (p : PutBytes at wid
         is = rw (p.is, p.rest_is) (store_before (at + (k - 1)) (n / 256 ^ p.done % 256) (at + k) (bytes_of p.done n) a (omega arith) ∙ rw from);
       }
 
-  -- the list is as long as it was
-  pub bytes_put_length : length b ≡ length a
-  bytes_put_length = ap length p.is ∙ pasted_length (at + k) (bytes_of p.done n) a
-
   -- after the last pass all are put
   pub bytes_all : k ≡ 0 → b ≡ pasted at (bytes_of width n) a
   bytes_all e =

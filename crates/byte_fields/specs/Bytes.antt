@@ -1,11 +1,16 @@
 -- Numbers as bytes, the high byte first, and fields one after the other. Assumes nothing.
-use Rattle.std.specs.Prelude.{ℕ, zero, suc, ◌+◌, ◌*◌, ◌/◌, ◌%◌, ◌^◌, Bool, true, ◌&&◌, List, [], ◌∷◌, ◌++◌, take, drop}
+use Rattle.std.specs.Prelude.{ℕ, zero, suc, ◌+◌, ◌*◌, ◌/◌, ◌%◌, ◌^◌, Bool, true, false, ◌&&◌, List, [], ◌∷◌, ◌++◌, take, drop}
 use Rattle.std.proofs.lemmas.List.Edits.{sets}
 
 -- the last k bytes of a number
 unfoldable pub bytes_of : ℕ → ℕ → List ℕ
 bytes_of zero n = []
 bytes_of (suc k) n = n / 256 ^ k % 256 ∷ bytes_of k n
+
+-- a flag as a byte
+abbrev pub flag_byte : Bool → List ℕ
+flag_byte false = 0 ∷ []
+flag_byte true = 1 ∷ []
 
 -- the number that bytes write, after those that wrote n
 unfoldable pub number_after : ℕ → List ℕ → ℕ

@@ -1,12 +1,12 @@
 -- Parts of a list that end where the list ends, at the latest. Assumes nothing.
 use Prim.Native.Nat.{ℕ, suc, ◌+◌, ◌-◌, ◌/◌, ◌≤◌, ◌<◌, min}
-use mathlib.Core.Path.{◌≡◌, ap}
-use mathlib.Core.List.{List, ◌∷◌, map}
+use mathlib.Core.Path.{◌≡◌, refl, ap}
+use mathlib.Core.List.{List, [], ◌∷◌, ◌++◌, map}
 use native.Mathlib.Decide.{dec_le}
 use native.Mathlib.Nat.{min-eq_left, min-eq_right}
 use native.Mathlib.Omega.{arith}
 use lib.ListN.{length, take, drop, length-drop, drop_of_length-le}
-use lib.Seq.{take_all, take-length, drop-length, drop-drop}
+use lib.Seq.{take_all, take_at, drop_at, take-length, drop-length}
 use Rattle.command.specs.Read.{read_command, parts, parts_of, readings, command_in, commands_in}
 
 -- a function that is the same from m on is the same at n and at the smaller of n and m
@@ -38,21 +38,30 @@ parts_cons bytes h =
     let more : (length bytes + 15) / 16 ≡ suc ((length (drop 16 bytes) + 15) / 16) = rw length-drop (omega arith) in
     rw more
 
--- the parts from a place on are the part there and those from its end on
-parts_from : (at : ℕ) (list : List ℕ) → at < length list →
-    let end = min (at + 16) (length list) in parts_of (drop at list) ≡ take (end - at) (drop at list) ∷ parts_of (drop end list)
-parts_from at list h =
-    let some : 0 < length (drop at list) = rw length-drop (omega arith) in
-    rw (part_min, drop_min, ← drop-drop 16 at list) (parts_cons (drop at list) some)
+-- a list that begins with a part, and holds nothing more where that is short, has this part and those of what is left
+parts_chunk : (part left : List ℕ) → length part ≡ min 16 (length (part ++ left)) → 0 < length (part ++ left) → parts_of (part ++ left) ≡ part ∷ parts_of left
+parts_chunk part left long some =
+    rw (parts_cons (part ++ left) some, ← take_min 16 (part ++ left), ← drop_min 16 (part ++ left), ← long, take_at part left (length part) refl, drop_at part left (length part) refl)
 
 -- and so are the readings
-pub readings_from : (at : ℕ) (list : List ℕ) → at < length list →
-    let end = min (at + 16) (length list) in readings (drop at list) ≡ read_command (take (end - at) (drop at list)) ∷ readings (drop end list)
+pub readings_chunk : (part left : List ℕ) → length part ≡ min 16 (length (part ++ left)) → 0 < length (part ++ left)
+    → readings (part ++ left) ≡ read_command part ∷ readings left
 unfolding readings
-readings_from at list h = ap (map read_command) (parts_from at list h)
+readings_chunk part left long some = ap (map read_command) (parts_chunk part left long some)
 
 -- and the commands
-pub commands_from : (at : ℕ) (list : List ℕ) → at < length list →
-    let end = min (at + 16) (length list) in commands_in (drop at list) ≡ command_in (take (end - at) (drop at list)) ∷ commands_in (drop end list)
+pub commands_chunk : (part left : List ℕ) → length part ≡ min 16 (length (part ++ left)) → 0 < length (part ++ left)
+    → commands_in (part ++ left) ≡ command_in part ∷ commands_in left
 unfolding commands_in
-commands_from at list h = ap (map command_in) (parts_from at list h)
+commands_chunk part left long some = ap (map command_in) (parts_chunk part left long some)
+
+-- no bytes hold no command
+pub readings_none : (list : List ℕ) → length list ≡ 0 → readings list ≡ []
+unfolding readings parts_of parts
+readings_none [] none = refl
+readings_none (b ∷ list) none = absurd (omega arith)
+
+pub commands_none : (list : List ℕ) → length list ≡ 0 → commands_in list ≡ []
+unfolding commands_in parts_of parts
+commands_none [] none = refl
+commands_none (b ∷ list) none = absurd (omega arith)

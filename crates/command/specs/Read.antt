@@ -1,23 +1,17 @@
 -- Commands as bytes: document 01, "Command list and store", and document 02, A.2 and A.3. Each definition quotes its sentence. Assumes nothing.
-use Rattle.std.specs.Prelude.{ℕ, zero, suc, ◌+◌, ◌*◌, ◌/◌, Bool, cond, ◌&&◌, List, [], ◌∷◌, map, length, get_or, take, drop, eqb, leb}
+use Rattle.std.specs.Prelude.{ℕ, zero, suc, ◌+◌, ◌*◌, ◌/◌, Bool, cond, ◌&&◌, List, [], ◌∷◌, map, length, get_or, take, drop, eqb, leb, ◌≡◌, Result, Ok, Err}
 use Rattle.std.proofs.Math.Option.{Option, none, some}
+use Rattle.s10.specs.declared.Reason.{Reason as TextReason}
 use Rattle.s10.specs.Refusal.{Refusal, plain, at_character, at_place}
 use Rattle.s10.specs.Text.{untested_key}
 use Rattle.s10.specs.Outcome.{read_text}
 use Rattle.s10.specs.Outcome as Identifier
 use Rattle.command.specs.declared.Kind.{Kind}
 use Rattle.command.specs.declared.Kind.TheVariants.{Insert, Delete, Read, Update, Workers, Checkpoint}
-use Rattle.command.specs.declared.AnyKind.{AnyKind}
-use Rattle.command.specs.declared.AnyKind.TheVariants.{Known, Unknown}
 use Rattle.command.specs.declared.Command.{Command}
 use Rattle.command.specs.declared.Reason.{Reason}
 use Rattle.command.specs.declared.Reason.TheVariants.{UnknownKind, WrongIdentifier, NotZero, WrongChute, WrongCount}
-use Rattle.command.specs.declared.Named.{Named}
-use Rattle.command.specs.declared.Named.TheVariants.{Key, Refused as NotNamed}
-use Rattle.command.specs.declared.Reading.{Reading}
-use Rattle.command.specs.declared.Reading.TheVariants.{Read as Accepted, Refused}
-use Rattle.command.specs.declared.ListReading.{ListReading}
-use Rattle.command.specs.declared.ListReading.TheVariants.{AllRead, RefusedAt}
+use Rattle.command.specs.declared.Refused.{Refused}
 use Rattle.command.specs.Dependent.{has_item}
 
 -- A command is accepted, or refused; its place is not known yet.
@@ -33,15 +27,22 @@ refusal_for (NotZero character) = at_character character.0 (plain 8)
 refusal_for WrongChute = plain 10
 refusal_for WrongCount = plain 14
 
+-- what `Refusal::from` gives for a reason, and `Reason::from` for an identifier's
+abbrev pub RefusedFor : Reason → Refusal → Type 0
+RefusedFor reason r = r ≡ refusal_for reason
+
+abbrev pub IsWrongIdentifier : TextReason → Reason → Type 0
+IsWrongIdentifier reason r = r ≡ WrongIdentifier reason
+
 -- the outcome that each answer of `Command::read` stands for
-abbrev pub command_outcome : Reading → CommandOutcome
-command_outcome (Accepted command) = accepted command
-command_outcome (Refused reason) = refused (refusal_for reason)
+abbrev pub command_outcome : Result Command Reason → CommandOutcome
+command_outcome (Ok command) = accepted command
+command_outcome (Err reason) = refused (refusal_for reason)
 
 -- the outcome that each answer of `Kind::read_identifier` stands for
-abbrev pub identifier_outcome : Named → Identifier.TextOutcome
-identifier_outcome (Key key) = Identifier.accepted key
-identifier_outcome (NotNamed reason) = Identifier.refused (refusal_for reason)
+abbrev pub identifier_outcome : Result ℕ Reason → Identifier.TextOutcome
+identifier_outcome (Ok key) = Identifier.accepted key
+identifier_outcome (Err reason) = Identifier.refused (refusal_for reason)
 
 -- "kind (1 insert, 2 delete, 3 read, 4 update)", "Kind 5 sets the worker count" (02, A.2), kind 6 "puts the store into a lent image" (02, A.3); any other number is no kind's
 unfoldable pub kind_of : ℕ → Option Kind
@@ -56,10 +57,17 @@ kind_number Update = 4
 kind_number Workers = 5
 kind_number Checkpoint = 6
 
--- the kind that each answer of `Kind::of` stands for
-abbrev pub known_kind : AnyKind → Option Kind
-known_kind (Known kind) = some kind
-known_kind Unknown = none
+-- the kind that each answer of `Kind::try_from` stands for; its only error is an unknown kind
+abbrev pub known_kind : Result Kind Reason → Option Kind
+known_kind (Ok kind) = some kind
+known_kind (Err reason) = none
+
+-- what `Kind::try_from` gives for a number, and `u8::from` for a kind
+abbrev pub IsKindOf : ℕ → Result Kind Reason → Type 0
+IsKindOf number r = (known_kind r ≡ kind_of number) × ((reason : Reason) → r ≡ Err reason → reason ≡ UnknownKind)
+
+abbrev pub IsNumberOf : Kind → ℕ → Type 0
+IsNumberOf kind number = number ≡ kind_number kind
 
 -- "Insert and update carry chute 1 to 512; delete and read carry 0"; kind 5's "chute field [is] the new count", 1 to 64; kind 6 has
 -- "chute 0"
@@ -146,10 +154,17 @@ first_refusal place [] = all_accepted
 first_refusal place (accepted command ∷ rest) = first_refusal (place + 1) rest
 first_refusal place (refused r ∷ rest) = list_refused (at_place place r)
 
+-- the refusal of a list at its first refused command, and what `Refusal::from` gives for it
+abbrev pub refusal_at : Refused → Refusal
+refusal_at first = at_place first.place.0 (refusal_for first.reason)
+
+abbrev pub RefusedAtFor : Refused → Refusal → Type 0
+RefusedAtFor first r = r ≡ refusal_at first
+
 -- the outcome that each answer of `read_list` stands for
-abbrev pub list_outcome : ListReading → ListOutcome
-list_outcome (AllRead largest) = all_accepted
-list_outcome (RefusedAt seq reason) = list_refused (at_place seq.0 (refusal_for reason))
+abbrev pub list_outcome : Result ℕ Refused → ListOutcome
+list_outcome (Ok largest) = all_accepted
+list_outcome (Err first) = list_refused (refusal_at first)
 
 -- the kind of a number that is not tested: one that is no kind's counts as a read's
 abbrev pub untested_kind : Option Kind → Kind

@@ -1,21 +1,20 @@
 // A command of 16 bytes: kind, identifier and chute.
 #![tactic(auto)]
 
-ghost use Rattle.std.specs.Prelude.{◌≡◌, ℕ, ◌+◌, ◌*◌, ◌≤◌, min, max, cond, ◌&&◌, leb};
+ghost use Rattle.std.specs.Prelude.{◌≡◌, ℕ, ◌+◌, ◌*◌, ◌==◌, not, cond, position};
 ghost use Rattle.s10.specs.Text.{untested_key};
 ghost use Rattle.s10.specs.Outcome.{accepted};
-ghost use Rattle.command.specs.declared.ListReading.TheVariants.{AllRead};
-ghost use Rattle.command.specs.Read.{refusal_for, command_outcome, known_kind, kind_of, chute_fits, chute_refusal, first_not_zero, read_zeros, read_identifier, identifier_outcome, with_chute, read_command, untested_kind, command_in, commands_in, list_outcome, first_refusal, readings, kind_number};
+ghost use Rattle.command.specs.Read.{RefusedFor, RefusedAtFor, IsWrongIdentifier, IsKindOf, IsNumberOf, refusal_for, command_outcome, kind_of, chute_fits, chute_refusal, read_zeros, read_identifier, identifier_outcome, with_chute, read_command, untested_kind, command_in, commands_in, list_outcome, first_refusal, readings};
 ghost use Rattle.command.specs.Dependent.{has_item, is_insert_or_delete, is_read, is_checkpoint, are_dependent};
 ghost use Rattle.command.specs.Count.{count_after, largest_count};
 
-use s10::{Character, Identifier};
+use s10::{Character, Identifier, Refusal};
 
 // A command's place in the list, from 1 ("delivery place" of document 01); 0 is none.
-#[derive(Clone, Copy)]
+#[derive(Clone, Copy, Debug, PartialEq, Eq)]
 pub struct Seq(pub usize);
 
-#[derive(Clone, Copy)]
+#[derive(Clone, Copy, Debug, PartialEq, Eq)]
 pub enum Kind {
     Insert,
     Delete,
@@ -27,14 +26,7 @@ pub enum Kind {
     Checkpoint,
 }
 
-// What the number of a kind stands for.
-#[derive(Clone, Copy)]
-pub enum AnyKind {
-    Known(Kind),
-    Unknown,
-}
-
-#[derive(Clone, Copy)]
+#[derive(Clone, Copy, Debug, PartialEq, Eq)]
 pub struct Command {
     pub kind: Kind,
     pub key: u64,
@@ -42,7 +34,7 @@ pub struct Command {
 }
 
 // Why a command is refused.
-#[derive(Clone, Copy)]
+#[derive(Clone, Copy, Debug, PartialEq, Eq)]
 pub enum Reason {
     UnknownKind,
     WrongIdentifier(s10::Reason),
@@ -52,53 +44,43 @@ pub enum Reason {
     WrongCount,
 }
 
-// What reading the identifier of a command finds.
-#[derive(Clone, Copy)]
-enum Named {
-    Key(u64),
-    Refused(Reason),
+// The first command of a list that is refused, and why.
+#[derive(Clone, Copy, Debug, PartialEq, Eq)]
+pub struct Refused {
+    pub place: Seq,
+    pub reason: Reason,
 }
 
-// What reading one command finds.
-#[derive(Clone, Copy)]
-pub enum Reading {
-    Read(Command),
-    Refused(Reason),
+impl From<s10::Reason> for Reason {
+    ghost from_gives = { IsWrongIdentifier };
+
+    fn from(reason: s10::Reason) -> Reason {
+        Reason::WrongIdentifier(reason)
+    }
 }
 
-// What reading a list of commands finds: every command read, with the largest worker count that they set, 0 for none; or the
-// first that was refused.
-#[derive(Clone, Copy)]
-pub enum ListReading {
-    AllRead(usize),
-    RefusedAt(Seq, Reason),
-}
+impl From<Reason> for Refusal {
+    ghost from_gives = { RefusedFor };
 
-impl Reason {
-    // The refusal's number.
-    pub fn number(self) -> u64
-        ensures { (result ≡ (refusal_for self).number) × (result ≤ 14) }
-    {
-        match self {
-            Reason::UnknownKind => 7,
-            Reason::WrongIdentifier(reason) => reason.number(),
-            Reason::NotZero(_) => 8,
-            Reason::WrongChute => 10,
-            Reason::WrongCount => 14,
+    fn from(reason: Reason) -> Refusal {
+        match reason {
+            Reason::UnknownKind => Refusal::plain(7),
+            Reason::WrongIdentifier(reason) => Refusal::from(reason),
+            Reason::NotZero(character) => Refusal {
+                character: character.0,
+                ..Refusal::plain(8)
+            },
+            Reason::WrongChute => Refusal::plain(10),
+            Reason::WrongCount => Refusal::plain(14),
         }
     }
+}
 
-    // The identifier's first faulty character, 0 for none.
-    pub fn character(self) -> u8
-        ensures { result ≡ (refusal_for self).character }
-    {
-        match self {
-            Reason::UnknownKind => 0,
-            Reason::WrongIdentifier(reason) => reason.character(),
-            Reason::NotZero(character) => character.0,
-            Reason::WrongChute => 0,
-            Reason::WrongCount => 0,
-        }
+impl From<Refused> for Refusal {
+    ghost from_gives = { RefusedAtFor };
+
+    fn from(refused: Refused) -> Refusal {
+        Refusal::from(refused.reason).at_place(refused.place.0)
     }
 }
 
@@ -115,25 +97,22 @@ impl Command {
     const CHUTE: usize = Command::IDENTIFIER + Identifier::LENGTH;
 
     // The command of a part of the list.
-    pub fn read(part: &[u8]) -> Reading
+    #[tactic(auto, unfolding(crate::specs::Read::read_command, crate::specs::Read::with_kind, crate::specs::Read::kind_of))]
+    pub fn read(part: &[u8]) -> Result<Command, Reason>
         ensures { command_outcome result ≡ read_command part.now }
     {
-        if part.len() == 0 {
-            return Reading::Refused(Reason::UnknownKind);
-        }
-        let AnyKind::Known(kind) = Kind::of(part[0]) else {
-            return Reading::Refused(Reason::UnknownKind);
+        let Some(number) = part.first() else {
+            return Err(Reason::UnknownKind);
         };
-        let end = smaller(Command::CHUTE, part.len());
-        let identifier = kind.read_identifier(&part[Command::IDENTIFIER..end]);
-        match identifier {
-            Named::Key(key) => with_chute(kind, key, &part[end..]),
-            Named::Refused(reason) => Reading::Refused(reason),
-        }
+        let kind = Kind::try_from(*number)?;
+        let end = part.len().min(Command::CHUTE);
+        let key = kind.read_identifier(&part[Command::IDENTIFIER..end])?;
+        with_chute(kind, key, &part[end..])
     }
 
     // The command of a part that is not tested, as one that was read before: what its bytes say. A number that is no kind's counts
     // as a read's, and a part of another length as a read of key 0.
+    #[tactic(auto, unfolding(crate::specs::Read::command_in, crate::specs::Read::chute_of))]
     pub fn untested(part: &[u8]) -> Command
         ensures { result ≡ command_in part.now }
     {
@@ -146,7 +125,7 @@ impl Command {
         }
         let kind = Kind::untested(part[0]);
         let key = kind.untested_key(&part[Command::IDENTIFIER..Command::CHUTE]);
-        let chute = number_of(part[Command::CHUTE], part[Command::CHUTE + 1]);
+        let chute = u16::from_be_bytes([part[Command::CHUTE], part[Command::CHUTE + 1]]);
         Command { kind, key, chute }
     }
 
@@ -185,31 +164,48 @@ impl Command {
     }
 }
 
-impl Kind {
+impl TryFrom<u8> for Kind {
+    type Error = Reason;
+
+    ghost try_from_gives = { IsKindOf };
+
     // The kind of a number.
     #[tactic(auto, unfolding(crate::specs::Read::kind_of))]
-    pub fn of(number: u8) -> AnyKind
-        ensures { known_kind result ≡ kind_of number }
-    {
+    fn try_from(number: u8) -> Result<Kind, Reason> {
         match number {
-            1 => AnyKind::Known(Kind::Insert),
-            2 => AnyKind::Known(Kind::Delete),
-            3 => AnyKind::Known(Kind::Read),
-            4 => AnyKind::Known(Kind::Update),
-            5 => AnyKind::Known(Kind::Workers),
-            6 => AnyKind::Known(Kind::Checkpoint),
-            _ => AnyKind::Unknown,
+            1 => Ok(Kind::Insert),
+            2 => Ok(Kind::Delete),
+            3 => Ok(Kind::Read),
+            4 => Ok(Kind::Update),
+            5 => Ok(Kind::Workers),
+            6 => Ok(Kind::Checkpoint),
+            _ => Err(Reason::UnknownKind),
         }
     }
+}
 
+impl From<Kind> for u8 {
+    ghost from_gives = { IsNumberOf };
+
+    // The number of a kind.
+    fn from(kind: Kind) -> u8 {
+        match kind {
+            Kind::Insert => 1,
+            Kind::Delete => 2,
+            Kind::Read => 3,
+            Kind::Update => 4,
+            Kind::Workers => 5,
+            Kind::Checkpoint => 6,
+        }
+    }
+}
+
+impl Kind {
     // The kind of a number that is not tested: one that is no kind's counts as a read's.
     fn untested(number: u8) -> Kind
         ensures { result ≡ untested_kind (kind_of number) }
     {
-        match Kind::of(number) {
-            AnyKind::Known(kind) => kind,
-            AnyKind::Unknown => Kind::Read,
-        }
+        Kind::try_from(number).unwrap_or(Kind::Read)
     }
 
     // The key of an identifier that is not tested, of a command of the kind; 0 where the kind names no item.
@@ -222,48 +218,25 @@ impl Kind {
         Identifier::untested(text)
     }
 
-    // The number of a kind.
-    pub fn number(self) -> u8
-        ensures { result ≡ kind_number self }
-    {
-        match self {
-            Kind::Insert => 1,
-            Kind::Delete => 2,
-            Kind::Read => 3,
-            Kind::Update => 4,
-            Kind::Workers => 5,
-            Kind::Checkpoint => 6,
-        }
-    }
-
     #[tactic(auto, unfolding(crate::specs::Dependent::is_read))]
     pub fn is_read(self) -> bool
         ensures { result ≡ is_read self }
     {
-        match self {
-            Kind::Read => true,
-            Kind::Insert | Kind::Delete | Kind::Update | Kind::Workers | Kind::Checkpoint => false,
-        }
+        self == Kind::Read
     }
 
     #[tactic(auto, unfolding(crate::specs::Dependent::is_insert_or_delete))]
     pub fn is_insert_or_delete(self) -> bool
         ensures { result ≡ is_insert_or_delete self }
     {
-        match self {
-            Kind::Insert | Kind::Delete => true,
-            Kind::Read | Kind::Update | Kind::Workers | Kind::Checkpoint => false,
-        }
+        matches!(self, Kind::Insert | Kind::Delete)
     }
 
     #[tactic(auto, unfolding(crate::specs::Dependent::is_checkpoint))]
     pub fn is_checkpoint(self) -> bool
         ensures { result ≡ is_checkpoint self }
     {
-        match self {
-            Kind::Checkpoint => true,
-            Kind::Insert | Kind::Delete | Kind::Read | Kind::Update | Kind::Workers => false,
-        }
+        self == Kind::Checkpoint
     }
 
     // Whether a command of this kind is for an item.
@@ -271,22 +244,16 @@ impl Kind {
     pub fn has_item(self) -> bool
         ensures { result ≡ has_item self }
     {
-        match self {
-            Kind::Insert | Kind::Delete | Kind::Read | Kind::Update => true,
-            Kind::Workers | Kind::Checkpoint => false,
-        }
+        !matches!(self, Kind::Workers | Kind::Checkpoint)
     }
 
-    // The identifier of a command of this kind: an item's, or zeros where it is for none.
-    fn read_identifier(self, text: &[u8]) -> Named
+    // The key of the identifier of a command of this kind: an item's, or zeros where it is for none.
+    #[tactic(auto, unfolding(crate::specs::Read::read_identifier))]
+    fn read_identifier(self, text: &[u8]) -> Result<u64, Reason>
         ensures { identifier_outcome result ≡ read_identifier self text.now }
     {
         if self.has_item() {
-            let identifier = Identifier::read(text);
-            return match identifier {
-                s10::Reading::Key(key) => Named::Key(key),
-                s10::Reading::Refused(reason) => Named::Refused(Reason::WrongIdentifier(reason)),
-            };
+            return Ok(Identifier::read(text)?);
         }
         read_zeros(text)
     }
@@ -308,101 +275,64 @@ impl Kind {
         ensures { result ≡ chute_fits self chute }
     {
         match self {
-            Kind::Insert | Kind::Update => is_within(chute, Command::LARGEST_CHUTE),
+            Kind::Insert | Kind::Update => (1..=Command::LARGEST_CHUTE).contains(&chute),
             Kind::Delete | Kind::Read | Kind::Checkpoint => chute == 0,
-            Kind::Workers => is_within(chute, Command::MOST_WORKERS),
+            Kind::Workers => (1..=Command::MOST_WORKERS).contains(&chute),
         }
     }
 }
 
-// Where the first character stands that is not 0, from 0; the length where all are.
-fn first_not_zero(text: &[u8]) -> usize
-    ensures { result ≡ first_not_zero 0 text.now }
+// Where the first character stands that is not 0, from 0, if one is not.
+fn first_not_zero(text: &[u8]) -> Option<usize>
+    ensures { result ≡ position (λ c. not (c == 48)) text.now }
 {
-    let mut i = 0;
-    while i < text.len() {
-        if text[i] != b'0' {
-            return i;
-        }
-        i += 1;
-    }
-    i
+    text.iter().position(|c| *c != b'0')
 }
 
-// An identifier of thirteen characters 0, which has key 0.
-fn read_zeros(text: &[u8]) -> Named
+// The key 0 of thirteen characters 0.
+#[tactic(auto, using(crate::proofs::Zeros::zeros_counted, crate::proofs::Zeros::zeros_within), unfolding(crate::specs::Read::read_zeros))]
+fn read_zeros(text: &[u8]) -> Result<u64, Reason>
     ensures { identifier_outcome result ≡ read_zeros text.now }
 {
     if text.len() != Identifier::LENGTH {
-        return Named::Refused(Reason::WrongIdentifier(s10::Reason::WrongLength));
+        return Err(Reason::WrongIdentifier(s10::Reason::WrongLength));
     }
-    let at = first_not_zero(text);
-    if at < Identifier::LENGTH {
-        return Named::Refused(Reason::NotZero(Character(at as u8 + 1)));
+    match first_not_zero(text) {
+        Some(at) => Err(Reason::NotZero(Character(at as u8 + 1))),
+        None => Ok(0),
     }
-    Named::Key(0)
-}
-
-// Whether a number is from 1 to the largest.
-fn is_within(number: u16, largest: u16) -> bool
-    ensures { result ≡ (leb 1 number && leb number largest) }
-{
-    1 <= number && number <= largest
-}
-
-// The number that two bytes write, the high one first.
-fn number_of(high: u8, low: u8) -> u16
-    ensures { result ≡ 256 * high + low }
-{
-    high as u16 * 256 + low as u16
-}
-
-// The larger of two counts.
-fn larger(a: usize, b: usize) -> usize
-    ensures { result ≡ max a b }
-{
-    if a < b { b } else { a }
-}
-
-// The smaller of two numbers.
-fn smaller(a: usize, b: usize) -> usize
-    ensures { result ≡ min a b }
-{
-    if a < b { a } else { b }
 }
 
 // The command of a kind, a key and the bytes of a chute.
 #[tactic(auto, unfolding(crate::specs::Read::with_chute, crate::specs::Read::chute_of))]
-fn with_chute(kind: Kind, key: u64, bytes: &[u8]) -> Reading
+fn with_chute(kind: Kind, key: u64, bytes: &[u8]) -> Result<Command, Reason>
     ensures { command_outcome result ≡ with_chute kind (accepted key) bytes.now }
 {
     if bytes.len() != Command::LENGTH - Command::CHUTE {
-        return Reading::Refused(kind.chute_reason());
+        return Err(kind.chute_reason());
     }
-    let chute = number_of(bytes[0], bytes[1]);
+    let chute = u16::from_be_bytes([bytes[0], bytes[1]]);
     if !kind.takes(chute) {
-        return Reading::Refused(kind.chute_reason());
+        return Err(kind.chute_reason());
     }
-    Reading::Read(Command { kind, key, chute })
+    Ok(Command { kind, key, chute })
 }
 
-// Reads every command of a list, in order, up to the first refusal.
-pub fn read_list(list: &[u8]) -> ListReading
+// Reads every command of a list, in order, up to the first refusal: the largest worker count that they set, 0 for none.
+#[tactic(auto, using(crate::proofs::Parts::readings_chunk, crate::proofs::Parts::commands_chunk, crate::proofs::Parts::readings_none, crate::proofs::Parts::commands_none, crate::proofs::Laws::accepted_as_untested), unfolding(crate::specs::Read::first_refusal, crate::specs::Count::largest_count))]
+pub fn read_list(list: &[u8]) -> Result<usize, Refused>
     ensures outcome { list_outcome result ≡ first_refusal 1 (readings list.now) }
-    ensures largest { (n : ℕ) → result ≡ AllRead n → n ≡ largest_count 0 (commands_in list.now) }
+    ensures largest { (n : ℕ) → result ≡ Ok n → n ≡ largest_count 0 (commands_in list.now) }
 {
-    let mut at = 0;
-    let mut seq = 1;
     let mut largest = 0;
-    while at < list.len() {
-        let end = smaller(at + Command::LENGTH, list.len());
-        let reading = Command::read(&list[at..end]);
-        match reading {
-            Reading::Read(command) => largest = larger(largest, command.count_after(largest)),
-            Reading::Refused(reason) => return ListReading::RefusedAt(Seq(seq), reason),
+    for (i, part) in list.chunks(Command::LENGTH).enumerate() {
+        match Command::read(part) {
+            Ok(command) => largest = command.count_after(largest).max(largest),
+            Err(reason) => {
+                let place = Seq(i + 1);
+                return Err(Refused { place, reason });
+            }
         }
-        at = end;
-        seq += 1;
     }
-    ListReading::AllRead(largest)
+    Ok(largest)
 }

@@ -23,7 +23,7 @@ use Rattle.byte_fields.proofs.Bytes.{◌▸◌, Bytes, number_read_below, number
 use Rattle.state_bytes.proofs.StateParts.{tag_of, at_of, own_of, found_of, thread_parts, set_parts, set_parts_lem, part_lengths, parts_of, parts_joined}
 use Rattle.state_bytes.proofs.RoundTrip.{lists_state, lists_answers, lists_keys, lists_chutes, lists_image}
 use Rattle.graph.proofs.Commands.{commands_length}
-use Rattle.state_bytes.proofs.Tested.{each_passed}
+use Rattle.state_bytes.proofs.Tests.{each_passed}
 use Rattle.state_bytes.proofs.Shown.{word_again}
 use Rattle.state_bytes.proofs.Passed.{Long, InRange, lengths_passed, state_passed}
 use Rattle.runner.proofs.Performing.{same_lists}

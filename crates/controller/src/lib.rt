@@ -1,38 +1,48 @@
 // Advancing: the tests of a handed-back state, then the steps of a schedule.
 #![tactic(auto)]
 
-ghost use Rattle.std.specs.Prelude.{◌≡◌, ◌≤◌};
+ghost use Rattle.std.specs.Prelude.{◌≡◌};
 ghost use Rattle.state_bytes.specs.Layout.{all_at_entry, all_at_exit};
 ghost use Rattle.state_bytes.specs.Outcome.{refusal_in, kept};
-ghost use Rattle.controller.specs.Calls.{advance_refusal, advance_on};
+ghost use Rattle.controller.specs.Calls.{advance_refusal, advance_on, RefusedFor, IsOfState};
 
-use runner::run;
-use state_bytes::{LARGEST, image_fits, lengths_fit, state_fits, threads_named};
+use runner::{Order, run};
+use s10::Refusal;
+use state_bytes::{LARGEST, image_fits, tested, threads_named};
 
-// What a call on a handed-back state answers.
-#[derive(Clone, Copy)]
-pub enum Advancing {
-    Advanced,
+// Why a schedule is refused.
+#[derive(Clone, Copy, Debug, PartialEq, Eq)]
+pub enum Reason {
     WrongLength,
     UnknownThread,
     WrongState,
 }
 
-impl Advancing {
-    // The answer's number.
-    pub fn number(self) -> u64
-        ensures { (result ≡ (advance_refusal self).number) × (result ≤ 12) }
-    {
-        match self {
-            Advancing::Advanced => 0,
-            Advancing::WrongLength => 6,
-            Advancing::UnknownThread => 11,
-            Advancing::WrongState => 12,
+impl From<state_bytes::Reason> for Reason {
+    ghost from_gives = { IsOfState };
+
+    fn from(reason: state_bytes::Reason) -> Reason {
+        match reason {
+            state_bytes::Reason::WrongLength => Reason::WrongLength,
+            state_bytes::Reason::WrongState => Reason::WrongState,
         }
     }
 }
 
-// Performs a schedule, one step a byte. A refusal leaves every list as it was.
+impl From<Reason> for Refusal {
+    ghost from_gives = { RefusedFor };
+
+    fn from(reason: Reason) -> Refusal {
+        match reason {
+            Reason::WrongLength => Refusal::plain(6),
+            Reason::UnknownThread => Refusal::plain(11),
+            Reason::WrongState => Refusal::plain(12),
+        }
+    }
+}
+
+// Performs a schedule, one step a byte. The lists are separate parameters, as
+// this public call has promised of them (`all_at_entry`, `all_at_exit`). A refusal leaves every list as it was.
 pub fn advance(
     state: &mut [u8],
     keys: &mut [u64],
@@ -41,31 +51,31 @@ pub fn advance(
     image: &mut [u8],
     commands: &[u8],
     schedule: &[u8],
-) -> Advancing
+) -> Result<(), Reason>
     ensures refusal { advance_refusal result ≡ refusal_in (advance_on (all_at_entry state keys chutes answers image) commands.now schedule.now) }
     ensures left { all_at_exit state keys chutes answers image ≡ kept (advance_on (all_at_entry state keys chutes answers image) commands.now schedule.now) (all_at_entry state keys chutes answers image) }
 {
-    if !lengths_fit(
+    tested(
         state,
-        answers.len(),
-        keys.len(),
+        keys,
         chutes.len(),
+        answers.len(),
         commands.len(),
-    ) {
-        return Advancing::WrongLength;
-    }
-    if !image_fits(state, image.len()) {
-        return Advancing::WrongLength;
-    }
-    if !state_fits(state, keys) {
-        return Advancing::WrongState;
-    }
+        image_fits(state, image.len()),
+    )?;
     if !threads_named(schedule, state[LARGEST]) {
-        return Advancing::UnknownThread;
+        return Err(Reason::UnknownThread);
     }
-    let mut none = [0u8; 1]; // no step is chosen
+    let order = Order::Given(schedule);
     run(
-        state, keys, chutes, answers, image, commands, schedule, &mut none, false, 0,
+        state,
+        keys,
+        chutes,
+        answers,
+        image,
+        commands,
+        order,
+        &mut [],
     );
-    Advancing::Advanced
+    Ok(())
 }

@@ -6,15 +6,20 @@ use mathlib.Core.Path.{◌≡◌, refl, ap, sym, ◌∙◌}
 use mathlib.Core.Bool.{Bool, true, false, cond, ◌&&◌}
 use mathlib.Core.List.{List, [], ◌∷◌, map}
 use mathlib.Core.Option.{Option, none, some}
+use Rattle.std.specs.Prelude.{Result, Ok, Err}
 use borrow.Author.Tests.{le-leb, lt-leb}
 use lib.ListN.{length, get_or, take, drop, length-replicate}
 use lib.Dec.{eqb, leb}
 use Rattle.s10.specs.Refusal.{Refusal, plain, at_place}
 use Rattle.s10.specs.Text.{asks_digit, first_fault, serial_digits, check_digit}
+use Rattle.s10.specs.declared.Reason.{Reason as IdentifierReason}
+use Rattle.s10.specs.declared.Reason.TheVariants.{WrongLength as WrongTextLength, WrongLetter, WrongDigit, WrongCheckDigit}
 use Rattle.s10.specs.Outcome.{fault_at, read_text}
 use Rattle.s10.specs.Outcome as Identifier
 use Rattle.command.specs.declared.Kind.{Kind}
 use Rattle.command.specs.declared.Kind.TheVariants.{Insert, Delete, Read, Update, Workers, Checkpoint}
+use Rattle.command.specs.declared.Reason.{Reason as CommandReason}
+use Rattle.command.specs.declared.Reason.TheVariants.{UnknownKind, WrongIdentifier, NotZero, WrongChute, WrongCount}
 use Rattle.command.specs.Dependent.{has_item}
 use Rattle.command.specs.Read.{first_refusal, parts_of, readings, read_command, with_kind, with_chute, kind_of, chute_fits, chute_refusal, chute_of, first_not_zero, read_zeros, read_identifier}
 use Rattle.command.specs.Read as Command
@@ -23,8 +28,14 @@ use Rattle.model.specs.Image.{image_length, empty_image}
 use Rattle.model.specs.Statement.{all_within}
 use Rattle.state_bytes.specs.Layout.{Lists, state_length, setup_in, state_fits, lengths_fit, handed_back_fit, image_fits}
 use Rattle.state_bytes.specs.Outcome.{CallOutcome, accepted, refused, refusal_in, kept}
-use Rattle.opening.specs.Calls.{Source, source_long, source_chained, source_fits, opened_with, open_on}
-use Rattle.controller.specs.Calls.{advance_on}
+use Rattle.opening.specs.Calls as Opening
+use Rattle.opening.specs.declared.Reason.{Reason as OpeningReason}
+use Rattle.opening.specs.declared.Reason.TheVariants.{WrongGraphSize, WrongWorkers, WrongCapacity, WrongListLength, TooManyCommands, WrongLength, WrongChain, WrongSlot, WrongCommand}
+use Rattle.opening.specs.Calls.{opening_refusal, Source, source_long, source_chained, source_fits, opened_with, open_on}
+use Rattle.controller.specs.Calls as Controller
+use Rattle.controller.specs.declared.Reason.{Reason as AdvanceReason}
+use Rattle.controller.specs.declared.Reason.TheVariants.{WrongLength as WrongListLengths, UnknownThread, WrongState}
+use Rattle.controller.specs.Calls.{advance_refusal, advance_on}
 use Rattle.byte_fields.proofs.Bytes.{below_or_past}
 use Rattle.depot.specs.Program.{refusal, printed, zeros}
 
@@ -129,15 +140,70 @@ advance_numbered l commands schedule =
 
 -- ---- what is printed
 
-pub printed_refused : (text : Lists → List ℕ) (o : CallOutcome) (n : ℕ) → n ≡ (refusal_in o).number → (n ≡ 0 → ⊥) → printed text o ≡ refusal n
+printed_refused : (text : Lists → List ℕ) (o : CallOutcome) (r : Refusal) → r ≡ refusal_in o → 0 < r.number → printed text o ≡ refusal r.number
 unfolding printed refusal_in
-printed_refused text (accepted l) n e not_0 = absurd (not_0 e)
-printed_refused text (refused r) n e not_0 = ap refusal (sym e)
+printed_refused text (accepted l) r e positive = absurd (omega (arith, ap (λ (r : Refusal). r.number) e))
+printed_refused text (refused s) r e positive = ap (λ (r : Refusal). refusal r.number) (sym e)
 
-pub printed_accepted : (text : Lists → List ℕ) (o : CallOutcome) (l left : Lists) → Numbered o → (refusal_in o).number ≡ 0 → left ≡ kept o l → printed text o ≡ text left
+printed_accepted : (text : Lists → List ℕ) (o : CallOutcome) (l left : Lists) → Numbered o → (refusal_in o).number ≡ 0 → left ≡ kept o l → printed text o ≡ text left
 unfolding printed refusal_in kept
 printed_accepted text _ l left (call_accepted m) e k = ap text (sym k)
 printed_accepted text _ l left (call_refused r positive) e k = absurd (omega arith)
+
+-- each reason's number is of one or two digits, and not 0
+abbrev pub Short : Refusal → Type 0
+Short r = (0 < r.number) × (r.number < 100)
+
+identifier_short : (reason : IdentifierReason) → Short (Identifier.refusal_for reason)
+identifier_short WrongTextLength = (omega arith, omega arith)
+identifier_short (WrongLetter character) = (omega arith, omega arith)
+identifier_short (WrongDigit character) = (omega arith, omega arith)
+identifier_short WrongCheckDigit = (omega arith, omega arith)
+
+command_short : (reason : CommandReason) → Short (Command.refusal_for reason)
+command_short UnknownKind = (omega arith, omega arith)
+command_short (WrongIdentifier reason) = identifier_short reason
+command_short (NotZero character) = (omega arith, omega arith)
+command_short WrongChute = (omega arith, omega arith)
+command_short WrongCount = (omega arith, omega arith)
+
+opening_short : (reason : OpeningReason) → Short (Opening.refusal_for reason)
+opening_short WrongGraphSize = (omega arith, omega arith)
+opening_short WrongWorkers = (omega arith, omega arith)
+opening_short WrongCapacity = (omega arith, omega arith)
+opening_short WrongListLength = (omega arith, omega arith)
+opening_short TooManyCommands = (omega arith, omega arith)
+opening_short WrongLength = (omega arith, omega arith)
+opening_short WrongChain = (omega arith, omega arith)
+opening_short WrongSlot = (omega arith, omega arith)
+opening_short (WrongCommand first) = command_short first.reason
+
+advance_short : (reason : AdvanceReason) → Short (Controller.refusal_for reason)
+advance_short WrongListLengths = (omega arith, omega arith)
+advance_short UnknownThread = (omega arith, omega arith)
+advance_short WrongState = (omega arith, omega arith)
+
+-- so a refused call's number is printed, and else what is left
+refused_short : (text : Lists → List ℕ) (o : CallOutcome) (r : Refusal) → Short r → r ≡ refusal_in o → (r.number < 100) × (printed text o ≡ refusal r.number)
+refused_short text o r short e = (short.1, printed_refused text o r e short.0)
+
+pub open_refused : (text : Lists → List ℕ) (o : CallOutcome) (answer : Result Unit OpeningReason) (reason : OpeningReason) (r : Refusal) → answer ≡ Err reason
+    → opening_refusal answer ≡ refusal_in o → r ≡ Opening.refusal_for reason → (r.number < 100) × (printed text o ≡ refusal r.number)
+open_refused text o answer reason r was e is = rw is (refused_short text o _ (opening_short reason) (sym (ap opening_refusal was) ∙ e))
+
+pub open_accepted : (text : Lists → List ℕ) (o : CallOutcome) (l left : Lists) (answer : Result Unit OpeningReason) (x : Unit) → Numbered o → answer ≡ Ok x
+    → opening_refusal answer ≡ refusal_in o → left ≡ kept o l → printed text o ≡ text left
+open_accepted text o l left answer x numbered was e k =
+    printed_accepted text o l left numbered (ap (λ (r : Refusal). r.number) (sym e ∙ ap opening_refusal was)) k
+
+pub advance_refused : (text : Lists → List ℕ) (o : CallOutcome) (answer : Result Unit AdvanceReason) (reason : AdvanceReason) (r : Refusal) → answer ≡ Err reason
+    → advance_refusal answer ≡ refusal_in o → r ≡ Controller.refusal_for reason → (r.number < 100) × (printed text o ≡ refusal r.number)
+advance_refused text o answer reason r was e is = rw is (refused_short text o _ (advance_short reason) (sym (ap advance_refusal was) ∙ e))
+
+pub advance_accepted : (text : Lists → List ℕ) (o : CallOutcome) (l left : Lists) (answer : Result Unit AdvanceReason) (x : Unit) → Numbered o → answer ≡ Ok x
+    → advance_refusal answer ≡ refusal_in o → left ≡ kept o l → printed text o ≡ text left
+advance_accepted text o l left answer x numbered was e k =
+    printed_accepted text o l left numbered (ap (λ (r : Refusal). r.number) (sym e ∙ ap advance_refusal was)) k
 
 -- ---- what is lent
 

@@ -68,7 +68,7 @@ advance_accepted l commands schedule =
 -- ---- dispatching
 
 -- an outcome of the dispatcher that answers 0 is no refusal
-abbrev IsMade : DispatchOutcome → Type 0
+abbrev pub IsMade : DispatchOutcome → Type 0
 IsMade outcome = packed (Dispatcher.refusal_in outcome) ≡ 0 → (d : Made) × (outcome ≡ made d)
 
 -- a number from 1 on is no answer 0
@@ -77,7 +77,7 @@ unfolding Dispatcher.refusal_in
 unmade_number n some e = absurd (omega arith)
 
 -- test by test, as above
-dispatch_made : (l : Lists) (commands lent : List ℕ) → IsMade (dispatch_on l commands lent)
+pub dispatch_made : (l : Lists) (commands lent : List ℕ) → IsMade (dispatch_on l commands lent)
 unfolding dispatch_on
 dispatch_made l commands lent =
     cond_cases IsMade (handed_back_fit l commands && image_fits (setup_in l.state commands).capacity l) (λ _.

@@ -1,4 +1,5 @@
 pub mod Entries
+pub mod Refused
 pub mod Outcomes
 pub mod Reporting
 pub mod RoundsLent

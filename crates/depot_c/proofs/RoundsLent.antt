@@ -7,7 +7,7 @@ use native.Mathlib.Omega.{arith}
 use borrow.Author.Tests.{eq-eqb, ne_eqb, eqb-true, leb-true, leb-false}
 use lib.Dec.{eqb, leb}
 use lib.ListN.{length}
-use Rattle.s10.specs.Refusal.{Refusal}
+use Rattle.s10.specs.declared.Refusal.{Refusal}
 use Rattle.byte_fields.specs.Bytes.{bytes_of}
 use Rattle.rounds.specs.Calls.{found, refused, rounds_on}
 use Rattle.rounds.proofs.Calls.{found_lent, too_many, place_low}
@@ -56,22 +56,22 @@ in_order rounds count r = by (eqb (rounds % 2) 0 && eqb count 8) refl
 
 -- ---- what is told
 
-module _ (commands rounds count room : List ℕ) (fits : UpTo (rounds_lent (length rounds) (length count)) (length room)) where
+module _ (commands rounds count : List ℕ) (room : ℕ) (fits : UpTo (rounds_lent (length rounds) (length count)) room) where
   -- of a list that has its rounds
-  pub told_found : (new : List ℕ) (n : ℕ) → found new n ≡ rounds_on commands (length room) →
+  pub told_found : (new : List ℕ) (n : ℕ) → found new n ≡ rounds_on commands room →
       (0 ≡ rounds_answer commands rounds count) × (bytes_in 2 new ≡ rounds_left commands rounds count) × (bytes_of 8 n ≡ round_count_left commands rounds count)
   unfolding round_bytes round_count_bytes
-  told_found new n e = rw (← same_outcome commands (rounds_lent (length rounds) (length count)) (length room) fits, ← e) (refl, refl, refl)
+  told_found new n e = rw (← same_outcome commands (rounds_lent (length rounds) (length count)) room fits, ← e) (refl, refl, refl)
 
   -- its lists are in order
-  pub found_in_order : (new : List ℕ) (n : ℕ) → found new n ≡ rounds_on commands (length room) → (length rounds ≡ 2 * length room) × (length count ≡ 8)
-  found_in_order new n e = in_order (length rounds) (length count) (length room) fits (found_lent commands (length room) new n (sym e)).1
+  pub found_in_order : (new : List ℕ) (n : ℕ) → found new n ≡ rounds_on commands room → (length rounds ≡ 2 * room) × (length count ≡ 8)
+  found_in_order new n e = in_order (length rounds) (length count) room fits (found_lent commands room new n (sym e)).1
 
   -- and of one that is refused
-  pub told_refused : (r : Refusal) → refused r ≡ rounds_on commands (length room) →
+  pub told_refused : (r : Refusal) → refused r ≡ rounds_on commands room →
       (packed r ≡ rounds_answer commands rounds count) × (rounds ≡ rounds_left commands rounds count) × (count ≡ round_count_left commands rounds count)
   unfolding round_bytes round_count_bytes
-  told_refused r e = rw (← same_outcome commands (rounds_lent (length rounds) (length count)) (length room) fits, ← e) (refl, refl, refl)
+  told_refused r e = rw (← same_outcome commands (rounds_lent (length rounds) (length count)) room fits, ← e) (refl, refl, refl)
 
-  pub refused_place : (r : Refusal) → refused r ≡ rounds_on commands (length room) → r.place ≤ 4096
-  refused_place r e = rw (← e) at (place_low commands (length room))
+  pub refused_place : (r : Refusal) → refused r ≡ rounds_on commands room → r.place ≤ 4096
+  refused_place r e = rw (← e) at (place_low commands room)

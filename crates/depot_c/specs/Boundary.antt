@@ -1,10 +1,11 @@
 -- What the exported functions answer and leave: the calls' own definitions, on numbers and byte lists. Assumes nothing.
-use Rattle.std.specs.Prelude.{ℕ, ◌+◌, ◌*◌, ◌/◌, ◌%◌, ◌≤◌, Bool, cond, ◌&&◌, List, [], ◌≡◌, length, eqb}
-use Rattle.s10.specs.Refusal.{Refusal}
+use Rattle.std.specs.Prelude.{ℕ, ◌+◌, ◌*◌, ◌/◌, ◌%◌, ◌≤◌, Bool, cond, ◌&&◌, List, [], ◌≡◌, length, eqb, leb, Result, Ok, Err}
+use Rattle.s10.specs.declared.Refusal.{Refusal}
+use Rattle.s10.specs.Refusal.{plain}
 use Rattle.s10.specs.Outcome.{read_text, refusal_read}
 use Rattle.s10.specs.Outcome as Identifier
 use Rattle.byte_fields.specs.Bytes.{bytes_of}
-use Rattle.state_bytes.specs.Layout.{Lists, all_lists, lists, state_in}
+use Rattle.state_bytes.specs.Layout.{Lists, all_lists, lists}
 use Rattle.state_bytes.specs.Outcome.{CallOutcome, accepted, refused, refusal_in}
 use Rattle.opening.specs.Calls.{Source, open_on}
 use Rattle.controller.specs.Calls.{advance_on}
@@ -12,16 +13,17 @@ use Rattle.dispatcher.specs.Calls.{needed_on, count_needed, DispatchOutcome, dis
 use Rattle.dispatcher.specs.Calls as Dispatcher
 use Rattle.rounds.specs.Calls.{rounds_on}
 use Rattle.rounds.specs.Calls as Rounds
-use Rattle.panel.specs.Reports.{pending_counts, worker_status_bytes, largest_in}
 use Rattle.depot_c.specs.Numbers.{numbers_in, bytes_in}
-use Rattle.depot_c.specs.declared.Wanted.{Wanted}
-use Rattle.depot_c.specs.declared.Wanted.TheVariants.{PendingCounts, WorkerStatus}
 
 -- ---- lists
 
 -- keys are eight bytes each, chutes and answers two
 unfoldable pub are_whole : ℕ → ℕ → ℕ → Bool
 are_whole keys chutes answers = eqb (keys % 8) 0 && eqb (chutes % 2) 0 && eqb (answers % 2) 0
+
+-- as many entries as an accepted call has at most
+abbrev pub have_room : ℕ → ℕ → ℕ → Bool
+have_room keys chutes answers = leb keys 4096 && leb chutes 4096 && leb answers 4096
 
 -- the lists of numbers that lists of bytes write; an image is bytes as it stands
 unfoldable pub number_lists : Lists → Lists
@@ -40,6 +42,15 @@ encoded l = all_lists l.state (bytes_in 8 l.keys) (bytes_in 2 l.chutes) (bytes_i
 -- a refusal in one number: its number in bits 0 to 7, the command's place from bit 8 on, the character in bits 32 to 39
 abbrev pub packed : Refusal → ℕ
 packed r = r.number + 256 * r.place + 4_294_967_296 * r.character
+
+-- a refusal that fits into one number
+abbrev pub Fits : Refusal → Type 0
+Fits r = (r.number ≤ 16) × (r.place ≤ 4096)
+
+-- the refusal of a call, `plain 0` for none
+abbrev pub refusal_of : Result Unit Refusal → Refusal
+refusal_of (Ok _) = plain 0
+refusal_of (Err r) = r
 
 -- what is answered, 0 for accepted
 unfoldable pub answer_of : CallOutcome → ℕ
@@ -145,25 +156,7 @@ read_answer text key = cond (eqb (length key) 8) (packed (refusal_read (read_tex
 unfoldable pub read_left : List ℕ → List ℕ → List ℕ
 read_left text key = cond (eqb (length key) 8) (bytes_read (read_text text) key) key
 
--- ---- the panel's reports
-
--- how many bytes a report has
-abbrev pub report_length : Wanted → ℕ
-report_length PendingCounts = 150
-report_length WorkerStatus = 128
-
--- the bytes of a report, of the state that lists write; the largest worker count is read from the state bytes
-abbrev pub report_in : Wanted → List ℕ → Lists → List ℕ
-report_in PendingCounts state l = pending_counts (state_in l)
-report_in WorkerStatus state l = worker_status_bytes (largest_in state) (state_in l)
-
--- ---- lent rooms
-
--- The rooms have an entry for each number of the bytes.
-pub record Rooms (keys chutes answers key_room chute_room answer_room : List ℕ) : Type 0 where
-  pub keys_fit : length keys ≡ 8 * length key_room
-  pub chutes_fit : length chutes ≡ 2 * length chute_room
-  pub answers_fit : length answers ≡ 2 * length answer_room
+-- ---- the room for rounds
 
 -- The room for rounds has as many entries as are lent, up to one too many.
 abbrev pub UpTo : ℕ → ℕ → Type 0

@@ -1,11 +1,24 @@
 // A call's answer in one number.
-ghost use Rattle.std.specs.Prelude.{◌≡◌, ◌≤◌};
-ghost use Rattle.depot_c.specs.Boundary.{packed};
+ghost use Rattle.std.specs.Prelude.{◌≡◌};
+ghost use Rattle.depot_c.specs.Boundary.{packed, refusal_of, Fits};
+
+use s10::Refusal;
 
 // A refusal's number, the command's place from bit 8 on, and the character from bit 32 on.
-pub fn packed(number: u64, place: usize, character: u8) -> u64
-    requires { (number ≤ 16) × (place ≤ 4096) }
-    ensures { result ≡ packed (record { number = number; place = place; character = character }) }
+fn packed(refusal: Refusal) -> u64
+    requires { Fits refusal }
+    ensures { result ≡ packed refusal }
 {
-    number + 256 * place as u64 + 4_294_967_296 * character as u64
+    refusal.number + 256 * refusal.place as u64 + 4_294_967_296 * refusal.character as u64
+}
+
+// The answer of a call: 0, or its refusal in one number.
+pub fn answer(outcome: Result<(), Refusal>) -> u64
+    requires { Fits (refusal_of outcome) }
+    ensures { result ≡ packed (refusal_of outcome) }
+{
+    match outcome {
+        Ok(()) => 0,
+        Err(refusal) => packed(refusal),
+    }
 }

@@ -1,33 +1,52 @@
 // Dispatching, and how long the list for it must be, on byte lists.
 ghost use Rattle.std.specs.Prelude.{◌≡◌};
 ghost use Rattle.state_bytes.specs.Layout.{at_entry, all_at_exit, all_at_entry};
-ghost use Rattle.dispatcher.specs.Calls.{needed_refusal, needed_count, dispatch_refusal, dispatch_count, needed_on, count_needed, dispatch_on, refusal_in, count_in, lent_left};
-ghost use Rattle.depot_c.specs.Boundary.{number_lists, packed, made_left, needed_answer, needed_left, dispatch_answer, dispatch_left, schedule_left, count_left, Rooms};
+ghost use Rattle.dispatcher.specs.Calls.{call_refusal, call_count, dispatch_on, refusal_in, count_in, lent_left};
+ghost use Rattle.depot_c.specs.Lent.{AreRooms};
+ghost use Rattle.depot_c.specs.Boundary.{packed, refusal_of, Fits, made_left, needed_answer, needed_left, dispatch_answer, dispatch_left, schedule_left, count_left};
 
-use crate::lists::{
-    MOST, are_whole, have_room, long_answer, long_image_answer, read_lists, write_lists,
-};
-use crate::numbers::KEY;
-use byte_fields::put_number;
-use dispatcher::{Dispatching, Needing, dispatch, steps_needed};
+use crate::answer::answer;
+use crate::lists::{Counts, KEY, Rooms, write_lists};
+use byte_fields::Field;
+use dispatcher::{dispatch, steps_needed};
+use s10::Refusal;
+use state_bytes::{Reason, image_fits};
 
-// How many steps may be needed, with rooms for the numbers of the byte lists.
-fn needed_within(
+// Reads the byte lists, and writes how many steps may be needed.
+fn count_steps(
     state: &[u8],
     keys: &[u8],
     chutes: &[u8],
     answers: &[u8],
     commands: &[u8],
-    key_room: &mut [u64],
-    chute_room: &mut [u16],
-    answer_room: &mut [u16],
-) -> Needing
-    requires { Rooms keys.now chutes.now answers.now key_room.old chute_room.old answer_room.old }
-    ensures number { (needed_refusal result).number ≡ needed_on (number_lists (at_entry state keys chutes answers)) commands.now }
-    ensures counted { needed_count result ≡ count_needed (number_lists (at_entry state keys chutes answers)) commands.now }
+    count: &mut [u8],
+) -> Result<(), Refusal>
+    ensures number { packed (refusal_of result) ≡ needed_answer (at_entry state keys chutes answers) commands.now count.old }
+    ensures fits { Fits (refusal_of result) }
+    ensures left { count.new ≡ needed_left (at_entry state keys chutes answers) commands.now count.old }
 {
-    read_lists(keys, chutes, answers, key_room, chute_room, answer_room);
-    steps_needed(state, key_room, chute_room, answer_room, commands)
+    if count.len() != KEY {
+        return Err(Refusal::from(Reason::WrongLength));
+    }
+    let counts = Counts::tested(
+        state,
+        keys.len(),
+        chutes.len(),
+        answers.len(),
+        commands.len(),
+        true,
+    )?;
+    let mut rooms = Rooms::new();
+    rooms.read(keys, chutes, answers);
+    let needed = steps_needed(
+        state,
+        &rooms.keys[..counts.keys],
+        &rooms.chutes[..counts.chutes],
+        &rooms.answers[..counts.answers],
+        commands,
+    )?;
+    u64::write(count, 0, needed as u64);
+    Ok(())
 }
 
 // How long a list must be lent to the dispatcher, as eight bytes. A refusal leaves the list as it was.
@@ -43,39 +62,10 @@ pub extern "C" fn depot_steps_needed(
     ensures number { result ≡ needed_answer (at_entry state keys chutes answers) commands.now count.old }
     ensures left { count.new ≡ needed_left (at_entry state keys chutes answers) commands.now count.old }
 {
-    let key_count = keys.len() / 8;
-    let chute_count = chutes.len() / 2;
-    let answer_count = answers.len() / 2;
-    if count.len() != KEY {
-        return 6;
-    }
-    if !are_whole(keys.len(), chutes.len(), answers.len()) {
-        return 6;
-    }
-    if !have_room(key_count, chute_count, answer_count) {
-        return long_answer(state, key_count, chute_count, answer_count, commands.len());
-    }
-    let mut key_room = [0u64; MOST];
-    let mut chute_room = [0u16; MOST];
-    let mut answer_room = [0u16; MOST];
-    let needing = needed_within(
-        state,
-        keys,
-        chutes,
-        answers,
-        commands,
-        &mut key_room[..key_count],
-        &mut chute_room[..chute_count],
-        &mut answer_room[..answer_count],
-    );
-    let answer = needing.number();
-    if answer == 0 {
-        put_number(count, 0, KEY, needing.count() as u64);
-    }
-    answer
+    answer(count_steps(state, keys, chutes, answers, commands, count))
 }
 
-// Dispatches, with rooms for the numbers of the byte lists.
+// Dispatches on the numbers in rooms, and writes the bytes of those that it leaves.
 fn dispatch_within(
     state: &mut [u8],
     keys: &mut [u8],
@@ -87,15 +77,14 @@ fn dispatch_within(
     key_room: &mut [u64],
     chute_room: &mut [u16],
     answer_room: &mut [u16],
-) -> Dispatching
-    requires { Rooms keys.old chutes.old answers.old key_room.old chute_room.old answer_room.old }
-    ensures refusal { dispatch_refusal result ≡ refusal_in (dispatch_on (number_lists (all_at_entry state keys chutes answers image)) commands.now schedule.old) }
-    ensures counted { dispatch_count result ≡ count_in (dispatch_on (number_lists (all_at_entry state keys chutes answers image)) commands.now schedule.old) }
-    ensures left { all_at_exit state keys chutes answers image ≡ made_left (dispatch_on (number_lists (all_at_entry state keys chutes answers image)) commands.now schedule.old) (all_at_entry state keys chutes answers image) }
-    ensures written { schedule.new ≡ lent_left (dispatch_on (number_lists (all_at_entry state keys chutes answers image)) commands.now schedule.old) schedule.old }
+) -> Result<usize, Reason>
+    requires { AreRooms keys.old chutes.old answers.old key_room.old chute_room.old answer_room.old }
+    ensures refusal { call_refusal result ≡ refusal_in (dispatch_on (all_at_entry state key_room chute_room answer_room image) commands.now schedule.old) }
+    ensures counted { call_count result ≡ count_in (dispatch_on (all_at_entry state key_room chute_room answer_room image) commands.now schedule.old) }
+    ensures left { all_at_exit state keys chutes answers image ≡ made_left (dispatch_on (all_at_entry state key_room chute_room answer_room image) commands.now schedule.old) (all_at_entry state keys chutes answers image) }
+    ensures written { schedule.new ≡ lent_left (dispatch_on (all_at_entry state key_room chute_room answer_room image) commands.now schedule.old) schedule.old }
 {
-    read_lists(keys, chutes, answers, key_room, chute_room, answer_room);
-    let dispatching = dispatch(
+    let steps = dispatch(
         state,
         key_room,
         chute_room,
@@ -103,11 +92,55 @@ fn dispatch_within(
         image,
         commands,
         schedule,
-    );
-    if dispatching.number() == 0 {
-        write_lists(keys, chutes, answers, key_room, chute_room, answer_room);
+    )?;
+    write_lists(keys, chutes, answers, key_room, chute_room, answer_room);
+    Ok(steps)
+}
+
+// Reads the byte lists, dispatches, and writes the lists and the schedule's length.
+fn dispatch_bytes(
+    state: &mut [u8],
+    keys: &mut [u8],
+    chutes: &mut [u8],
+    answers: &mut [u8],
+    image: &mut [u8],
+    commands: &[u8],
+    schedule: &mut [u8],
+    count: &mut [u8],
+) -> Result<(), Refusal>
+    ensures number { packed (refusal_of result) ≡ dispatch_answer (all_at_entry state keys chutes answers image) commands.now schedule.old count.old }
+    ensures fits { Fits (refusal_of result) }
+    ensures left { all_at_exit state keys chutes answers image ≡ dispatch_left (all_at_entry state keys chutes answers image) commands.now schedule.old count.old }
+    ensures written { schedule.new ≡ schedule_left (all_at_entry state keys chutes answers image) commands.now schedule.old count.old }
+    ensures counted { count.new ≡ count_left (all_at_entry state keys chutes answers image) commands.now schedule.old count.old }
+{
+    if count.len() != KEY {
+        return Err(Refusal::from(Reason::WrongLength));
     }
-    dispatching
+    let counts = Counts::tested(
+        state,
+        keys.len(),
+        chutes.len(),
+        answers.len(),
+        commands.len(),
+        image_fits(state, image.len()),
+    )?;
+    let mut rooms = Rooms::new();
+    rooms.read(keys, chutes, answers);
+    let steps = dispatch_within(
+        state,
+        keys,
+        chutes,
+        answers,
+        image,
+        commands,
+        schedule,
+        &mut rooms.keys[..counts.keys],
+        &mut rooms.chutes[..counts.chutes],
+        &mut rooms.answers[..counts.answers],
+    )?;
+    u64::write(count, 0, steps as u64);
+    Ok(())
 }
 
 // Makes the steps of a schedule of its own choice, which removes every command, writes it into the lent list, and its length, as
@@ -128,43 +161,8 @@ pub extern "C" fn depot_dispatch(
     ensures written { schedule.new ≡ schedule_left (all_at_entry state keys chutes answers image) commands.now schedule.old count.old }
     ensures counted { count.new ≡ count_left (all_at_entry state keys chutes answers image) commands.now schedule.old count.old }
 {
-    let key_count = keys.len() / 8;
-    let chute_count = chutes.len() / 2;
-    let answer_count = answers.len() / 2;
-    if count.len() != KEY {
-        return 6;
-    }
-    if !are_whole(keys.len(), chutes.len(), answers.len()) {
-        return 6;
-    }
-    if !have_room(key_count, chute_count, answer_count) {
-        return long_image_answer(
-            state,
-            key_count,
-            chute_count,
-            answer_count,
-            image.len(),
-            commands.len(),
-        );
-    }
-    let mut key_room = [0u64; MOST];
-    let mut chute_room = [0u16; MOST];
-    let mut answer_room = [0u16; MOST];
-    let dispatching = dispatch_within(
-        state,
-        keys,
-        chutes,
-        answers,
-        image,
-        commands,
-        schedule,
-        &mut key_room[..key_count],
-        &mut chute_room[..chute_count],
-        &mut answer_room[..answer_count],
+    let outcome = dispatch_bytes(
+        state, keys, chutes, answers, image, commands, schedule, count,
     );
-    let answer = dispatching.number();
-    if answer == 0 {
-        put_number(count, 0, KEY, dispatching.count() as u64);
-    }
-    answer
+    answer(outcome)
 }

@@ -6,14 +6,6 @@ mod answer;
 mod dispatch_calls;
 mod identifiers;
 mod lists;
-mod numbers;
 mod open_calls;
 mod panel_calls;
 mod rounds_call;
-
-// Which of the panel's reports is asked for.
-#[derive(Clone, Copy)]
-pub enum Wanted {
-    PendingCounts,
-    WorkerStatus,
-}

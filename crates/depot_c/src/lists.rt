@@ -1,87 +1,115 @@
-// The byte lists that a call lends: their lengths, and the lists of numbers that they write.
-ghost use Rattle.std.specs.Prelude.{◌≡◌, cond, ◌&&◌, List, ℕ, leb, length};
-ghost use Rattle.state_bytes.specs.Layout.{Lists, setup_in, handed_back_fit, image_fits};
-ghost use Rattle.depot_c.specs.Numbers.{numbers_in, bytes_in};
-ghost use Rattle.depot_c.specs.Boundary.{are_whole, Rooms};
+// The byte lists that a call lends: how many numbers they write, and rooms for these.
+ghost use Rattle.std.specs.Prelude.{◌≡◌, true, length};
+ghost use Rattle.depot_c.specs.Numbers.{bytes_in};
+ghost use Rattle.depot_c.specs.Boundary.{are_whole, have_room};
+ghost use Rattle.depot_c.specs.Lent.{are_lent, AreCounted, AreTested, AreRead, AreRooms};
 
-use crate::numbers::{read_keys, read_shorts, write_keys, write_shorts};
-use state_bytes::{image_fits, lengths_fit};
+use byte_fields::{read_fields, write_fields};
+use state_bytes::{Reason, lengths_fit};
+
+// How many bytes a key or a count has.
+pub const KEY: usize = 8;
 
 // The most entries that a list of an accepted call has.
-pub const MOST: usize = 4096;
+const MOST: usize = 4096;
 
-// Whether each list ends with a number: keys are eight bytes each, chutes and answers two.
-pub fn are_whole(keys: usize, chutes: usize, answers: usize) -> bool
+// How many numbers byte lists write: keys are eight bytes each, chutes and answers two.
+#[derive(Clone, Copy)]
+pub struct Counts {
+    pub keys: usize,
+    pub chutes: usize,
+    pub answers: usize,
+}
+
+// Rooms for the numbers of byte lists. Each call makes them and reads them in two lines of its own: a function for both would copy 48 kB.
+#[derive(Drop)]
+pub struct Rooms {
+    pub keys: [u64; 4096],
+    pub chutes: [u16; 4096],
+    pub answers: [u16; 4096],
+}
+
+// Whether each list ends with a number.
+#[tactic(auto, unfolding(crate::specs::Boundary::are_whole))]
+fn are_whole(keys: usize, chutes: usize, answers: usize) -> bool
     ensures { result ≡ are_whole keys chutes answers }
 {
-    if keys % 8 != 0 {
-        return false;
-    }
-    if chutes % 2 != 0 {
-        return false;
-    }
-    answers % 2 == 0
+    keys % 8 == 0 && chutes % 2 == 0 && answers % 2 == 0
 }
 
-// Whether each list has at most 4,096 entries.
-pub fn have_room(keys: usize, chutes: usize, answers: usize) -> bool
-    ensures { result ≡ (leb keys 4096 && leb chutes 4096 && leb answers 4096) }
-{
-    if keys > MOST {
-        return false;
+impl Counts {
+    // The counts of lists of whole numbers, at most 4,096 in each; none of other lists.
+    #[tactic(auto, unfolding(crate::specs::Lent::are_lent))]
+    pub fn of(keys: usize, chutes: usize, answers: usize) -> Option<Counts>
+        ensures { AreCounted keys chutes answers result }
+    {
+        let counts = Counts {
+            keys: keys / 8,
+            chutes: chutes / 2,
+            answers: answers / 2,
+        };
+        if are_whole(keys, chutes, answers) && counts.have_room() {
+            Some(counts)
+        } else {
+            None
+        }
     }
-    if chutes > MOST {
-        return false;
+
+    // The counts of lists that are handed back with a state. Lists that have none are refused, 12 where the state asks for so many
+    // entries and `others_fit`, whether the call's other lists are as long as asked, else 6.
+    pub fn tested(
+        state: &[u8],
+        keys: usize,
+        chutes: usize,
+        answers: usize,
+        commands: usize,
+        others_fit: bool,
+    ) -> Result<Counts, Reason>
+        ensures { AreTested state.now keys chutes answers commands others_fit result }
+    {
+        if let Some(counts) = Counts::of(keys, chutes, answers) {
+            return Ok(counts);
+        }
+        if !are_whole(keys, chutes, answers) || !others_fit {
+            return Err(Reason::WrongLength);
+        }
+        if lengths_fit(state, answers / 2, keys / 8, chutes / 2, commands) {
+            Err(Reason::WrongState)
+        } else {
+            Err(Reason::WrongLength)
+        }
     }
-    answers <= MOST
+
+    // Whether each list has at most 4,096 entries.
+    fn have_room(self) -> bool
+        ensures { result ≡ have_room self.keys self.chutes self.answers }
+    {
+        self.keys <= MOST && self.chutes <= MOST && self.answers <= MOST
+    }
 }
 
-// The answer where a list has more entries than an opened one: 12 where the state asks for so many, else 6.
-pub fn long_answer(state: &[u8], keys: usize, chutes: usize, answers: usize, commands: usize) -> u64
-    ensures { (l : Lists) (list : List ℕ) → l.state ≡ state.now → length l.answers ≡ answers → length l.keys ≡ keys → length l.chutes ≡ chutes → length list ≡ commands → result ≡ cond (handed_back_fit l list) 12 6 }
-{
-    if lengths_fit(state, answers, keys, chutes, commands) {
-        12
-    } else {
-        6
+impl Rooms {
+    pub fn new() -> Rooms {
+        Rooms {
+            keys: [0; MOST],
+            chutes: [0; MOST],
+            answers: [0; MOST],
+        }
+    }
+
+    // Fills the rooms with the numbers that byte lists write.
+    pub fn read(&mut self, keys: &[u8], chutes: &[u8], answers: &[u8])
+        requires { are_lent (length keys.now) (length chutes.now) (length answers.now) ≡ true }
+        ensures { AreRead self.new keys.now chutes.now answers.now }
+    {
+        read_fields::<u64>(keys, 0, &mut self.keys[..keys.len() / 8]);
+        read_fields::<u16>(chutes, 0, &mut self.chutes[..chutes.len() / 2]);
+        read_fields::<u16>(answers, 0, &mut self.answers[..answers.len() / 2]);
     }
 }
 
-// The same of a call that is lent the image too.
-pub fn long_image_answer(
-    state: &[u8],
-    keys: usize,
-    chutes: usize,
-    answers: usize,
-    image: usize,
-    commands: usize,
-) -> u64
-    ensures { (l : Lists) (list : List ℕ) → l.state ≡ state.now → length l.answers ≡ answers → length l.keys ≡ keys → length l.chutes ≡ chutes → length list ≡ commands → length l.image ≡ image → result ≡ cond (handed_back_fit l list && image_fits (setup_in l.state list).capacity l) 12 6 }
-{
-    if !lengths_fit(state, answers, keys, chutes, commands) {
-        return 6;
-    }
-    if image_fits(state, image) { 12 } else { 6 }
-}
-
-// Fills rooms with the numbers that byte lists write.
-pub fn read_lists(
-    keys: &[u8],
-    chutes: &[u8],
-    answers: &[u8],
-    key_room: &mut [u64],
-    chute_room: &mut [u16],
-    answer_room: &mut [u16],
-)
-    requires { Rooms keys.now chutes.now answers.now key_room.old chute_room.old answer_room.old }
-    ensures { (key_room.new ≡ numbers_in 8 keys.now) × (chute_room.new ≡ numbers_in 2 chutes.now) × (answer_room.new ≡ numbers_in 2 answers.now) }
-{
-    read_keys(keys, key_room);
-    read_shorts(chutes, chute_room);
-    read_shorts(answers, answer_room);
-}
-
-// Writes the bytes of the numbers in rooms.
+// Writes the bytes of the numbers in rooms. The proof does not follow three fields of a struct that are lent as `&mut` slices at once,
+// so the rooms that a call changes are lists of their own.
 pub fn write_lists(
     keys: &mut [u8],
     chutes: &mut [u8],
@@ -90,10 +118,10 @@ pub fn write_lists(
     chute_room: &[u16],
     answer_room: &[u16],
 )
-    requires { Rooms keys.old chutes.old answers.old key_room.now chute_room.now answer_room.now }
+    requires { AreRooms keys.old chutes.old answers.old key_room.now chute_room.now answer_room.now }
     ensures { (keys.new ≡ bytes_in 8 key_room.now) × (chutes.new ≡ bytes_in 2 chute_room.now) × (answers.new ≡ bytes_in 2 answer_room.now) }
 {
-    write_keys(keys, key_room);
-    write_shorts(chutes, chute_room);
-    write_shorts(answers, answer_room);
+    write_fields::<u64>(keys, 0, key_room);
+    write_fields::<u16>(chutes, 0, chute_room);
+    write_fields::<u16>(answers, 0, answer_room);
 }

@@ -1,5 +1,5 @@
 -- What the dispatcher's calls answer and leave, document 02, A.6. Assumes nothing.
-use Rattle.std.specs.Prelude.{ℕ, cond, ◌&&◌, ◌≡◌, List, ◌++◌, length, drop, leb}
+use Rattle.std.specs.Prelude.{ℕ, cond, ◌&&◌, ◌≡◌, List, ◌++◌, length, drop, leb, Result, Ok, Err}
 use Rattle.s10.specs.Refusal.{Refusal, plain}
 use Rattle.command.specs.Read.{commands_in}
 use Rattle.model.specs.Setup.{Setup}
@@ -7,10 +7,17 @@ use Rattle.model.specs.Step.{State, steps}
 use Rattle.model.specs.Dispatch.{steps_needed, dispatched}
 use Rattle.state_bytes.specs.Layout.{Lists, lists_of, setup_in, state_in, state_fits, handed_back_fit, image_fits}
 use Rattle.state_bytes.specs.Layout as Layout
-use Rattle.dispatcher.specs.declared.Needing.{Needing}
-use Rattle.dispatcher.specs.declared.Needing.TheVariants.{Needed, WrongLength, WrongState}
-use Rattle.dispatcher.specs.declared.Dispatching.{Dispatching}
-use Rattle.dispatcher.specs.declared.Dispatching.TheVariants.{Dispatched, WrongLength as WrongLengths, WrongState as WrongStates}
+use Rattle.state_bytes.specs.declared.Reason.{Reason}
+use Rattle.state_bytes.specs.Outcome as State
+
+-- the document's values for each answer of the two calls, and the number that it reports, 0 where it is refused
+abbrev pub call_refusal : Result ℕ Reason → Refusal
+call_refusal (Ok n) = plain 0
+call_refusal (Err reason) = State.refusal_for reason
+
+abbrev pub call_count : Result ℕ Reason → ℕ
+call_count (Ok n) = n
+call_count (Err reason) = 0
 
 -- ---- how long the lent list must be
 
@@ -29,17 +36,6 @@ needed_on l commands = cond (handed_back_fit l commands) (cond (state_fits l) 0 
 -- and the number, 0 where it is refused
 unfoldable pub count_needed : Lists → List ℕ → ℕ
 count_needed l commands = cond (handed_back_fit l commands && state_fits l) (needed_now l commands) 0
-
--- the document's values for each answer
-abbrev pub needed_refusal : Needing → Refusal
-needed_refusal (Needed n) = plain 0
-needed_refusal WrongLength = plain 6
-needed_refusal WrongState = plain 12
-
-abbrev pub needed_count : Needing → ℕ
-needed_count (Needed n) = n
-needed_count WrongLength = 0
-needed_count WrongState = 0
 
 -- ---- dispatching
 
@@ -84,14 +80,3 @@ lists_left (refused r) old = old
 unfoldable pub lent_left : DispatchOutcome → List ℕ → List ℕ
 lent_left (made d) old = d.schedule
 lent_left (refused r) old = old
-
--- the document's values for each answer
-abbrev pub dispatch_refusal : Dispatching → Refusal
-dispatch_refusal (Dispatched count) = plain 0
-dispatch_refusal WrongLengths = plain 6
-dispatch_refusal WrongStates = plain 12
-
-abbrev pub dispatch_count : Dispatching → ℕ
-dispatch_count (Dispatched count) = count
-dispatch_count WrongLengths = 0
-dispatch_count WrongStates = 0

@@ -12,7 +12,8 @@ use Rattle.model.specs.Upd.{upd}
 use Rattle.model.specs.Graph.{no_node}
 use Rattle.model.proofs.Upd.{upd_at, upd_other, upd_cases, upd_map}
 use Rattle.command.proofs.Tests.{eqb_cases}
-use Rattle.graph.specs.Arrays.{numbers, sets, Nodes}
+use Rattle.graph.specs.declared.Graph.{Graph}
+use Rattle.graph.specs.Arrays.{numbers, sets, Nodes, Shown, shown_graph}
 
 -- Equal functions have equal values.
 pub value : {A : Type 0} {f g : ℕ → A} → f ≡ g → (n : ℕ) → f n ≡ g n
@@ -50,3 +51,7 @@ removed_is_upd set without own removed =
 pub empty_is_none : (set : List ℕ) → ((n : ℕ) → member set n ≡ false) → member set ≡ no_node
 unfolding no_node
 empty_is_none set none = fun_ext none
+
+-- A table shows the graph that is made of its arrays.
+pub shown_shows : (graph : Graph) (free loaded : ℕ) → Shown (shown_graph graph free loaded) graph
+shown_shows graph free loaded = record { next_is = refl; seq_is = refl; executing_is = refl; locked_is = refl; waits_is = refl }

@@ -1,14 +1,13 @@
 -- The commands of a list by their sequence numbers, and the commands kept for the nodes after a change of one node. Assumes nothing.
 use Prim.Native.Nat.{ℕ, zero, suc, ◌+◌, ◌-◌, ◌*◌, ◌/◌, ◌≤◌, ◌<◌}
 use mathlib.Core.Path.{◌≡◌, refl, sym, ◌∙◌}
-use mathlib.Core.Bool.{cond}
 use mathlib.Core.List.{List, [], ◌∷◌, map}
-use mathlib.Core.Option.{Option, none, some}
+use mathlib.Core.Option.{none, some}
+use Rattle.std.specs.Prelude.{Option, None}
 use mathlib.Core.Logic.{⊎_elim}
 use native.Mathlib.Omega.{arith}
-use lib.ListN.{length, take, drop, get_elem?, length-map}
-use lib.Dec.{eqb}
-use lib.Seq.{drop-drop}
+use lib.ListN.{length, take, drop, set, get_elem?, length-map}
+use lib.Seq.{drop-drop, get_or-set_same, get_or-set_other}
 use Rattle.command.specs.declared.Command.{Command}
 use Rattle.command.specs.Read.{parts, parts_of, command_in, commands_in}
 use Rattle.command.proofs.Laws.{length_parts_of}
@@ -16,9 +15,11 @@ use Rattle.model.specs.Upd.{upd}
 use Rattle.model.specs.Setup.{command_at}
 use Rattle.model.proofs.Upd.{upd_at, upd_other}
 use Rattle.command.proofs.Tests.{eqb_cases}
-use Rattle.graph.specs.Arrays.{numbers}
-use Rattle.graph.specs.Items.{kept_at, Kept}
+use Rattle.graph.specs.declared.Graph.{Graph}
+use Rattle.graph.specs.Arrays.{numbers, SameCommands}
+use Rattle.graph.specs.Items.{item_of, Kept}
 use Rattle.graph.specs.Worker.{Placed}
+use Rattle.graph.proofs.Bridge.{value}
 
 -- the command of part i is that of the bytes from 16 * i on
 part_command : (n i : ℕ) (bytes : List ℕ) → i < n → get_elem? (map command_in (parts n bytes)) i ≡ some (command_in (take 16 (drop (16 * i) bytes)))
@@ -59,27 +60,29 @@ command_placed cs (suc i) c e = (omega arith, within cs i e)
     within (x ∷ l) (suc i) e = let h = within l i e in omega arith
 
 -- kept commands have sequence numbers of answers
-pub kept_placed : (cs : List Command) (seq kinds keys chutes answers : List ℕ) → length cs ≡ length answers
-    → Kept cs (numbers seq) kinds keys chutes → Placed seq kinds keys chutes answers
-kept_placed cs seq kinds keys chutes answers l kept n c h e =
-    let placed = command_placed cs (numbers seq n) c (sym (kept n h) ∙ e) in (placed.0, rw l at placed.1)
-
--- a node that gets a place and the command of that place leaves each node's command the one of its sequence number
-pub kept_stored : (cs : List Command) (seq seq' : ℕ → ℕ) (kinds keys chutes kinds' keys' chutes' : List ℕ) (node place : ℕ) (item : Option Command)
-    → command_at cs place ≡ item → seq' ≡ upd seq node place
-    → ((n : ℕ) → kept_at kinds' keys' chutes' n ≡ cond (eqb n node) item (kept_at kinds keys chutes n))
-    → Kept cs seq kinds keys chutes → Kept cs seq' kinds' keys' chutes'
-kept_stored cs seq seq' kinds keys chutes kinds' keys' chutes' node place item is stored items kept n h =
-    rw (items n, stored) (⊎_elim
-    (λ w. rw (w.1, upd_at seq node place n w.0) (sym is))
-    (λ w. rw (w.1, upd_other seq node place n w.0) (kept n h))
-    (eqb_cases n node))
+pub kept_placed : (cs : List Command) (graph : Graph) (answers : List ℕ) → length cs ≡ length answers → Kept cs graph → Placed graph answers
+kept_placed cs graph answers l kept n c h e =
+    let placed = command_placed cs (numbers graph.seq n) c (sym (kept n h) ∙ e) in (placed.0, rw l at placed.1)
 
 -- place 0 has no command
 pub none_at_zero : (cs : List Command) → command_at cs 0 ≡ none
 unfolding command_at
 none_at_zero cs = refl
 
--- where no sequence number changes, the commands kept stay right
-pub kept_unchanged : (cs : List Command) (seq seq' : ℕ → ℕ) (kinds keys chutes : List ℕ) → seq' ≡ seq → Kept cs seq kinds keys chutes → Kept cs seq' kinds keys chutes
-kept_unchanged cs seq seq' kinds keys chutes same kept = rw same kept
+module _ (cs : List Command) (graph graph' : Graph) (node : ℕ) (within : node < length graph.items) where
+  -- a node that gets a place and the command of that place leaves each node's command the one of its sequence number
+  pub kept_stored : (place : ℕ) (item : Option Command) → command_at cs place ≡ item_of item
+      → numbers graph'.seq ≡ upd (numbers graph.seq) node place → graph'.items ≡ set graph.items node item → Kept cs graph → Kept cs graph'
+  kept_stored place item is stored items kept n h =
+      rw (items, value stored n) (⊎_elim
+      (λ w. rw (w.0, get_or-set_same graph.items node item None within, upd_at (numbers graph.seq) node place node refl) (sym is))
+      (λ w. rw (get_or-set_other graph.items node n item None w.0, upd_other (numbers graph.seq) node place n w.0) (kept n h))
+      (eqb_cases n node))
+
+  -- and so does one that gets none, with place 0
+  pub kept_forgotten : numbers graph'.seq ≡ upd (numbers graph.seq) node 0 → graph'.items ≡ set graph.items node None → Kept cs graph → Kept cs graph'
+  kept_forgotten = kept_stored 0 None (none_at_zero cs)
+
+-- where neither sequence numbers nor commands change, the commands kept stay right
+pub kept_unchanged : (cs : List Command) (graph graph' : Graph) → SameCommands graph graph' → Kept cs graph → Kept cs graph'
+kept_unchanged cs graph graph' same kept = rw (same.0, same.1) kept

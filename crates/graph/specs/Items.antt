@@ -1,22 +1,21 @@
--- The commands of the nodes in use, kept beside the graph so that a step reads no text. Assumes nothing.
-use Rattle.std.specs.Prelude.{ℕ, ◌≤◌, ◌≡◌, List, get_or}
-use Rattle.std.proofs.Math.Option.{Option, none, some, map}
+-- The commands of the nodes in use, kept in the graph so that a step reads no text. Assumes nothing.
+use Rattle.std.specs.Prelude.{ℕ, ◌≤◌, ◌≡◌, List, get_or, Option, Some, None}
+use Rattle.std.proofs.Math.Option.{none, some}
+use Rattle.std.proofs.Math.Option as Model
 use Rattle.command.specs.declared.Command.{Command}
-use Rattle.command.specs.Read.{kind_of}
 use Rattle.model.specs.Setup.{command_at}
-use Rattle.graph.specs.declared.items.Item.{Item}
-use Rattle.graph.specs.declared.items.Item.TheVariants.{Nothing, Of}
+use Rattle.graph.specs.declared.Graph.{Graph}
+use Rattle.graph.specs.Arrays.{numbers}
 
--- a node's command, if it has one
-abbrev pub item_of : Item → Option Command
-item_of Nothing = none
-item_of (Of c) = some c
+-- a node's command, if it has one, as the model has it
+abbrev pub item_of : Option Command → Model.Option Command
+item_of None = none
+item_of (Some c) = some c
 
--- the command kept for node n; a number that is no kind's, as 0, keeps none
-unfoldable pub kept_at : List ℕ → List ℕ → List ℕ → ℕ → Option Command
-kept_at kinds keys chutes n =
-    map (λ kind. record { kind = kind; key = get_or keys n 0; chute = get_or chutes n 0 }) (kind_of (get_or kinds n 0))
+-- the command kept for node n
+abbrev pub kept_at : List (Option Command) → ℕ → Model.Option Command
+kept_at items n = item_of (get_or items n None)
 
 -- each node's command is the one of its sequence number
-abbrev pub Kept : List Command → (ℕ → ℕ) → List ℕ → List ℕ → List ℕ → Type 0
-Kept cs seq kinds keys chutes = (n : ℕ) → n ≤ 150 → kept_at kinds keys chutes n ≡ command_at cs (seq n)
+abbrev pub Kept : List Command → Graph → Type 0
+Kept cs graph = (n : ℕ) → n ≤ 150 → kept_at graph.items n ≡ command_at cs (numbers graph.seq n)

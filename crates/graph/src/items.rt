@@ -1,77 +1,41 @@
-// The commands of the nodes in use: three arrays beside the graph's, so that a step along the chain reads no text.
-ghost use Rattle.std.specs.Prelude.{◌≡◌, cond, List, ℕ, ◌*◌, ◌≤◌, length, eqb};
-ghost use Rattle.std.proofs.Math.Option.{none, some};
+// The commands of the nodes in use.
+ghost use Rattle.std.specs.Prelude.{◌≡◌, ◌*◌, ◌≤◌, length};
+ghost use Rattle.std.proofs.Math.Option.{some};
 ghost use Rattle.command.specs.Read.{commands_in};
 ghost use Rattle.model.specs.Setup.{command_at, both_dependent};
+ghost use Rattle.graph.specs.Arrays.{numbers};
 ghost use Rattle.graph.specs.Items.{item_of, kept_at};
 
-use command::{AnyKind, Command, Kind, Seq};
+use crate::Graph;
+use command::{Command, Seq};
 use node_set::Node;
 
-// The command of a node, if it has one.
-#[derive(Clone, Copy)]
-pub enum Item {
-    Nothing,
-    Of(Command),
-}
+impl Graph {
+    // The command kept for a node, if it has one.
+    pub fn item(&self, node: Node) -> Option<Command>
+        requires { node.0 ≤ 150 }
+        ensures { item_of result ≡ kept_at self.now.items node.0 }
+    {
+        self.items[node.0 as usize]
+    }
 
-// The command kept for a node.
-pub fn item_of(kinds: &[u8; 151], keys: &[u64; 151], chutes: &[u16; 151], node: Node) -> Item
-    requires { node.0 ≤ 150 }
-    ensures { item_of result ≡ kept_at kinds.now keys.now chutes.now node.0 }
-{
-    let n = node.0 as usize;
-    match Kind::of(kinds[n]) {
-        AnyKind::Known(kind) => Item::Of(Command {
-            kind,
-            key: keys[n],
-            chute: chutes[n],
-        }),
-        AnyKind::Unknown => Item::Nothing,
+    // The place of a node's command, 0 for none.
+    pub fn place(&self, node: Node) -> Seq
+        requires { node.0 ≤ 150 }
+        ensures { result.0 ≡ numbers self.now.seq node.0 }
+    {
+        Seq(usize::from(self.seq[node.0 as usize]))
     }
 }
 
-// Keeps a command for a node. Each array is lent as a slice, as in `arrays`.
-pub fn keep(
-    kinds: &mut [u8; 151],
-    keys: &mut [u64; 151],
-    chutes: &mut [u16; 151],
-    node: Node,
-    command: Command,
-)
-    requires { node.0 ≤ 150 }
-    ensures { (n : ℕ) → kept_at kinds.new keys.new chutes.new n ≡ cond (eqb n node.0) (some command) (kept_at kinds.old keys.old chutes.old n) }
-{
-    let n = node.0 as usize;
-    let kind = command.kind;
-    let all_kinds: &mut [u8] = kinds;
-    all_kinds[n] = kind.number();
-    let all_keys: &mut [u64] = keys;
-    all_keys[n] = command.key;
-    let all_chutes: &mut [u16] = chutes;
-    all_chutes[n] = command.chute;
-}
-
-// A node has no command any more.
-pub fn forget(kinds: &mut [u8; 151], node: Node)
-    requires { node.0 ≤ 150 }
-    ensures { (keys chutes : List ℕ) (n : ℕ) → kept_at kinds.new keys chutes n ≡ cond (eqb n node.0) none (kept_at kinds.old keys chutes n) }
-{
-    let n = node.0 as usize;
-    let all: &mut [u8] = kinds;
-    all[n] = 0;
-}
-
 // Whether the commands of two nodes are dependent; no command depends on none.
-pub fn dependent(a: Item, b: Item) -> bool
+#[tactic(auto, unfolding(model::specs::Setup::both_dependent))]
+pub fn dependent(a: Option<Command>, b: Option<Command>) -> bool
     ensures { result ≡ both_dependent (item_of a) (item_of b) }
 {
-    match a {
-        Item::Nothing => false,
-        Item::Of(first) => match b {
-            Item::Nothing => false,
-            Item::Of(second) => first.depends_on(second),
-        },
+    match (a, b) {
+        (Some(first), Some(second)) => first.depends_on(second),
+        _ => false,
     }
 }
 
@@ -81,6 +45,5 @@ pub fn command_at(list: &[u8], place: Seq) -> Command
     ensures { command_at (commands_in list.now) place.0 ≡ some result }
 {
     let end = place.0 * Command::LENGTH;
-    let at = end - Command::LENGTH;
-    Command::untested(&list[at..end])
+    Command::untested(&list[end - Command::LENGTH..end])
 }

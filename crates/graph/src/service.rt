@@ -10,37 +10,26 @@ ghost use Rattle.store.specs.Lists.{store_of};
 ghost use Rattle.graph.specs.Items.{item_of};
 ghost use Rattle.graph.specs.Memory.{image_for, limit_after, Writes};
 
-use crate::items::Item;
 use command::{Command, Kind, Seq};
 use image::write_image;
 
 // What a lookup finds for a command: the chute of its item, 0 where there is none.
-pub fn look_up(item: Item, keys: &[u64], chutes: &[u16], used: usize) -> u16
+#[tactic(auto, unfolding(model::specs::Service::found_for))]
+pub fn look_up(item: Option<Command>, keys: &[u64], chutes: &[u16], used: usize) -> u16
     ensures { result ≡ found_for (item_of item) (store_of keys.now chutes.now used) }
 {
     match item {
-        Item::Nothing => 0,
-        Item::Of(command) => {
-            let wanted = command.kind;
-            if !wanted.has_item() {
-                return 0;
-            }
-            store::look_up(keys, chutes, used, command.key)
-        }
+        Some(command) if command.kind.has_item() => store::look_up(keys, chutes, used, command.key),
+        _ => 0,
     }
 }
 
 // Whether a command is written in the step of its lookup: a read is, having nothing to write in the store.
-pub fn in_one_step(item: Item) -> bool
+#[tactic(auto, unfolding(model::specs::Service::in_one_step))]
+pub fn in_one_step(item: Option<Command>) -> bool
     ensures { result ≡ in_one_step (item_of item) }
 {
-    match item {
-        Item::Nothing => false,
-        Item::Of(command) => {
-            let kind = command.kind;
-            kind.is_read()
-        }
-    }
+    item.is_some_and(|command| command.kind.is_read())
 }
 
 // What a write answers, and the count in use after it.
@@ -51,6 +40,7 @@ pub struct Written {
 }
 
 // The answer of a read after its lookup; the store stays.
+#[tactic(auto, unfolding(model::specs::Service::write_kind))]
 fn answer_of_read(found: u16) -> u16
     ensures { (capacity key chute : ℕ) (st : Store) → write_kind Read capacity key chute found st ≡ writing result st }
 {
@@ -61,6 +51,7 @@ fn answer_of_read(found: u16) -> u16
 }
 
 // The answer of an insert after its lookup: an item that was found gets the chute, else the store is changed where there is room.
+#[tactic(auto, unfolding(model::specs::Service::write_kind))]
 fn serve_insert(
     key: u64,
     chute: u16,
@@ -86,6 +77,7 @@ fn serve_insert(
 }
 
 // The answer of a command after its lookup, with the store changed as the command asks.
+#[tactic(auto, unfolding(model::specs::Service::write_kind))]
 fn serve(command: Command, found: u16, keys: &mut [u64], chutes: &mut [u16], used: usize) -> Written
     ensures { write_kind command.kind (length keys.old) command.key command.chute found (store_of keys.old chutes.old used) ≡ writing result.answer (store_of keys.new chutes.new result.used) }
 {
@@ -120,7 +112,7 @@ fn serve(command: Command, found: u16, keys: &mut [u64], chutes: &mut [u16], use
 
 // Writes a command's answer, and the store where the command changes it; returns the count in use.
 pub fn write(
-    item: Item,
+    item: Option<Command>,
     place: Seq,
     found: u16,
     keys: &mut [u64],
@@ -131,38 +123,37 @@ pub fn write(
     requires { (c : Cmd) → item_of item ≡ some c → (1 ≤ place.0) × (place.0 ≤ length answers.old) }
     ensures { Writes (item_of item) place.0 found keys.old chutes.old answers.old used keys.new chutes.new answers.new result }
 {
-    match item {
-        Item::Nothing => used,
-        Item::Of(command) => {
-            let written = serve(command, found, keys, chutes, used);
-            let i = place.0 - 1;
-            answers[i] = written.answer;
-            written.used
-        }
-    }
+    let Some(command) = item else {
+        return used;
+    };
+    let written = serve(command, found, keys, chutes, used);
+    answers[place.0 - 1] = written.answer;
+    written.used
 }
 
 // Puts the store into the image, where the command is a checkpoint: before it is written, which leaves the store as it is.
-pub fn save(item: Item, place: Seq, keys: &[u64], chutes: &[u16], used: usize, image: &mut [u8])
+#[tactic(auto, unfolding(model::specs::Service::image_after))]
+pub fn save(
+    item: Option<Command>,
+    place: Seq,
+    keys: &[u64],
+    chutes: &[u16],
+    used: usize,
+    image: &mut [u8],
+)
     requires { length image.old ≡ image_length (length keys.now) }
     ensures { image.new ≡ image_for (item_of item) (length keys.now) place.0 (store_of keys.now chutes.now used) image.old }
 {
-    if let Item::Of(command) = item {
-        let kind = command.kind;
-        if kind.is_checkpoint() {
-            write_image(keys, chutes, used, place.0, image);
-        }
+    if item.is_some_and(|command| command.kind.is_checkpoint()) {
+        write_image(keys, chutes, used, place.0, image);
     }
 }
 
 // The worker count in force after a command is written.
-pub fn limit_after(item: Item, limit: usize) -> usize
+pub fn limit_after(item: Option<Command>, limit: usize) -> usize
     ensures { result ≡ limit_after (item_of item) limit }
 {
-    match item {
-        Item::Nothing => limit,
-        Item::Of(command) => command.count_after(limit),
-    }
+    item.map_or(limit, |command| command.count_after(limit))
 }
 
 // Writes the answer of a command that is written in the step of its lookup.
@@ -170,6 +161,5 @@ pub fn write_read(place: Seq, found: u16, answers: &mut [u16])
     requires { (1 ≤ place.0) × (place.0 ≤ length answers.old) }
     ensures { (item : Option Cmd) (keys chutes : List ℕ) (used : ℕ) → in_one_step item ≡ true → Writes item place.0 found keys chutes answers.old used keys chutes answers.new used }
 {
-    let i = place.0 - 1;
-    answers[i] = answer_of_read(found);
+    answers[place.0 - 1] = answer_of_read(found);
 }

@@ -7,12 +7,11 @@ use mathlib.Core.Path.{◌≡◌, refl, sym, ap, ◌∙◌}
 use mathlib.Core.Bool.{Bool, true, false, cond, ◌&&◌, and-eq-true_iff}
 use mathlib.Core.List.{List, [], ◌∷◌, ◌++◌, map, map-map}
 use borrow.Author.Tests.{leb-true}
-use lib.ListN.{length, get_or, set, drop, drop_of_length-le, replicate, length-append, length-drop, length-map, length-replicate, get_or-replicate, get_or-append}
-use lib.Seq.{drop-drop, get_or-drop, get_or-append-add}
+use lib.ListN.{length, get_or, set, take, drop, drop_of_length-le, replicate, length-take, length-drop, length-map, length-set}
+use borrow.Rule.Slice.PartMut.{put_mid}
+use lib.Seq.{drop-drop, get_or-drop}
+use Rattle.std.proofs.lemmas.List.{take_all, take_more, take_more_set, map-append, append-nil}
 use lib.Dec.{eqb, leb}
-use Rattle.byte_fields.specs.Bytes.{tabulate}
-use Rattle.byte_fields.proofs.Bytes.{tabulate_elements}
-use Rattle.byte_fields.proofs.Fill.{Filled, filled_none, filled_more, filled_all}
 use Rattle.model.specs.Store.{lay_out}
 use Rattle.model.specs.Image.{image_length, next_in, chute_in, key_in, chain_from, chain_in, all, strictly_ascend, chain_fits, head_fits, slot_fits, slots_fit, entries_in}
 use Rattle.model.proofs.ImageChain.{chain_zero}
@@ -167,41 +166,41 @@ module _ {capacity : ℕ} {image : List ℕ} {i n : ℕ} (a : Along capacity ima
 
 -- ---- laying out
 
--- numbers of a list, 0 past them up to the capacity
-abbrev pub padded : ℕ → (ℕ → ℕ) → List ℕ → List ℕ
-padded capacity f is = map f is ++ replicate (capacity - length is) 0
-
-map_at : (f : ℕ → ℕ) (is : List ℕ) (k : ℕ) → k < length is → get_or (map f is) k 0 ≡ f (get_or is k 0)
-map_at f [] k h = absurd (omega arith)
-map_at f (i ∷ is) zero h = refl
-map_at f (i ∷ is) (suc k) h = map_at f is k (omega arith)
-
-padded_length : (capacity : ℕ) (f : ℕ → ℕ) (is : List ℕ) → length is ≤ capacity → length (padded capacity f is) ≡ capacity
-padded_length capacity f is h = simp (length-append, length-map, length-replicate) (omega arith)
-
-padded_at : (capacity : ℕ) (f : ℕ → ℕ) (is : List ℕ) (k : ℕ) → k < length is → get_or (padded capacity f is) k 0 ≡ f (get_or is k 0)
-padded_at capacity f is k h = get_or-append (map f is) (replicate (capacity - length is) 0) 0 k (rw (length-map is f) h) ∙ map_at f is k h
-
-padded_past : (capacity : ℕ) (f : ℕ → ℕ) (is : List ℕ) (k : ℕ) → length is ≤ k → k < capacity → get_or (padded capacity f is) k 0 ≡ 0
-padded_past capacity f is k h l =
-    let e : k ≡ length (map f is) + (k - length is) = rw (length-map is f) (omega arith) in
-    ap (λ (j : ℕ). get_or (padded capacity f is) j 0) e
-    ∙ (get_or-append-add (map f is) (replicate (capacity - length is) 0) (k - length is) 0 ∙ get_or-replicate (capacity - length is) (k - length is) 0 0 (omega arith))
-
--- the store of an image is made of them
+-- what is read along a chain is the store's, with zeros behind it
 store_of_lem : (capacity : ℕ) (image : List ℕ) → let chain = chain_in capacity image in
-    store_of (padded capacity (key_in image) chain) (padded capacity (chute_in image) chain) (length chain) ≡ lay_out capacity (entries_in capacity image)
+    store_of (map (key_in image) chain ++ replicate (capacity - length chain) 0) (map (chute_in image) chain ++ replicate (capacity - length chain) 0) (length chain)
+    ≡ lay_out capacity (entries_in capacity image)
 unfolding lay_out entries_in
 store_of_lem capacity image = simp (map-map, length-map)
 
+-- The first k places of a list hold what is read along the first k indexes of a chain.
+pub record Read (f : ℕ → ℕ) (capacity : ℕ) (chain list : List ℕ) (k : ℕ) : Type 0 where
+  pub long : length list ≡ capacity
+  pub first : take k list ≡ map f (take k chain)
+
+module _ {f : ℕ → ℕ} {capacity : ℕ} {chain list : List ℕ} where
+  read_none : length list ≡ capacity → Read f capacity chain list 0
+  read_none long = record { long = long; first = refl }
+
+  read_more : {k : ℕ} (i v : ℕ) → Read f capacity chain list k → k < capacity → k < length chain → get_or chain k 0 ≡ i → v ≡ f i → Read f capacity chain (set list k v) (k + 1)
+  read_more {k} i v r h more at e =
+      let short : k < length list = omega (arith, r.long) in
+      record {
+        long = length-set list k v ∙ r.long;
+        first = rw (take_more_set list k v short, take_more chain k 0 more, map-append, r.first, at, e);
+      }
+
+  read_all : {k : ℕ} → Read f capacity chain list k → length chain ≡ k → take k list ++ replicate (capacity - k) 0 ≡ map f chain ++ replicate (capacity - length chain) 0
+  read_all {k} r e = rw (r.first, take_all k chain (omega arith), e)
+
 -- The first k places of both lists hold what the store of an image holds there.
 pub record Laid (capacity : ℕ) (image keys chutes : List ℕ) (k : ℕ) : Type 0 where
-  pub keys_laid : Filled (λ j. get_or (padded capacity (key_in image) (chain_in capacity image)) j 0) capacity keys k
-  pub chutes_laid : Filled (λ j. get_or (padded capacity (chute_in image) (chain_in capacity image)) j 0) capacity chutes k
+  pub keys_read : Read (key_in image) capacity (chain_in capacity image) keys k
+  pub chutes_read : Read (chute_in image) capacity (chain_in capacity image) chutes k
 
 -- before the first turn none is laid out
 pub laid_none : {capacity : ℕ} (image : List ℕ) {keys chutes : List ℕ} → length keys ≡ capacity → length chutes ≡ capacity → Laid capacity image keys chutes 0
-laid_none image k c = record { keys_laid = filled_none k; chutes_laid = filled_none c }
+laid_none image k c = record { keys_read = read_none k; chutes_read = read_none c }
 
 module _ {capacity : ℕ} {image keys chutes : List ℕ} {k : ℕ} (l : Laid capacity image keys chutes k) where
   -- a turn along the chain lays an entry out
@@ -210,22 +209,24 @@ module _ {capacity : ℕ} {image keys chutes : List ℕ} {k : ℕ} (l : Laid cap
   laid_entry {i} {key} {chute} a h ne ek ec =
       let more = along_more a h ne in
       let at = along_at a h ne in
-      record {
-        keys_laid = filled_more key l.keys_laid h (ek ∙ sym (padded_at capacity (key_in image) (chain_in capacity image) k more ∙ ap (key_in image) at));
-        chutes_laid = filled_more chute l.chutes_laid h (ec ∙ sym (padded_at capacity (chute_in image) (chain_in capacity image) k more ∙ ap (chute_in image) at));
-      }
+      record { keys_read = read_more i key l.keys_read h more at ek; chutes_read = read_more i chute l.chutes_read h more at ec }
 
-  -- a turn past it lays zeros out
-  pub laid_zero : length (chain_in capacity image) ≤ k → k < capacity → Laid capacity image (set keys k 0) (set chutes k 0) (k + 1)
-  laid_zero past h = record {
-    keys_laid = filled_more 0 l.keys_laid h (sym (padded_past capacity (key_in image) (chain_in capacity image) k past h));
-    chutes_laid = filled_more 0 l.chutes_laid h (sym (padded_past capacity (chute_in image) (chain_in capacity image) k past h));
-  }
+  -- after the last turn zeros behind them make both lists the store's
+  pub laid_zeros : {ks cs : List ℕ} → length (chain_in capacity image) ≡ k → ks ≡ take k keys ++ replicate (capacity - k) 0 → cs ≡ take k chutes ++ replicate (capacity - k) 0
+      → store_of ks cs k ≡ lay_out capacity (entries_in capacity image)
+  laid_zeros e ek ec = rw (ek, ec, read_all l.keys_read e, read_all l.chutes_read e, ← e) (store_of_lem capacity image)
 
-  -- after the last turn both lists are the store's
-  pub laid_all : {used : ℕ} → length (chain_in capacity image) ≡ used → used ≤ capacity → capacity ≤ k
-      → store_of keys chutes used ≡ lay_out capacity (entries_in capacity image)
-  laid_all e short h =
-      let whole : (f : ℕ → ℕ) → tabulate capacity (λ j. get_or (padded capacity f (chain_in capacity image)) j 0) ≡ padded capacity f (chain_in capacity image)
-      = λ f. tabulate_elements capacity (padded capacity f (chain_in capacity image)) 0 (padded_length capacity f (chain_in capacity image) (omega arith)) in
-      rw (filled_all l.keys_laid h, filled_all l.chutes_laid h, whole (key_in image), whole (chute_in image), ← e) (store_of_lem capacity image)
+  -- and so they are where no place is left behind them
+  pub laid_full : length (chain_in capacity image) ≡ k → k ≡ capacity → store_of keys chutes capacity ≡ lay_out capacity (entries_in capacity image)
+  laid_full e full =
+      let whole : (list : List ℕ) → length list ≡ capacity → list ≡ take k list ++ replicate (capacity - k) 0
+      = λ list long. let none : capacity - k ≡ 0 = omega arith in rw (none, append-nil, take_all k list (omega arith)) in
+      ap (store_of keys chutes) (sym full) ∙ laid_zeros e (whole keys l.keys_read.long) (whole chutes l.chutes_read.long)
+
+-- zeros that fill a list from place k on stand behind the first k
+pub filled_behind : {capacity : ℕ} (k : ℕ) (list : List ℕ) {zeros : List ℕ} → length list ≡ capacity → zeros ≡ replicate (length (take (length list - k) (drop k list))) 0
+    → put_mid k (length list - k) list zeros ≡ take k list ++ replicate (capacity - k) 0
+filled_behind {capacity} k list long e =
+    let none : drop (length list - k) (drop k list) ≡ [] = drop_of_length-le (drop k list) (simp length-drop (omega arith)) in
+    let many : length (take (length list - k) (drop k list)) ≡ capacity - k = simp (length-take, length-drop) (omega arith) in
+    rw (e, none, append-nil, many)

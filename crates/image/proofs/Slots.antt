@@ -1,15 +1,18 @@
 -- Laws of records: what each record of a store's image is, and how the last four bytes of a record are read. Assumes nothing.
-use Prim.Native.Nat.{ℕ, suc, ◌+◌, ◌*◌, ◌≤◌, ◌<◌}
+use Prim.Native.Nat.{ℕ, zero, suc, ◌+◌, ◌-◌, ◌*◌, ◌≤◌, ◌<◌}
 use native.Mathlib.Numerals.{add-one}
 use native.Mathlib.Omega.{arith}
 use mathlib.Core.Path.{◌≡◌, refl, sym, ap, ◌∙◌}
-use mathlib.Core.List.{List, ◌++◌}
+use mathlib.Core.List.{List, [], ◌++◌, append_assoc}
 use borrow.Author.Tests.{lt-ltb, le-ltb, ne_eqb}
-use lib.ListN.{length, get_or}
+use borrow.Rule.Slice.PartMut.{put_mid}
+use lib.ListN.{length, get_or, take, drop, drop_of_length-le, replicate, length-take, length-drop, length-replicate}
+use lib.Seq.{sets, sets-eq}
+use Rattle.std.proofs.lemmas.List.{replicate-append-replicate}
 use lib.Dec.{eqb}
-use Rattle.byte_fields.specs.Bytes.{number_at, fields, pasted}
+use Rattle.byte_fields.specs.Bytes.{bytes_of, number_at, fields, pasted}
 use Rattle.byte_fields.proofs.Fill.{number_two, number_more}
-use Rattle.byte_fields.proofs.Paste.{put_none, put_more, put_fields, put_whole}
+use Rattle.byte_fields.proofs.Paste.{PutFields, put_none, put_more, put_fields, put_whole, fields_same, fields_put_length}
 use Rattle.model.specs.Store.{Store, in_use}
 use Rattle.model.specs.Image.{image_length, slot_bytes, next_index, slot_of, image_of, rest_in}
 use Rattle.model.proofs.Image.{slot_length}
@@ -31,6 +34,45 @@ module _ (place : ℕ) (st : Store) {n : ℕ} (used : n ≡ in_use st) where
   pub slot_zeros : (i : ℕ) → n ≤ i → slot_bytes 0 0 0 ≡ slot_of place st (suc i)
   unfolding slot_of
   slot_zeros i h = rw (← used, le-ltb i n h)
+
+-- Records of zeros are zeros.
+zero_slots : (m : ℕ) → fields m (λ i. slot_bytes 0 0 0) ≡ replicate (16 * m) 0
+unfolding fields slot_bytes bytes_of
+zero_slots zero = refl
+zero_slots (suc m) =
+    let one : slot_bytes 0 0 0 ++ replicate (16 * m) 0 ≡ replicate (16 + 16 * m) 0 = replicate-append-replicate 16 (16 * m) 0 in
+    ap (λ (r : List ℕ). slot_bytes 0 0 0 ++ r) (zero_slots m) ∙ (one ∙ ap (λ (k : ℕ). replicate k 0) (omega arith))
+
+-- fields behind fields
+fields_join : (n m : ℕ) (f : ℕ → List ℕ) → fields n f ++ fields m (λ i. f (n + i)) ≡ fields (n + m) f
+unfolding fields
+fields_join zero m f =
+    let none : 0 + m ≡ m = omega arith in
+    rw none (fields_same m (λ i. f (0 + i)) f (λ i. ap f (omega arith)))
+fields_join (suc n) m f =
+    let g : ℕ → List ℕ = λ i. f (suc i) in
+    let same : fields m (λ i. f (suc n + i)) ≡ fields m (λ i. g (n + i)) = fields_same m (λ i. f (suc n + i)) (λ i. g (n + i)) (λ i. ap f (omega arith)) in
+    let count : suc n + m ≡ suc (n + m) = omega arith in
+    rw (count, same) (append_assoc (f 0) (fields n g) (fields m (λ i. g (n + i))) ∙ ap (λ (r : List ℕ). f 0 ++ r) (fields_join n m g))
+
+-- Where the first n records are put and the others are to be zeros, zeros that fill the rest of the list put them.
+pub zeros_put : {f : ℕ → List ℕ} {capacity n : ℕ} {a b zeros : List ℕ} → PutFields f 16 capacity 16 a b n → ((i : ℕ) → n ≤ i → slot_bytes 0 0 0 ≡ f i)
+    → length a ≡ image_length capacity → zeros ≡ replicate (length (take (length b - 16 * (n + 1)) (drop (16 * (n + 1)) b))) 0
+    → put_mid (16 * (n + 1)) (length b - 16 * (n + 1)) b zeros ≡ pasted 16 (fields capacity f) a
+unfolding image_length pasted
+zeros_put {f} {capacity} {n} {a} {b} {zeros} p others long e =
+    let same : length b ≡ length a = fields_put_length p in
+    let count : length (take (length b - 16 * (n + 1)) (drop (16 * (n + 1)) b)) ≡ 16 * (capacity - n) = simp (length-take, length-drop) (omega (arith, p.within)) in
+    let are_fields : zeros ≡ fields (capacity - n) (λ i. f (n + i))
+    = e ∙ (ap (λ (k : ℕ). replicate k 0) count ∙ (sym (zero_slots (capacity - n)) ∙ fields_same (capacity - n) (λ i. slot_bytes 0 0 0) (λ i. f (n + i)) (λ i. others (n + i) (omega arith)))) in
+    let many : length zeros ≡ 16 * (capacity - n) = ap length e ∙ (length-replicate _ 0 ∙ count) in
+    let none : drop (length b - 16 * (n + 1)) (drop (16 * (n + 1)) b) ≡ [] = drop_of_length-le (drop (16 * (n + 1)) b) (simp length-drop (omega arith)) in
+    let none_too : drop (16 * (n + 1) + length zeros) b ≡ [] = drop_of_length-le b (omega (arith, p.within)) in
+    let is_pasted : put_mid (16 * (n + 1)) (length b - 16 * (n + 1)) b zeros ≡ sets b (16 * (n + 1)) zeros
+    = rw (sets-eq zeros b (16 * (n + 1)) (omega (arith, p.within)), none, none_too) (simp append_assoc) in
+    let put = put_more p.put zeros (16 * (n + 1)) (16 * (capacity - n)) (omega arith) many is_pasted in
+    let whole : n + (capacity - n) ≡ capacity = omega (arith, p.within) in
+    put.is ∙ ap (λ (part : List ℕ). sets a 16 part) (ap (λ (z : List ℕ). fields n f ++ z) are_fields ∙ (fields_join n (capacity - n) f ∙ ap (λ (k : ℕ). fields k f) whole))
 
 -- an image is record 0 and then the others
 image_of_lem : (capacity place : ℕ) (st : Store) → slot_of place st 0 ++ fields capacity (λ i. slot_of place st (suc i)) ≡ image_of capacity place st

@@ -15,6 +15,11 @@ use store::in_use;
 // The bytes of a record: next index, chute, key and four zeros.
 pub const SLOT: usize = 16;
 
+// The largest place of a checkpoint, and the largest chute.
+const LARGEST_PLACE: u64 = 4096;
+
+const LARGEST_CHUTE: u16 = 512;
+
 // ---- written
 
 // Writes record i.
@@ -30,6 +35,7 @@ fn put_slot(image: &mut [u8], i: usize, next: usize, chute: u16, key: u64)
 }
 
 // The index behind record i, where the entries of the first `used` places stand in records 1, 2 and on.
+#[tactic(auto, unfolding(model::specs::Image::next_index))]
 fn next_index(used: usize, i: usize) -> usize
     ensures { result ≡ next_index used i }
 {
@@ -37,26 +43,23 @@ fn next_index(used: usize, i: usize) -> usize
 }
 
 // Writes the store's image, with the place of its checkpoint.
+#[tactic(auto, unfolding(model::specs::Image::image_length))]
 pub fn write_image(keys: &[u64], chutes: &[u16], used: usize, place: usize, image: &mut [u8])
     requires { length image.old ≡ image_length (length keys.now) }
     ensures { image.new ≡ image_of (length keys.now) place (store_of keys.now chutes.now used) }
 {
     let n = in_use(keys, chutes, used);
     put_slot(image, 0, next_index(n, 0), 0, place as u64);
-    let mut i = 0;
-    while i < keys.len() {
-        if i < n {
-            put_slot(image, i + 1, next_index(n, i + 1), chutes[i], keys[i]);
-        } else {
-            put_slot(image, i + 1, 0, 0, 0);
-        }
-        i += 1;
+    for i in 0..n {
+        put_slot(image, i + 1, next_index(n, i + 1), chutes[i], keys[i]);
     }
+    image[SLOT * (n + 1)..].fill(0);
 }
 
 // ---- read
 
 // The next index of record i.
+#[tactic(auto, unfolding(model::specs::Image::next_in))]
 fn next_in(image: &[u8], i: usize) -> usize
     requires { 16 * i + 16 ≤ length image.now }
     ensures { result ≡ next_in image.now i }
@@ -65,6 +68,7 @@ fn next_in(image: &[u8], i: usize) -> usize
 }
 
 // Its chute.
+#[tactic(auto, unfolding(model::specs::Image::chute_in))]
 fn chute_in(image: &[u8], i: usize) -> u16
     requires { 16 * i + 16 ≤ length image.now }
     ensures { result ≡ chute_in image.now i }
@@ -73,6 +77,7 @@ fn chute_in(image: &[u8], i: usize) -> u16
 }
 
 // Its key.
+#[tactic(auto, unfolding(model::specs::Image::key_in))]
 fn key_in(image: &[u8], i: usize) -> u64
     requires { 16 * i + 16 ≤ length image.now }
     ensures { result ≡ key_in image.now i }
@@ -89,63 +94,54 @@ fn rest_is_zero(image: &[u8], i: usize) -> bool
 }
 
 // Whether the chain stays within the room and its keys strictly ascend: refusal 15 where not. A chain that does ends.
+#[tactic(auto, unfolding(model::specs::Image::image_length))]
 pub fn chain_fits(image: &[u8], capacity: usize) -> bool
     requires { length image.now ≡ image_length capacity }
     ensures { result ≡ chain_fits capacity image.now }
 {
     let mut i = next_in(image, 0);
-    let mut n = 0;
-    let mut last = 0;
-    while n <= capacity && i != 0 {
+    let mut last = None;
+    for _ in 0..=capacity {
+        if i == 0 {
+            break;
+        }
         if i > capacity {
             return false;
         }
         let key = key_in(image, i);
-        if n > 0 {
+        if let Some(last) = last {
             if key <= last {
                 return false;
             }
         }
-        last = key;
+        last = Some(key);
         i = next_in(image, i);
-        n += 1;
     }
     true
 }
 
 // Whether chute, place and zero bytes of record 0 are in range.
+#[tactic(auto, unfolding(model::specs::Image::head_fits))]
 fn head_fits(image: &[u8]) -> bool
     requires { 16 ≤ length image.now }
     ensures { result ≡ head_fits image.now }
 {
-    if chute_in(image, 0) != 0 {
-        return false;
-    }
-    if key_in(image, 0) > 4096 {
-        return false;
-    }
-    rest_is_zero(image, 0)
+    chute_in(image, 0) == 0 && key_in(image, 0) <= LARGEST_PLACE && rest_is_zero(image, 0)
 }
 
 // Whether key, chute and zero bytes of record i are in range.
+#[tactic(auto, unfolding(model::specs::Image::slot_fits, s10::specs::Text::largest_key))]
 fn slot_fits(image: &[u8], i: usize) -> bool
     requires { 16 * i + 16 ≤ length image.now }
     ensures { result ≡ slot_fits image.now i }
 {
-    if key_in(image, i) > Identifier::LARGEST_KEY {
-        return false;
-    }
-    let chute = chute_in(image, i);
-    if chute < 1 {
-        return false;
-    }
-    if chute > 512 {
-        return false;
-    }
-    rest_is_zero(image, i)
+    key_in(image, i) <= Identifier::LARGEST_KEY
+        && (1..=LARGEST_CHUTE).contains(&chute_in(image, i))
+        && rest_is_zero(image, i)
 }
 
 // Whether record 0 and those on a chain that fits are in range: refusal 16 where not.
+#[tactic(auto, unfolding(model::specs::Image::image_length))]
 pub fn slots_fit(image: &[u8], capacity: usize) -> bool
     requires { (length image.now ≡ image_length capacity) × (chain_fits capacity image.now ≡ true) }
     ensures { result ≡ slots_fit capacity image.now }
@@ -154,36 +150,35 @@ pub fn slots_fit(image: &[u8], capacity: usize) -> bool
         return false;
     }
     let mut i = next_in(image, 0);
-    let mut n = 0;
-    while n < capacity && i != 0 {
+    for _ in 0..capacity {
+        if i == 0 {
+            break;
+        }
         if !slot_fits(image, i) {
             return false;
         }
         i = next_in(image, i);
-        n += 1;
     }
     true
 }
 
 // Lays the entries of an image whose chain fits out as the store, 0 past them, and returns how many there are.
+#[tactic(auto, unfolding(model::specs::Image::image_length))]
 pub fn read_image(image: &[u8], keys: &mut [u64], chutes: &mut [u16]) -> usize
     requires { (length image.now ≡ image_length (length keys.old)) × (length chutes.old ≡ length keys.old) × (chain_fits (length keys.old) image.now ≡ true) }
     ensures { store_of keys.new chutes.new result ≡ lay_out (length keys.old) (entries_in (length keys.old) image.now) }
 {
     let room = keys.len();
     let mut index = next_in(image, 0);
-    let mut used = 0;
-    while used < room && index != 0 {
+    for used in 0..room {
+        if index == 0 {
+            keys[used..].fill(0);
+            chutes[used..].fill(0);
+            return used;
+        }
         keys[used] = key_in(image, index);
         chutes[used] = chute_in(image, index);
-        used += 1;
         index = next_in(image, index);
     }
-    let mut k = used;
-    while k < room {
-        keys[k] = 0;
-        chutes[k] = 0;
-        k += 1;
-    }
-    used
+    room
 }

@@ -1,14 +1,16 @@
 -- Laws of `specs/Links.antt`. Assumes nothing.
-use Prim.Native.Nat.{ℕ, zero, suc, ◌≤◌, ◌<◌}
+use Prim.Native.Nat.{ℕ, zero, suc, ◌-◌, ◌≤◌, ◌<◌}
 use mathlib.Core.Path.{◌≡◌, refl, sym, ap, ◌∙◌}
 use mathlib.Core.Bool.{Bool, true, false, cond}
-use mathlib.Core.List.{List}
+use mathlib.Core.List.{List, [], ◌∷◌, ◌++◌}
 use native.Mathlib.Omega.{arith}
 use borrow.Author.Tests.{eqb-true, eqb-false, eq-eqb, ne_eqb}
-use lib.ListN.{length, get_or, set}
-use lib.Seq.{get_or-set_same, get_or-set_other}
+use lib.ListN.{length, get_or, set, take, drop, get_or-append}
+use lib.Seq.{get_or-set_same, get_or-set_other, get_or-append_seam}
 use lib.Dec.{eqb}
-use Rattle.key_links.specs.Links.{bucket_of, last_in, last_of, at_link, Linked, Indexed}
+use Rattle.std.proofs.lemmas.List.{length-take-le, take-append-drop}
+use Rattle.std.specs.Prelude.{Some, None}
+use Rattle.key_links.specs.Links.{bucket_of, last_in, last_of, place_at, at_link, Linked, Indexed}
 
 -- a link leads back
 pub last_below : (keys : List ℕ) (b k : ℕ) → last_in keys b k ≤ k
@@ -63,20 +65,30 @@ walk_begins keys key k last e =
     (rw e (last_below keys (bucket_of key) k), λ j is. last_in_lem keys (bucket_of key) k j (sym e ∙ is), rw e (skipped keys key k))
 
 -- passes those of another key
-pub walk_goes : (keys previous : List ℕ) (key k j : ℕ) → Linked keys previous k → Walked keys key k (suc j) → (get_or keys j 0 ≡ key → ⊥) →
-    (get_or previous j 0 < suc j) × Walked keys key k (get_or previous j 0)
+pub walk_goes : (keys previous : List ℕ) (key k link : ℕ) → Linked keys previous k → Walked keys key k link → (link ≡ 0 → ⊥) → (get_or keys (link - 1) 0 ≡ key → ⊥) →
+    (get_or previous (link - 1) 0 < link) × Walked keys key k (get_or previous (link - 1) 0)
 unfolding last_of
-walk_goes keys previous key k j linked w other =
+walk_goes keys previous key k zero linked w some other = absurd (some refl)
+walk_goes keys previous key k (suc j) linked w some other =
+    let before : suc j - 1 ≡ j = omega arith in
     let low : j < k = w.0 in
     let at : get_or previous j 0 ≡ last_in keys (bucket_of key) j = linked j low ∙ ap (λ (b : ℕ). last_in keys b j) (w.1 j refl) in
     let below = last_below keys (bucket_of key) j in
-    let here : last_of keys key j ≡ last_of keys key k = rw (ne_eqb (get_or keys j 0) key other) at w.2 in
-    (rw at (omega arith), (rw at (omega arith), λ i is. last_in_lem keys (bucket_of key) j i (sym at ∙ is), rw at (skipped keys key j ∙ here)))
+    let here : last_of keys key j ≡ last_of keys key k = rw (ne_eqb (get_or keys j 0) key (rw before at other)) at w.2 in
+    rw before (rw at (omega arith), (rw at (omega arith), λ i is. last_in_lem keys (bucket_of key) j i (sym at ∙ is), rw at (skipped keys key j ∙ here)))
 
--- and ends at the key's last
-pub walk_ends : (keys : List ℕ) (key k j : ℕ) → Walked keys key k (suc j) → get_or keys j 0 ≡ key → suc j ≡ last_of keys key k
+-- and ends at the key's last, or behind all
+pub walk_ends : (keys : List ℕ) (key k link : ℕ) → Walked keys key k link → (link ≡ 0 → ⊥) → get_or keys (link - 1) 0 ≡ key → Some (link - 1) ≡ place_at (last_of keys key k)
 unfolding last_of
-walk_ends keys key k j w same = rw (eq-eqb (get_or keys j 0) key same) at w.2
+walk_ends keys key k zero w some same = absurd (some refl)
+walk_ends keys key k (suc j) w some same =
+    let before : suc j - 1 ≡ j = omega arith in
+    rw before (ap place_at (rw (eq-eqb (get_or keys j 0) key (rw before at same)) at w.2))
+
+pub walk_fails : (keys : List ℕ) (key k link : ℕ) → Walked keys key k link → link ≡ 0 → None ≡ place_at (last_of keys key k)
+unfolding last_of
+walk_fails keys key k zero w none = ap place_at w.2
+walk_fails keys key k (suc j) w none = absurd (omega arith)
 
 -- ---- one command more
 
@@ -88,28 +100,33 @@ last_same keys k key b (suc j) low =
     let there = get_or-set_other keys k j key 0 (λ e. omega arith) in
     rw (there, last_same keys k key b j (omega arith))
 
-pub last_of_same : (keys : List ℕ) (k key key' j : ℕ) → j ≤ k → last_of (set keys k key) key' j ≡ last_of keys key' j
-unfolding last_of
-last_of_same keys k key key' zero low = refl
-last_of_same keys k key key' (suc j) low =
-    let there = get_or-set_other keys k j key 0 (λ e. omega arith) in
-    rw (there, last_of_same keys k key key' j (omega arith))
-
 at_same : (values : List ℕ) (k v m : ℕ) → m ≤ k → at_link (set values k v) m ≡ at_link values m
 unfolding at_link
 at_same values k v zero low = refl
 at_same values k v (suc j) low = get_or-set_other values k j v 0 (λ e. omega arith)
 
--- what stands there counts for its key alone
-pub at_more : (keys values : List ℕ) (k key v key' : ℕ) → k < length keys → k < length values →
-    at_link (set values k v) (last_of (set keys k key) key' (suc k)) ≡ cond (eqb key key') v (at_link values (last_of keys key' k))
+-- nor does what is put behind
+last_of_before : (keys more : List ℕ) (key j : ℕ) → j ≤ length keys → last_of (keys ++ more) key j ≡ last_of keys key j
+unfolding last_of
+last_of_before keys more key zero low = refl
+last_of_before keys more key (suc j) low = rw (get_or-append keys more 0 j (omega arith), last_of_before keys more key j (omega arith))
+
+-- so the first k tell the last among them
+pub last_of_taken : (keys : List ℕ) (key k : ℕ) → k ≤ length keys → last_of (take k keys) key (length (take k keys)) ≡ last_of keys key k
+last_of_taken keys key k low =
+    let long = length-take-le k keys low in
+    rw long (sym (last_of_before (take k keys) (drop k keys) key k (omega (arith, long))) ∙ ap (λ (ks : List ℕ). last_of ks key k) (take-append-drop k keys))
+
+-- the one behind counts for its key alone
+pub at_more : (keys values : List ℕ) (key v key' : ℕ) → length keys < length values →
+    at_link (set values (length keys) v) (last_of (keys ++ (key ∷ [])) key' (suc (length keys))) ≡ cond (eqb key key') v (at_link values (last_of keys key' (length keys)))
 unfolding last_of at_link
-at_more keys values k key v key' kk kv =
-    rw (get_or-set_same keys k key 0 kk, last_of_same keys k key key' k (omega arith)) (by (eqb key key'))
+at_more keys values key v key' low =
+    rw (get_or-append_seam keys key [] 0, last_of_before keys (key ∷ []) key' (length keys) (omega arith)) (by (eqb key key'))
   where
-    by : (t : Bool) → at_link (set values k v) (cond t (suc k) (last_of keys key' k)) ≡ cond t v (at_link values (last_of keys key' k))
-    by true = get_or-set_same values k v 0 kv
-    by false = at_same values k v (last_of keys key' k) (last_of_below keys key' k)
+    by : (t : Bool) → at_link (set values (length keys) v) (cond t (suc (length keys)) (last_of keys key' (length keys))) ≡ cond t v (at_link values (last_of keys key' (length keys)))
+    by true = get_or-set_same values (length keys) v 0 low
+    by false = at_same values (length keys) v (last_of keys key' (length keys)) (last_of_below keys key' (length keys))
 
 -- a command goes to the front of its bucket
 pub indexed_more : (keys previous heads : List ℕ) (k key : ℕ) → Indexed keys previous heads k → k < length keys → k < length previous → length heads ≡ 4096 →
@@ -140,3 +157,13 @@ indexed_more keys previous heads k key (linked, last) kk kp hh bucket = (links, 
         by false is =
             let other = eqb-false (bucket_of key) b is in
             rw (get_or-set_other heads (bucket_of key) b (suc k) 0 (λ e. other (sym e)), last_same keys k key b k (omega arith)) (last b h)
+
+-- ---- a place and its link
+
+pub link_of_place : (link place : ℕ) → Some place ≡ place_at link → link ≡ suc place
+link_of_place zero place e = absurd (let z : ◌≡◌ {A = ℕ} 0 1 = cc in omega arith)
+link_of_place (suc j) place e = let same : place ≡ j = cc in ap suc (sym same)
+
+pub link_of_none : (link : ℕ) → None ≡ place_at link → link ≡ 0
+link_of_none zero e = refl
+link_of_none (suc j) e = absurd (let z : ◌≡◌ {A = ℕ} 0 1 = cc in omega arith)

@@ -1,6 +1,6 @@
 -- Commands linked by their keys: each to the one before it in its bucket, so that the last of a key is found without looking at those of other buckets.
 -- Places are counted from 0, and links from 1, 0 for none. Assumes nothing.
-use Rattle.std.specs.Prelude.{ℕ, zero, suc, ◌%◌, ◌<◌, ◌≡◌, cond, List, get_or, eqb}
+use Rattle.std.specs.Prelude.{ℕ, zero, suc, ◌%◌, ◌<◌, ◌≡◌, cond, List, get_or, eqb, Option, Some, None}
 
 -- the bucket of a key; a prime number of buckets, so that keys in even steps spread
 unfoldable pub bucket_of : ℕ → ℕ
@@ -16,6 +16,11 @@ last_in keys b (suc k) = cond (eqb (bucket_of (get_or keys k 0)) b) (suc k) (las
 unfoldable pub last_of : List ℕ → ℕ → ℕ → ℕ
 last_of keys key zero = 0
 last_of keys key (suc k) = cond (eqb (get_or keys k 0) key) (suc k) (last_of keys key k)
+
+-- the place that a link leads to
+abbrev pub place_at : ℕ → Option ℕ
+place_at zero = None
+place_at (suc j) = Some j
 
 -- what a list says at a link, 0 at none
 unfoldable pub at_link : List ℕ → ℕ → ℕ

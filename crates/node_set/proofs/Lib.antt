@@ -3,3 +3,4 @@ pub mod Below
 pub mod Words
 pub mod Laws
 pub mod Within
+pub mod Places

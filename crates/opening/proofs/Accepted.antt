@@ -63,11 +63,22 @@ unfolding source_chained source_fits first_entries
 first_stored capacity nothing chained fits = record { ascending = tt; fits = omega arith; keys = tt; chutes = tt }
 first_stored capacity (image_from image) chained fits = accepted_is_stored capacity image chained fits
 
--- test by test
-pub accepted_opening : (size workers capacity : ℕ) (commands : List ℕ) (source : Source) (lent l : Lists) → open_on size workers capacity commands source lent ≡ Call.accepted l
-    → IsOpened (setup_of size workers capacity commands source) commands l
+-- what each test of an accepted opening found
+pub record Passes (size workers capacity : ℕ) (commands : List ℕ) (source : Source) (lent l : Lists) : Type 0 where
+  pub size_fits : (1 ≤ size) × (size ≤ 150)
+  pub workers_fit : (1 ≤ workers) × (workers ≤ 64)
+  pub capacity_fits : (1 ≤ capacity) × (capacity ≤ 4096)
+  pub whole : length commands % 16 ≡ 0
+  pub count_fits : length commands / 16 ≤ 4096
+  pub long : (lengths_fit capacity (length commands / 16) lent && image_fits capacity lent && source_long capacity source) ≡ true
+  pub chained : source_chained capacity source ≡ true
+  pub fits : source_fits capacity source ≡ true
+  pub opens : opened_with (first_refusal 1 (readings commands)) (setup_of size workers capacity commands source) ≡ Call.accepted l
+
+pub passes : (size workers capacity : ℕ) (commands : List ℕ) (source : Source) (lent l : Lists) → open_on size workers capacity commands source lent ≡ Call.accepted l
+    → Passes size workers capacity commands source lent l
 unfolding open_on
-accepted_opening size workers capacity commands source lent l e =
+passes size workers capacity commands source lent l e =
     let e1 = passed (leb 1 size && leb size 150) 1 e in
     let e2 = passed (leb 1 workers && leb workers 64) 2 e1.1 in
     let e3 = passed (leb 1 capacity && leb capacity 4096) 3 e2.1 in
@@ -76,21 +87,36 @@ accepted_opening size workers capacity commands source lent l e =
     let e6 = passed (lengths_fit capacity (length commands / 16) lent && image_fits capacity lent && source_long capacity source) 6 e5.1 in
     let e15 = passed (source_chained capacity source) 15 e6.1 in
     let e16 = passed (source_fits capacity source) 16 e15.1 in
-    let left = opened_lists (first_refusal 1 (readings commands)) _ l e16.1 in
-    let whole = eqb-true (length commands % 16) 0 e4.0 in
-    let count = commands_length commands (length commands / 16) (omega arith) in
+    record {
+      size_fits = range size 150 e1.0;
+      workers_fit = range workers 64 e2.0;
+      capacity_fits = range capacity 4096 e3.0;
+      whole = eqb-true (length commands % 16) 0 e4.0;
+      count_fits = leb-true (length commands / 16) 4096 e5.0;
+      long = e6.0;
+      chained = e15.0;
+      fits = e16.0;
+      opens = e16.1;
+    }
+
+pub accepted_opening : (size workers capacity : ℕ) (commands : List ℕ) (source : Source) (lent l : Lists) → open_on size workers capacity commands source lent ≡ Call.accepted l
+    → IsOpened (setup_of size workers capacity commands source) commands l
+accepted_opening size workers capacity commands source lent l e =
+    let p = passes size workers capacity commands source lent l e in
+    let left = opened_lists (first_refusal 1 (readings commands)) _ l p.opens in
+    let count = commands_length commands (length commands / 16) (omega (arith, p.whole)) in
     record {
       setup = record {
-        size = range size 150 e1.0;
-        workers = range workers 64 e2.0;
+        size = p.size_fits;
+        workers = p.workers_fit;
         largest = refl;
-        capacity = range capacity 4096 e3.0;
-        count = omega (arith, leb-true (length commands / 16) 4096 e5.0);
-        entries = first_stored capacity source e15.0 e16.0;
+        capacity = p.capacity_fits;
+        count = omega (arith, p.count_fits);
+        entries = first_stored capacity source p.chained p.fits;
         chutes = λ c command at. let r = command_read commands left.0 c command at in accepted_chute_fits r.0 command r.1;
         keys = λ c command at. let r = command_read commands left.0 c command at in accepted_key_is_at_most_largest r.0 command r.1;
       };
-      long = omega arith;
+      long = omega (arith, p.whole);
       read = left.0;
       lists = left.1;
     }

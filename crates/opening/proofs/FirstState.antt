@@ -11,7 +11,6 @@ use lib.Seq.{get_or-set_same, get_or-set_other}
 use borrow.Author.Tests.{lt-ltb, le-ltb, le-leb}
 use Rattle.node_set.specs.Members.{member}
 use Rattle.node_set.proofs.Bits.{bit_of_zero}
-use Rattle.node_set.proofs.Words.{zeros, no_member_of_zeros}
 use Rattle.model.specs.declared.Thread.TheVariants.{Idle}
 use Rattle.model.specs.Store.{Store, lay_out}
 use Rattle.model.specs.Image.{image_length, empty_image}
@@ -99,29 +98,29 @@ first_more size next small h = record {
 
 -- ---- the opening state
 
--- an array of empty sets has no member anywhere
-no_members : (n y : ℕ) → member (get_or (replicate 151 zeros) n []) y ≡ false
+-- an array of a set with no member has no member anywhere
+no_members : (empty : List ℕ) → ((y : ℕ) → member empty y ≡ false) → (n y : ℕ) → member (get_or (replicate 151 empty) n []) y ≡ false
 unfolding member
-no_members n y =
+no_members empty none n y =
     below_or_past n 151
-    (λ h. rw (get_or-replicate 151 n zeros [] h) (no_member_of_zeros y))
-    (λ h. rw (get_or-eq_default (replicate 151 zeros) [] {n = n} (rw (length-replicate 151 zeros) h)) (bit_of_zero (y % 64)))
+    (λ h. rw (get_or-replicate 151 n empty [] h) (none y))
+    (λ h. rw (get_or-eq_default (replicate 151 empty) [] {n = n} (rw (length-replicate 151 empty) h)) (bit_of_zero (y % 64)))
 
 -- the counters at opening
 abbrev pub first_counters : ℕ → ℕ → Counters
 first_counters workers used = record { free = node 1; loaded = record { 0 = 0 }; used = used; limit = workers }
 
 -- the arrays of the opening: the first free list, and everything else 0, false or idle
-pub opened_shown : (o : Setup) (workers used : ℕ) (next : List ℕ) → o.workers ≡ workers → length o.entries ≡ used → ((n : ℕ) → get_or next n 0 ≡ first_next o.size n)
-    → Shown (first_counters workers used) next (replicate 151 0) (replicate 151 false) (replicate 151 false) (replicate 151 zeros) (replicate 65 Idle) (opened o)
+pub opened_shown : (o : Setup) (workers used : ℕ) (next empty : List ℕ) → ((y : ℕ) → member empty y ≡ false) → o.workers ≡ workers → length o.entries ≡ used → ((n : ℕ) → get_or next n 0 ≡ first_next o.size n)
+    → Shown (first_counters workers used) next (replicate 151 0) (replicate 151 false) (replicate 151 false) (replicate 151 empty) (replicate 65 Idle) (opened o)
 unfolding opened opened_graph opened_service no_node lay_out
-opened_shown o workers used next count entries is = record {
+opened_shown o workers used next empty none count entries is = record {
   graph_is = record {
     next_is = fun_ext (λ n. sym (is n));
     seq_is = fun_ext (λ n. sym (constant_at 151 0 n));
     executing_is = fun_ext (λ n. sym (constant_at 151 false n));
     locked_is = fun_ext (λ n. sym (constant_at 151 false n));
-    waits_is = fun_ext (λ n. fun_ext (λ y. sym (no_members n y)));
+    waits_is = fun_ext (λ n. fun_ext (λ y. sym (no_members empty none n y)));
   };
   threads_are = λ t. sym (constant_at 65 Idle t);
   free_is = refl;

@@ -1,5 +1,4 @@
 pub mod Accepted
-pub mod Answer
+pub mod Admitted
 pub mod Tests
 pub mod FirstState
-pub mod Source

@@ -1,8 +1,9 @@
 -- What opening answers and leaves, in the numbers of document 01, "Numbers of refusal", and document 02, A.1, A.2 and A.3. Assumes nothing.
-use Rattle.std.specs.Prelude.{ℕ, ◌/◌, ◌%◌, Bool, true, cond, ◌&&◌, List, [], length, eqb, leb}
-use Rattle.s10.specs.Refusal.{Refusal, plain, at_place}
+use Rattle.std.specs.Prelude.{ℕ, ◌/◌, ◌%◌, Bool, true, cond, ◌&&◌, List, [], length, eqb, leb, ◌≡◌, Result, Ok, Err}
+use Rattle.s10.specs.Refusal.{Refusal, plain}
 use Rattle.command.specs.Read.{ListOutcome, all_accepted, list_refused, first_refusal, readings, commands_in}
 use Rattle.command.specs.Read as Command
+use Rattle.command.specs.declared.Refused.{Refused}
 use Rattle.command.specs.Count.{largest_count}
 use Rattle.model.specs.Serial.{Entry}
 use Rattle.model.specs.Setup.{Setup}
@@ -10,8 +11,6 @@ use Rattle.model.specs.Image.{image_length, chain_fits, slots_fit, entries_in}
 use Rattle.model.specs.Step.{opened}
 use Rattle.opening.specs.declared.Reason.{Reason}
 use Rattle.opening.specs.declared.Reason.TheVariants.{WrongGraphSize, WrongWorkers, WrongCapacity, WrongListLength, TooManyCommands, WrongLength, WrongChain, WrongSlot, WrongCommand}
-use Rattle.opening.specs.declared.Opening.{Opening}
-use Rattle.opening.specs.declared.Opening.TheVariants.{Opened, Refused}
 use Rattle.state_bytes.specs.Layout.{Lists, lists_of, lengths_fit, image_fits}
 use Rattle.state_bytes.specs.Outcome.{CallOutcome, accepted, refused}
 
@@ -25,12 +24,19 @@ refusal_for TooManyCommands = plain 5
 refusal_for WrongLength = plain 6
 refusal_for WrongChain = plain 15
 refusal_for WrongSlot = plain 16
-refusal_for (WrongCommand seq reason) = at_place seq.0 (Command.refusal_for reason)
+refusal_for (WrongCommand first) = Command.refusal_at first
 
 -- and for each answer
-abbrev pub opening_refusal : Opening → Refusal
-opening_refusal Opened = plain 0
-opening_refusal (Refused reason) = refusal_for reason
+abbrev pub opening_refusal : Result Unit Reason → Refusal
+opening_refusal (Ok _) = plain 0
+opening_refusal (Err reason) = refusal_for reason
+
+-- what `Refusal::from` gives for a reason, and `Reason::from` for a refused command
+abbrev pub RefusedFor : Reason → Refusal → Type 0
+RefusedFor reason r = r ≡ refusal_for reason
+
+abbrev pub IsWrongCommand : Refused → Reason → Type 0
+IsWrongCommand first reason = reason ≡ WrongCommand first
 
 unfoldable pub opened_with : ListOutcome → Setup → CallOutcome
 opened_with all_accepted o = accepted (lists_of o (opened o))

@@ -1,5 +1,5 @@
 -- The panel's two reports of document 01, "Records and turns", and the answers from a place on. Assumes nothing.
-use Rattle.std.specs.Prelude.{ℕ, zero, suc, ◌-◌, cond, ◌&&◌, List, [], ◌∷◌, ◌++◌, map, length, drop, replicate, eqb, leb}
+use Rattle.std.specs.Prelude.{ℕ, zero, suc, ◌-◌, cond, ◌&&◌, List, [], ◌∷◌, ◌++◌, map, length, drop, replicate, eqb, leb, ◌≡◌, Result, Ok, Err}
 use Rattle.s10.specs.Refusal.{Refusal, plain}
 use Rattle.node_set.specs.Members.{count_below}
 use Rattle.model.specs.declared.Thread.{Thread}
@@ -8,8 +8,8 @@ use Rattle.model.specs.Graph.{chain_from}
 use Rattle.model.specs.Step.{State, node}
 use Rattle.byte_fields.specs.Bytes.{tabulate, fields, number_at}
 use Rattle.state_bytes.specs.Layout.{Lists, state_fits, handed_back_fit}
-use Rattle.panel.specs.declared.Report.{Report}
-use Rattle.panel.specs.declared.Report.TheVariants.{Reported, WrongLength, WrongState}
+use Rattle.state_bytes.specs.declared.Reason.{Reason}
+use Rattle.state_bytes.specs.Outcome as State
 use Rattle.panel.specs.declared.WorkerStatus.{WorkerStatus}
 use Rattle.panel.specs.declared.WorkerState.{WorkerState}
 use Rattle.panel.specs.declared.WorkerState.TheVariants as worker
@@ -21,12 +21,11 @@ unfoldable pub report_number : Lists → List ℕ → ℕ → ℕ → ℕ
 report_number l commands lent wanted = cond (handed_back_fit l commands && eqb lent wanted) (cond (state_fits l) 0 12) 6
 
 -- the document's values for each answer, and its number
-abbrev pub report_refusal : Report → Refusal
-report_refusal Reported = plain 0
-report_refusal WrongLength = plain 6
-report_refusal WrongState = plain 12
+abbrev pub report_refusal : Result Unit Reason → Refusal
+report_refusal (Ok _) = plain 0
+report_refusal (Err reason) = State.refusal_for reason
 
-abbrev pub report_of : Report → ℕ
+abbrev pub report_of : Result Unit Reason → ℕ
 report_of r = (report_refusal r).number
 
 -- the report list after the call: a refusal leaves it as it was
@@ -58,6 +57,10 @@ status_of (Written own) = entry worker.Written own.0
 status_of (Walking at own) = entry worker.Walking own.0
 status_of (Clearing at own) = entry worker.Clearing own.0
 
+-- what `WorkerStatus::from` gives for a thread
+abbrev pub IsStatusOf : Thread → WorkerStatus → Type 0
+IsStatusOf thread r = r ≡ status_of thread
+
 -- "those past the worker count say idle"; "up to the largest count of the opening and the list, [..] the panel shows them" (02, A.2)
 unfoldable pub reported : ℕ → State → ℕ → Thread
 reported largest s t = cond (leb t largest) (s.threads t) Idle
@@ -76,6 +79,10 @@ state_number worker.LookedUp = 4
 state_number worker.Written = 5
 state_number worker.Walking = 6
 state_number worker.Clearing = 7
+
+-- what `u8::from` gives for a state
+abbrev pub IsNumberOf : WorkerState → ℕ → Type 0
+IsNumberOf state number = number ≡ state_number state
 
 -- an entry as two bytes, and all of them
 unfoldable pub status_bytes : WorkerStatus → List ℕ

@@ -5,10 +5,8 @@ ghost use Rattle.state_bytes.specs.Layout.{at_entry, Lists, state_length, state_
 ghost use Rattle.s10.specs.Refusal.{plain};
 ghost use Rattle.panel.specs.Reports.{report_of, report_refusal, report_number, report_left, pending_counts};
 
-use crate::Report;
-use crate::tested::tested;
-use node_set::{Node, count};
-use state_bytes::{LAST_NODE, next_at, set_at};
+use node_set::Node;
+use state_bytes::{LAST_NODE, Reason, next_at, set_at, tested};
 
 // How many entries the report has.
 const COUNTS: usize = 150;
@@ -22,7 +20,7 @@ fn count_of(state: &[u8], node: Node) -> u8
     if n > LAST_NODE {
         return 0;
     }
-    count(set_at(state, n as usize)) as u8
+    set_at(state, n as usize).count() as u8
 }
 
 // Writes the counts along the chain, and 0 after the last. A chain that runs in a circle is left after the last entry.
@@ -31,15 +29,13 @@ fn write_counts(state: &[u8], counts: &mut [u8])
     ensures { (l : Lists) → l.state ≡ state.now → counts.new ≡ pending_counts (state_in l) }
 {
     let mut node = next_at(state, Node(0));
-    let mut i = 0;
-    while i < COUNTS {
+    for count in counts {
         if node.0 == 0 {
-            counts[i] = 0;
+            *count = 0;
         } else {
-            counts[i] = count_of(state, node);
+            *count = count_of(state, node);
             node = next_at(state, node);
         }
-        i += 1;
     }
 }
 
@@ -51,21 +47,18 @@ pub fn pending_counts(
     answers: &[u16],
     commands: &[u8],
     counts: &mut [u8],
-) -> Report
+) -> Result<(), Reason>
     ensures refusal { report_refusal result ≡ plain (report_number (at_entry state keys chutes answers) commands.now (length counts.old) 150) }
     ensures left { counts.new ≡ report_left (report_of result) (pending_counts (state_in (at_entry state keys chutes answers))) counts.old }
 {
-    let report = tested(
+    tested(
         state,
         keys,
         chutes.len(),
         answers.len(),
         commands.len(),
-        counts.len(),
-        COUNTS,
-    );
-    if let Report::Reported = report {
-        write_counts(state, counts);
-    }
-    report
+        counts.len() == COUNTS,
+    )?;
+    write_counts(state, counts);
+    Ok(())
 }

@@ -1,11 +1,12 @@
 -- One command more has its round: `specs/Entered.antt`. Assumes nothing.
-use Prim.Native.Nat.{ℕ, suc, ◌≤◌, ◌<◌, max, suc-le-suc}
+use Prim.Native.Nat.{ℕ, suc, ◌+◌, ◌≤◌, ◌<◌, max, suc-le-suc}
 use mathlib.Core.Path.{◌≡◌, refl, sym, ap, ◌∙◌}
 use mathlib.Core.Bool.{Bool, true, false, not, cond, ◌&&◌}
 use mathlib.Core.List.{List, [], ◌∷◌, ◌++◌, append_assoc, append-nil}
 use native.Mathlib.Omega.{arith}
 use borrow.Author.Tests.{eqb-true}
-use lib.ListN.{length, get_or, set, length-append}
+use lib.ListN.{length, get_or, set, length-append, length-map}
+use Rattle.std.proofs.lemmas.List.{map-set}
 use lib.Seq.{take-suc-set}
 use lib.Dec.{eqb}
 use Rattle.command.specs.declared.Command.{Command}
@@ -14,10 +15,11 @@ use Rattle.rounds.specs.declared.Largest.{Largest}
 use Rattle.rounds.specs.Rounds.{largest_where, largest_round, rounds_after, rounds_of, largest_of}
 use Rattle.rounds.specs.Promise.{Keeps}
 use Rattle.rounds.specs.Ways.{key_of, is_any, is_no_read}
-use Rattle.rounds.specs.Links.{last_of, at_link}
-use Rattle.rounds.specs.Entered.{Entered, depends_up_to, largest_after}
+use Rattle.key_links.specs.Links.{last_of, at_link}
+use Rattle.rounds.specs.declared.Numbered.{Numbered}
+use Rattle.rounds.specs.Entered.{Entered, Holds, alls, changes, depends_up_to, largest_after}
 use Rattle.rounds.proofs.Promise.{rounds_are_needed}
-use Rattle.rounds.proofs.Links.{at_more}
+use Rattle.key_links.proofs.Links.{at_more}
 use Rattle.rounds.proofs.Ways.{ways}
 
 -- a test of one command more
@@ -51,7 +53,7 @@ module _ (es : List Command) (keys alls changes rounds : List ℕ) (l : Largest)
   pub round_by_ways : depends_up_to c.kind l (cond (is_read c.kind) (at_link changes link) (at_link alls link)) ≡ largest_round c es (rounds_of es)
   round_by_ways = rw (e.top, e.fence, e.writers, e.all c.key, e.changed c.key) (sym (ways c es (rounds_of es)))
 
-  module _ (r : ℕ) (is : r ≡ suc (largest_round c es (rounds_of es))) (kk : length es < length keys) (ka : length es < length alls) (kc : length es < length changes) (ks : length es < length rounds) where
+  module _ (r : ℕ) (is : r ≡ suc (largest_round c es (rounds_of es))) (kk : length keys ≡ length es) (ka : length es < length alls) (kc : length es < length changes) (ks : length es < length rounds) where
     long : length (rounds_of es) ≡ length es
     long = (rounds_are_needed es).long
 
@@ -63,9 +65,10 @@ module _ (es : List Command) (keys alls changes rounds : List ℕ) (l : Largest)
 
     -- the new one counts for its key
     value_more : (test : Command → Bool) (values : List ℕ) → length es < length values → ((key : ℕ) → at_link values (last_of keys key (length es)) ≡ key_of test key es (rounds_of es)) →
-        (key : ℕ) → at_link (set values (length es) (max (at_link values link) (cond (test c) r 0))) (last_of (set keys (length es) c.key) key (length (es ++ (c ∷ [])))) ≡ key_of test key (es ++ (c ∷ [])) (rounds_of (es ++ (c ∷ [])))
+        (key : ℕ) → at_link (set values (length es) (max (at_link values link) (cond (test c) r 0))) (last_of (keys ++ (c.key ∷ [])) key (length (es ++ (c ∷ [])))) ≡ key_of test key (es ++ (c ∷ [])) (rounds_of (es ++ (c ∷ [])))
     value_more test values kv before key =
-        rw (count, now_rounds, at_more keys values (length es) c.key (max (at_link values link) (cond (test c) r 0)) key kk kv, before c.key, before key, where_snoc (λ (x : Command). eqb x.key key && test x) es (rounds_of es) c r long)
+        let more = rw kk at (at_more keys values c.key (max (at_link values link) (cond (test c) r 0)) key (omega (arith, kk, kv))) in
+        rw (count, now_rounds, more, before c.key, before key, where_snoc (λ (x : Command). eqb x.key key && test x) es (rounds_of es) c r long)
         (by (eqb c.key key) refl)
       where
         by : (t : Bool) → eqb c.key key ≡ t →
@@ -73,7 +76,7 @@ module _ (es : List Command) (keys alls changes rounds : List ℕ) (l : Largest)
         by true same = ap (λ (k : ℕ). max (key_of test k es (rounds_of es)) (cond (test c) r 0)) (eqb-true c.key key same)
         by false other = omega arith
 
-    pub entered_more : Entered (es ++ (c ∷ [])) (set keys (length es) c.key) (set alls (length es) (max (at_link alls link) r))
+    pub entered_more : Entered (es ++ (c ∷ [])) (keys ++ (c.key ∷ [])) (set alls (length es) (max (at_link alls link) r))
         (set changes (length es) (max (at_link changes link) (cond (not (is_read c.kind)) r 0))) (set rounds (length es) r) (largest_after c.kind r l)
     entered_more = record {
       placed = rw (count, now_rounds, take-suc-set rounds (length es) r ks) (ap (λ (rs : List ℕ). rs ++ (r ∷ [])) e.placed);
@@ -84,13 +87,22 @@ module _ (es : List Command) (keys alls changes rounds : List ℕ) (l : Largest)
       changed = value_more is_no_read changes kc e.changed;
     }
 
--- the same in the numbers of the code
-pub entered_with : (es : List Command) (keys alls changes rounds : List ℕ) (l m : Largest) (c : Command) (i r a b : ℕ) → Entered es keys alls changes rounds l →
-    length es ≡ i → r ≡ suc (largest_round c es (rounds_of es)) → m ≡ largest_after c.kind r l →
-    a ≡ max (at_link alls (last_of keys c.key i)) r → b ≡ max (at_link changes (last_of keys c.key i)) (cond (not (is_read c.kind)) r 0) →
-    i < length keys → i < length alls → i < length changes → i < length rounds → Entered (es ++ (c ∷ [])) (set keys i c.key) (set alls i a) (set changes i b) (set rounds i r) m
-entered_with es keys alls changes rounds l m c i r a b e long is_round is_after is_all is_changed kk ka kc ks =
-    rw (is_after, is_all, is_changed, ← long) (entered_more es keys alls changes rounds l c e r is_round (omega arith) (omega arith) (omega arith) (omega arith))
+-- ---- the same of what the search holds
+
+module _ (es : List Command) (rounds : List ℕ) (n : Numbered) (c : Command) (h : Holds es rounds n) where
+  abbrev pub last : ℕ
+  last = last_of n.links c.key (length n.links)
+
+  pub round_is : (same : ℕ) → same ≡ cond (is_read c.kind) (at_link (changes n) last) (at_link (alls n) last) → suc (depends_up_to c.kind n.largest same) ≡ suc (largest_round c es (rounds_of es))
+  round_is same is = rw (is, h.0) (ap suc (round_by_ways es n.links (alls n) (changes n) rounds n.largest c h.1))
+
+  pub holds_more : (r : ℕ) (m : Numbered) → r ≡ suc (largest_round c es (rounds_of es)) → length es < length n.of_keys → length es < length rounds → m.links ≡ n.links ++ (c.key ∷ []) →
+      m.of_keys ≡ set n.of_keys (length n.links) (record { all = max (at_link (alls n) last) r; changing = max (at_link (changes n) last) (cond (not (is_read c.kind)) r 0) }) →
+      m.largest ≡ largest_after c.kind r n.largest → Holds (es ++ (c ∷ [])) (set rounds (length es) r) m
+  holds_more r m is room lent links of_keys largest = (
+    rw links (length-append n.links (c.key ∷ []) ∙ ap (λ (k : ℕ). k + 1) h.0 ∙ sym (length-append es (c ∷ []))),
+    rw (links, of_keys, largest, map-set, map-set, h.0) (entered_more es n.links (alls n) (changes n) rounds n.largest c h.1 r is h.0 (rw length-map room) (rw length-map room) lent),
+  )
 
 -- ---- no round passes the number of commands
 

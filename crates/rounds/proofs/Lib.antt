@@ -1,6 +1,5 @@
 pub mod Promise
 pub mod Ways
-pub mod Links
 pub mod Entered
 pub mod Numbering
 pub mod Calls

@@ -1,14 +1,11 @@
 -- What the call answers and leaves: document 02, A.9. Assumes nothing.
-use Rattle.std.specs.Prelude.{ℕ, ◌/◌, ◌%◌, cond, List, length, eqb, leb}
-use Rattle.s10.specs.Refusal.{Refusal, plain, at_place}
+use Rattle.std.specs.Prelude.{ℕ, ◌/◌, ◌%◌, cond, List, length, eqb, leb, ◌≡◌, Result, Ok, Err}
+use Rattle.s10.specs.Refusal.{Refusal, plain}
 use Rattle.command.specs.Read.{ListOutcome, all_accepted, list_refused, first_refusal, readings, commands_in}
 use Rattle.command.specs.Read as Command
-use Rattle.rounds.specs.declared.Numbered.{Numbered}
-use Rattle.rounds.specs.declared.Numbered.TheVariants as numbered
 use Rattle.rounds.specs.declared.Reason.{Reason}
 use Rattle.rounds.specs.declared.Reason.TheVariants.{WrongListLength, TooManyCommands, WrongLength, WrongCommand}
-use Rattle.rounds.specs.declared.Finding.{Finding}
-use Rattle.rounds.specs.declared.Finding.TheVariants as finding
+use Rattle.command.specs.declared.Refused.{Refused}
 use Rattle.rounds.specs.Rounds.{rounds_of, round_count}
 
 -- the document's values for each reason
@@ -16,16 +13,23 @@ abbrev pub refusal_for : Reason → Refusal
 refusal_for WrongListLength = plain 4
 refusal_for TooManyCommands = plain 5
 refusal_for WrongLength = plain 6
-refusal_for (WrongCommand seq reason) = at_place seq.0 (Command.refusal_for reason)
+refusal_for (WrongCommand first) = Command.refusal_at first
 
 -- and for each answer
-abbrev pub finding_refusal : Finding → Refusal
-finding_refusal (finding.Found n) = plain 0
-finding_refusal (finding.Refused reason) = refusal_for reason
+abbrev pub finding_refusal : Result ℕ Reason → Refusal
+finding_refusal (Ok n) = plain 0
+finding_refusal (Err reason) = refusal_for reason
 
-abbrev pub finding_count : Finding → ℕ
-finding_count (finding.Found n) = n
-finding_count (finding.Refused reason) = 0
+abbrev pub finding_count : Result ℕ Reason → ℕ
+finding_count (Ok n) = n
+finding_count (Err reason) = 0
+
+-- what `Refusal::from` gives for a reason, and `Reason::from` for a refused command
+abbrev pub RefusedFor : Reason → Refusal → Type 0
+RefusedFor reason r = r ≡ refusal_for reason
+
+abbrev pub IsWrongCommand : Refused → Reason → Type 0
+IsWrongCommand first reason = reason ≡ WrongCommand first
 
 -- what a call comes to: the rounds and their number, or a refusal
 pub data Outcome : Type 0 where
@@ -50,15 +54,10 @@ rounds_on commands lent =
     (found_in (first_refusal 1 (readings commands)) commands) (refused (plain 6))) (refused (plain 5))) (refused (plain 4))
 
 -- the answer, and the lent list after the call: a refusal leaves it as it was
-abbrev pub answer_of : Finding → List ℕ → Outcome
-answer_of (finding.Found n) rounds = found rounds n
-answer_of (finding.Refused reason) rounds = refused (refusal_for reason)
+abbrev pub answer_of : Result ℕ Reason → List ℕ → Outcome
+answer_of (Ok n) rounds = found rounds n
+answer_of (Err reason) rounds = refused (refusal_for reason)
 
 unfoldable pub left_by : Outcome → List ℕ → List ℕ
 left_by (found rounds n) old = rounds
 left_by (refused r) old = old
-
--- what giving rounds says of the list
-abbrev pub numbered_outcome : Numbered → ListOutcome
-numbered_outcome (numbered.Count n) = all_accepted
-numbered_outcome (numbered.RefusedAt seq reason) = list_refused (at_place seq.0 (Command.refusal_for reason))

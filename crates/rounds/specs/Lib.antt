@@ -1,6 +1,5 @@
 pub mod Rounds
 pub mod Ways
-pub mod Links
 pub mod Entered
 pub mod Calls
 pub mod Promise

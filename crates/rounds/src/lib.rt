@@ -1,109 +1,44 @@
 // The rounds of a list of commands: how far more workers could help.
 #![tactic(auto)]
 
-ghost use Rattle.std.specs.Prelude.{◌≡◌, cond, ℕ, suc, max, ◌%◌, ◌/◌, ◌≤◌, ◌<◌, length, get_or, take, List, [], ◌∷◌, ◌++◌};
+ghost use Rattle.std.specs.Prelude.{◌≡◌, cond, not, ℕ, suc, max, ◌%◌, ◌/◌, ◌≤◌, ◌<◌, length, take, set, List, [], ◌∷◌, ◌++◌};
 ghost use Rattle.command.specs.declared.Command.{Command};
-ghost use Rattle.command.specs.Read.{first_refusal, readings, commands_in};
-ghost use Rattle.rounds.specs.declared.Numbered.TheVariants.{Count};
+ghost use Rattle.command.specs.Read.{first_refusal, readings, commands_in, list_outcome};
 ghost use Rattle.rounds.specs.Rounds.{rounds_of, round_count};
-ghost use Rattle.rounds.specs.Calls.{numbered_outcome, refusal_for, finding_refusal, finding_count, found_in, rounds_on, answer_of, left_by};
-ghost use Rattle.rounds.specs.Entered.{Entered, depends_up_to, largest_after};
-ghost use Rattle.rounds.specs.Links.{bucket_of, last_in, last_of, at_link, Linked, Indexed};
+ghost use Rattle.rounds.specs.Calls.{RefusedFor, IsWrongCommand, found_in, rounds_on, answer_of, left_by};
+ghost use Rattle.key_links.specs.Links.{last_of, at_link};
+ghost use Rattle.rounds.specs.Entered.{Holds, alls, changes, depends_up_to, largest_after};
 
-use command::{Command, Kind, Reading, Seq};
+use command::{Command, Kind, Refused, Seq};
+use key_links::KeyLinks;
+use s10::Refusal;
 
 // Why a list is refused.
-#[derive(Clone, Copy)]
+#[derive(Clone, Copy, Debug, PartialEq, Eq)]
 pub enum Reason {
     WrongListLength,
     TooManyCommands,
     WrongLength,
-    WrongCommand(Seq, command::Reason),
+    WrongCommand(Refused),
 }
 
-// What the call answers: how many rounds there are, or why the list is refused.
-#[derive(Clone, Copy)]
-pub enum Finding {
-    Found(u16),
-    Refused(Reason),
-}
+impl From<Refused> for Reason {
+    ghost from_gives = { IsWrongCommand };
 
-impl Reason {
-    // The refusal's number.
-    fn number(self) -> u64
-        ensures { (result ≡ (refusal_for self).number) × (result ≤ 14) }
-    {
-        match self {
-            Reason::WrongListLength => 4,
-            Reason::TooManyCommands => 5,
-            Reason::WrongLength => 6,
-            Reason::WrongCommand(_, reason) => reason.number(),
-        }
-    }
-
-    // The place of the command that was refused, 0 for none.
-    fn place(self) -> usize
-        ensures { result ≡ (refusal_for self).place }
-    {
-        match self {
-            Reason::WrongListLength => 0,
-            Reason::TooManyCommands => 0,
-            Reason::WrongLength => 0,
-            Reason::WrongCommand(seq, _) => seq.0,
-        }
-    }
-
-    // The first faulty character of its identifier, 0 for none.
-    fn character(self) -> u8
-        ensures { result ≡ (refusal_for self).character }
-    {
-        match self {
-            Reason::WrongListLength => 0,
-            Reason::TooManyCommands => 0,
-            Reason::WrongLength => 0,
-            Reason::WrongCommand(_, reason) => reason.character(),
-        }
+    fn from(refused: Refused) -> Reason {
+        Reason::WrongCommand(refused)
     }
 }
 
-impl Finding {
-    // The answer's number, 0 for found.
-    pub fn number(self) -> u64
-        ensures { (result ≡ (finding_refusal self).number) × (result ≤ 14) }
-    {
-        match self {
-            Finding::Found(_) => 0,
-            Finding::Refused(reason) => reason.number(),
-        }
-    }
+impl From<Reason> for Refusal {
+    ghost from_gives = { RefusedFor };
 
-    // The place of the command that was refused, 0 for none.
-    pub fn place(self) -> usize
-        ensures { result ≡ (finding_refusal self).place }
-    {
-        match self {
-            Finding::Found(_) => 0,
-            Finding::Refused(reason) => reason.place(),
-        }
-    }
-
-    // The first faulty character of its identifier, 0 for none.
-    pub fn character(self) -> u8
-        ensures { result ≡ (finding_refusal self).character }
-    {
-        match self {
-            Finding::Found(_) => 0,
-            Finding::Refused(reason) => reason.character(),
-        }
-    }
-
-    // How many rounds were found, 0 on a refusal.
-    pub fn count(self) -> u16
-        ensures { result ≡ finding_count self }
-    {
-        match self {
-            Finding::Found(count) => count,
-            Finding::Refused(_) => 0,
+    fn from(reason: Reason) -> Refusal {
+        match reason {
+            Reason::WrongListLength => Refusal::plain(4),
+            Reason::TooManyCommands => Refusal::plain(5),
+            Reason::WrongLength => Refusal::plain(6),
+            Reason::WrongCommand(refused) => Refusal::from(refused),
         }
     }
 }
@@ -111,233 +46,158 @@ impl Finding {
 // The most commands of a list.
 const MOST: usize = 4096;
 
-// How many buckets there are for keys.
-const BUCKETS: u64 = 4093;
-
 // The largest rounds so far: of all commands, of those for no item, and of inserts and deletes.
-#[derive(Clone, Copy)]
+#[derive(Clone, Copy, Default)]
 struct Largest {
     top: u16,
     fence: u16,
     writers: u16,
 }
 
-// The bucket of a key.
-fn bucket_of(key: u64) -> usize
-    ensures { (result ≡ bucket_of key) × (result < 4096) }
-{
-    (key % BUCKETS) as usize
+// The largest rounds among the commands of a key: of all, and of those that are no reads.
+#[derive(Clone, Copy, Default)]
+struct OfKey {
+    all: u16,
+    changing: u16,
 }
 
-// The larger of two rounds.
-fn larger(a: u16, b: u16) -> u16
-    ensures { result ≡ max a b }
-{
-    if a < b { b } else { a }
-}
-
-// The last of the first k commands that has a key, counted from 1, 0 for none, along the links of its bucket.
-fn last_of(keys: &[u64], previous: &[u16], k: usize, last: u16, key: u64) -> u16
-    requires { (k ≤ length keys.now) × (length previous.now ≡ length keys.now) × (last ≡ last_in keys.now (bucket_of key) k) × Linked keys.now previous.now k }
-    ensures { result ≡ last_of keys.now key k }
-{
-    let mut link = last;
-    while link != 0 {
-        let j = link as usize - 1;
-        if keys[j] == key {
-            return link;
-        }
-        link = previous[j];
-    }
-    0
-}
-
-// What a list says at a link, 0 at none.
-fn at_link(list: &[u16], link: u16) -> u16
-    requires { link ≤ length list.now }
-    ensures { result ≡ at_link list.now link }
-{
-    if link == 0 {
-        return 0;
-    }
-    list[link as usize - 1]
-}
-
-// A round, or 0 where it does not count.
-fn round_if(counts: bool, round: u16) -> u16
-    ensures { result ≡ cond counts round 0 }
-{
-    if counts { round } else { 0 }
-}
-
-// The largest round of the commands of a key that a command depends on: for a read of those that are no reads, else of all.
-fn same_round(read: bool, changed: u16, all: u16) -> u16
-    ensures { result ≡ cond read changed all }
-{
-    if read { changed } else { all }
-}
-
-// The round of a command of a kind: one more than the largest that it depends on.
-fn round_of(kind: Kind, largest: Largest, same: u16) -> u16
-    requires { (largest.top ≤ 4095) × (largest.fence ≤ 4095) × (largest.writers ≤ 4095) × (same ≤ 4095) }
-    ensures { result ≡ suc (depends_up_to kind largest same) }
-{
-    if !kind.has_item() {
-        return largest.top + 1;
-    }
-    let writers = round_if(kind.is_insert_or_delete(), largest.writers);
-    larger(largest.fence, larger(writers, same)) + 1
-}
-
-// The largest rounds after a command of a kind with its round.
-fn largest_after(kind: Kind, largest: Largest, round: u16) -> Largest
-    ensures { result ≡ largest_after kind round largest }
-{
-    Largest {
-        top: larger(largest.top, round),
-        fence: larger(largest.fence, round_if(!kind.has_item(), round)),
-        writers: larger(largest.writers, round_if(kind.is_insert_or_delete(), round)),
-    }
-}
-
-// Gives a command its round, and enters it.
-fn enter(
-    keys: &mut [u64],
-    alls: &mut [u16],
-    changes: &mut [u16],
-    previous: &mut [u16],
-    heads: &mut [u16],
-    rounds: &mut [u16],
-    i: usize,
-    command: Command,
+// What is known of the commands that have their rounds: their keys, for each command the largest rounds of its key up to it, and the
+// largest of all.
+#[derive(Drop)]
+struct Numbered {
+    links: KeyLinks,
+    of_keys: [OfKey; 4096],
     largest: Largest,
-) -> Largest
-    requires { (i < 4096) × (length keys.old ≡ 4096) × (length alls.old ≡ 4096) × (length changes.old ≡ 4096) × (length previous.old ≡ 4096) × (length heads.old ≡ 4096) × (length rounds.old ≡ 4096) × Indexed keys.old previous.old heads.old i × ((es : List Command) × (length es ≡ i) × Entered es keys.old alls.old changes.old rounds.old largest) }
-    ensures index { Indexed keys.new previous.new heads.new (suc i) }
-    ensures entered { (es : List Command) → length es ≡ i → Entered es keys.old alls.old changes.old rounds.old largest → Entered (es ++ (command ∷ [])) keys.new alls.new changes.new rounds.new result }
-{
-    let kind = command.kind;
-    let key = command.key;
-    let read = kind.is_read();
-    let bucket = bucket_of(key);
-    let last = heads[bucket];
-    let link = last_of(keys, previous, i, last, key);
-    let all = at_link(alls, link);
-    let changed = at_link(changes, link);
-    let round = round_of(kind, largest, same_round(read, changed, all));
-    keys[i] = key;
-    alls[i] = larger(all, round);
-    changes[i] = larger(changed, round_if(!read, round));
-    previous[i] = last;
-    heads[bucket] = i as u16 + 1;
-    rounds[i] = round;
-    largest_after(kind, largest, round)
 }
 
-// Tables for 4,096 commands.
-fn new_keys() -> [u64; 4096]
-    ensures { length result ≡ 4096 }
-{
-    [0; 4096]
-}
-
-fn new_links() -> [u16; 4096]
-    ensures { (length result ≡ 4096) × ((b : ℕ) → get_or result b 0 ≡ 0) }
-{
-    [0; 4096]
-}
-
-// What giving every command its round finds: how many rounds there are, or the first command that was refused.
-#[derive(Clone, Copy)]
-enum Numbered {
-    Count(u16),
-    RefusedAt(Seq, command::Reason),
-}
-
-// Gives every command of a list its round, up to the first refusal.
-fn number(list: &[u8], rounds: &mut [u16]) -> Numbered
-    requires { (length list.now % 16 ≡ 0) × (length list.now ≤ 65536) × (length rounds.old ≡ 4096) }
-    ensures outcome { numbered_outcome result ≡ first_refusal 1 (readings list.now) }
-    ensures rounds { (n : ℕ) → result ≡ Count n → (take (length list.now / 16) rounds.new ≡ rounds_of (commands_in list.now)) × (n ≡ round_count (commands_in list.now)) }
-{
-    let mut keys = new_keys();
-    let mut alls = new_links();
-    let mut changes = new_links();
-    let mut previous = new_links();
-    let mut heads = new_links();
-    let mut largest = Largest {
-        top: 0,
-        fence: 0,
-        writers: 0,
-    };
-    let count = list.len() / Command::LENGTH;
-    let mut i = 0;
-    while i < count {
-        let at = i * Command::LENGTH;
-        let end = at + Command::LENGTH;
-        match Command::read(&list[at..end]) {
-            Reading::Read(command) => {
-                largest = enter(
-                    &mut keys,
-                    &mut alls,
-                    &mut changes,
-                    &mut previous,
-                    &mut heads,
-                    rounds,
-                    i,
-                    command,
-                    largest,
-                );
-            }
-            Reading::Refused(reason) => return Numbered::RefusedAt(Seq(i + 1), reason),
+impl Largest {
+    // The round of a command of a kind: one more than the largest that it depends on; `same` is that of its key.
+    fn round_of(self, kind: Kind, same: u16) -> u16
+        requires { (self.top ≤ 4095) × (self.fence ≤ 4095) × (self.writers ≤ 4095) × (same ≤ 4095) }
+        ensures { result ≡ suc (depends_up_to kind self same) }
+    {
+        if !kind.has_item() {
+            return self.top + 1;
         }
-        i += 1;
+        let mut largest = self.fence.max(same);
+        if kind.is_insert_or_delete() {
+            largest = largest.max(self.writers);
+        }
+        largest + 1
     }
-    Numbered::Count(largest.top)
+
+    // Counts the round of a command of a kind.
+    fn count(&mut self, kind: Kind, round: u16)
+        ensures { self.new ≡ largest_after kind round self.old }
+    {
+        self.top = self.top.max(round);
+        if !kind.has_item() {
+            self.fence = self.fence.max(round);
+        }
+        if kind.is_insert_or_delete() {
+            self.writers = self.writers.max(round);
+        }
+    }
 }
 
-// Copies the first of a list.
-fn copy(from: &[u16], to: &mut [u16])
-    requires { length to.old ≤ length from.now }
-    ensures { to.new ≡ take (length to.old) from.now }
-{
-    let mut i = 0;
-    while i < to.len() {
-        to[i] = from[i];
-        i += 1;
+impl OfKey {
+    // Counts the round of a command of the key.
+    fn count(&mut self, read: bool, round: u16)
+        ensures { self.new ≡ record { all = max self.old.all round; changing = max self.old.changing (cond (not read) round 0) } }
+    {
+        self.all = self.all.max(round);
+        if !read {
+            self.changing = self.changing.max(round);
+        }
     }
+}
+
+impl Numbered {
+    // No command.
+    fn new() -> Numbered
+        ensures { (result.links ≡ []) × (result.largest ≡ record { top = 0; fence = 0; writers = 0 }) }
+    {
+        Numbered {
+            links: KeyLinks::new(),
+            of_keys: [OfKey::default(); 4096],
+            largest: Largest::default(),
+        }
+    }
+
+    // The largest rounds among the commands of a key.
+    fn of_key(&self, key: u64) -> OfKey
+        requires { length self.now.links ≤ 4096 }
+        ensures all { result.all ≡ at_link (alls self.now) (last_of self.now.links key (length self.now.links)) }
+        ensures changing { result.changing ≡ at_link (changes self.now) (last_of self.now.links key (length self.now.links)) }
+    {
+        match self.links.find(key) {
+            Some(place) => self.of_keys[place],
+            None => OfKey::default(),
+        }
+    }
+
+    // The round of a command, which is entered behind the others.
+    fn enter(&mut self, command: Command) -> u16
+        requires { (length self.old.links < 4096) × ((es : List Command) × (rounds : List ℕ) × Holds es rounds self.old) }
+        ensures { (es : List Command) (rounds : List ℕ) → length es < length rounds → Holds es rounds self.old → Holds (es ++ (command ∷ [])) (set rounds (length es) result) self.new }
+    {
+        let read = command.kind.is_read();
+        let mut of_key = self.of_key(command.key);
+        let same = if read { of_key.changing } else { of_key.all };
+        let round = self.largest.round_of(command.kind, same);
+        of_key.count(read, round);
+        self.largest.count(command.kind, round);
+        let place = self.links.enter(command.key);
+        self.of_keys[place] = of_key;
+        round
+    }
+}
+
+// Gives every command of a list its round, up to the first refusal: how many rounds there are.
+fn number(list: &[u8], rounds: &mut [u16]) -> Result<u16, Refused>
+    requires { (length list.now % 16 ≡ 0) × (length list.now ≤ 65536) × (length rounds.old ≡ 4096) }
+    ensures outcome { list_outcome result ≡ first_refusal 1 (readings list.now) }
+    ensures rounds { (n : ℕ) → result ≡ Ok n → (take (length list.now / 16) rounds.new ≡ rounds_of (commands_in list.now)) × (n ≡ round_count (commands_in list.now)) }
+{
+    let mut numbered = Numbered::new();
+    for (i, part) in list.chunks(Command::LENGTH).enumerate() {
+        match Command::read(part) {
+            Ok(command) => rounds[i] = numbered.enter(command),
+            Err(reason) => {
+                let place = Seq(i + 1);
+                return Err(Refused { place, reason });
+            }
+        }
+    }
+    Ok(numbered.largest.top)
 }
 
 // The rounds of a list whose length was tested.
-fn found_in(commands: &[u8], rounds: &mut [u16]) -> Finding
+fn found_in(commands: &[u8], rounds: &mut [u16]) -> Result<u16, Reason>
     requires { (length commands.now % 16 ≡ 0) × (length rounds.old ≡ length commands.now / 16) × (length commands.now ≤ 65536) }
     ensures answer { answer_of result rounds.new ≡ found_in (first_refusal 1 (readings commands.now)) commands.now }
     ensures left { rounds.new ≡ left_by (found_in (first_refusal 1 (readings commands.now)) commands.now) rounds.old }
 {
-    let mut own = new_links();
-    match number(commands, &mut own) {
-        Numbered::Count(count) => {
-            copy(&own, rounds);
-            Finding::Found(count)
-        }
-        Numbered::RefusedAt(seq, reason) => Finding::Refused(Reason::WrongCommand(seq, reason)),
-    }
+    let mut own = [0; MOST];
+    let count = number(commands, &mut own)?;
+    rounds.copy_from_slice(&own[..rounds.len()]);
+    Ok(count)
 }
 
 // Gives each command of a list its round, in a lent list of one entry a command. A refusal leaves the list as it was.
-pub fn find(commands: &[u8], rounds: &mut [u16]) -> Finding
+pub fn find(commands: &[u8], rounds: &mut [u16]) -> Result<u16, Reason>
     ensures answer { answer_of result rounds.new ≡ rounds_on commands.now (length rounds.old) }
     ensures left { rounds.new ≡ left_by (rounds_on commands.now (length rounds.old)) rounds.old }
 {
     if commands.len() % Command::LENGTH != 0 {
-        return Finding::Refused(Reason::WrongListLength);
+        return Err(Reason::WrongListLength);
     }
     let count = commands.len() / Command::LENGTH;
     if count > MOST {
-        return Finding::Refused(Reason::TooManyCommands);
+        return Err(Reason::TooManyCommands);
     }
     if rounds.len() != count {
-        return Finding::Refused(Reason::WrongLength);
+        return Err(Reason::WrongLength);
     }
     found_in(commands, rounds)
 }

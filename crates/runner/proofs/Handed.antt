@@ -4,7 +4,7 @@ use native.Mathlib.Omega.{arith}
 use mathlib.Core.Path.{◌≡◌, refl, sym, ap, ◌∙◌, fun_ext, subst}
 use mathlib.Core.Bool.{Bool, true, false, cond, not, ◌||◌}
 use mathlib.Core.List.{List, [], ◌∷◌}
-use lib.ListN.{length, get_or, replicate, length-replicate, get_or-replicate, get_or-eq_default}
+use lib.ListN.{length, get_or}
 use lib.Dec.{eqb, leb, ltb}
 use borrow.Author.Tests.{leb-true, eqb-true, lt-ltb, le-ltb}
 use Rattle.node_set.specs.Members.{member}
@@ -13,18 +13,19 @@ use Rattle.model.specs.declared.Thread.TheVariants.{Idle}
 use Rattle.model.specs.Image.{image_length}
 use Rattle.model.specs.Statement.{all_within}
 use Rattle.model.specs.declared.Counters.{Counters}
-use Rattle.graph.specs.Arrays.{NodesWithin, numbers}
+use Rattle.graph.specs.declared.Graph.{Graph}
+use Rattle.graph.specs.Arrays.{NodesWithin}
 use Rattle.command.specs.Read.{commands_in}
 use Rattle.graph.specs.Items.{Kept}
 use Rattle.graph.specs.Memory.{Ready, memory, shown}
 use Rattle.graph.proofs.Commands.{commands_length}
 use Rattle.byte_fields.specs.Bytes.{number_at, tabulate}
 use Rattle.state_bytes.specs.Layout.{Lists, thread_of, thread_at, set_at, setup_in, count_in, state_in, state_length, thread_fits, thread_fits_at, image_fits}
-use Rattle.runner.specs.Performed.{CountersIn, order_from, Named}
+use Rattle.runner.specs.Performed.{CountersIn, Order, given, chosen, Named}
 use Rattle.byte_fields.proofs.Bytes.{below_or_past, tabulate_at, tabulate_past}
 use Rattle.byte_fields.proofs.Fill.{number_one}
 use Rattle.state_bytes.proofs.StateParts.{no_member}
-use Rattle.state_bytes.proofs.Tested.{each_passed}
+use Rattle.state_bytes.proofs.Tests.{each_passed}
 use Rattle.state_bytes.proofs.Passed.{Long, InRange}
 use Rattle.runner.proofs.Performing.{threads_of, within_higher}
 
@@ -39,11 +40,6 @@ tabulate_cond k f d n =
 tabulate_all {ℓ} : {A : Type ℓ} (P : A → Type 0) (k : ℕ) (f : ℕ → A) (d : A) → ((n : ℕ) → n < k → P (f n)) → P d → (n : ℕ) → P (get_or (tabulate k f) n d)
 tabulate_all P k f d each last n =
     below_or_past n k (λ h. subst P (sym (tabulate_at k f d n h)) (each n h)) (λ h. subst P (sym (tabulate_past k f d n h)) last)
-
--- an array of zeros is 0 everywhere
-pub zeros : (k n : ℕ) → ◌≡◌ {A = ℕ} (get_or (replicate k 0) n 0) 0
-zeros k n =
-    below_or_past n k (λ h. get_or-replicate k n 0 0 h) (λ h. get_or-eq_default (replicate k 0) 0 {n = n} (rw (length-replicate {A = ℕ} k 0) h))
 
 -- a tabulated set's members
 set_cond : (f : ℕ → List ℕ) (n y : ℕ) → member (get_or (tabulate 151 f) n []) y ≡ cond (ltb n 151) (member (f n) y) false
@@ -93,9 +89,9 @@ module _ (l : Lists) (commands : List ℕ) where
   unfolding setup_in
   fit_named range schedule = within_higher (number_at 1 3 l.state) 64 range.largest schedule
 
-  pub fit_order : InRange l → (b : Bool) (schedule : List ℕ) (limit : ℕ) (lent : List ℕ) → Named (setup_in l.state commands).largest (order_from b schedule limit) lent → Named 64 (order_from b schedule limit) lent
-  fit_order range false schedule limit lent named = fit_named range schedule named
-  fit_order range true schedule limit lent named = named
+  pub fit_order : InRange l → (order : Order) (lent : List ℕ) → Named (setup_in l.state commands).largest order lent → Named 64 order lent
+  fit_order range (given schedule) lent named = fit_named range schedule named
+  fit_order range (chosen limit) lent named = named
 
   pub fit_largest : InRange l → (setup_in l.state commands).largest ≤ 64
   unfolding setup_in
@@ -120,20 +116,27 @@ largest_in_lem b commands long = number_one 3 b (omega arith)
 
 -- ---- the arrays of handed-back lists
 
--- what is read into the arrays
-pub record ReadOut (l : Lists) (k : Counters) (next seq : List ℕ) (executing locked : List Bool) (waits : List (List ℕ)) (threads : List Thread) : Type 0 where
+-- what is read into the graph and the threads
+pub record ReadOut (l : Lists) (k : Counters) (graph : Graph) (threads : List Thread) : Type 0 where
   pub counters : CountersIn l.state k
-  pub next_is : next ≡ tabulate 151 (λ (n : ℕ). get_or l.state (14 + n) 0)
-  pub seq_is : seq ≡ tabulate 151 (λ (n : ℕ). number_at 2 (165 + 2 * n) l.state)
-  pub executing_is : executing ≡ tabulate 151 (λ (n : ℕ). eqb (get_or l.state (467 + n) 0) 1)
-  pub locked_is : locked ≡ tabulate 151 (λ (n : ℕ). eqb (get_or l.state (618 + n) 0) 1)
-  pub waits_is : waits ≡ tabulate 151 (set_at l.state)
+  pub next_is : graph.next ≡ tabulate 151 (λ (n : ℕ). get_or l.state (14 + n) 0)
+  pub seq_is : graph.seq ≡ tabulate 151 (λ (n : ℕ). number_at 2 (165 + 2 * n) l.state)
+  pub executing_is : graph.executing ≡ tabulate 151 (λ (n : ℕ). eqb (get_or l.state (467 + n) 0) 1)
+  pub locked_is : graph.locked ≡ tabulate 151 (λ (n : ℕ). eqb (get_or l.state (618 + n) 0) 1)
+  pub waits_is : graph.waits ≡ tabulate 151 (set_at l.state)
   pub threads_are : threads ≡ tabulate 65 (thread_at l.state)
 
-module _ (l : Lists) {k : Counters} {next seq : List ℕ} {executing locked : List Bool} {waits : List (List ℕ)} {threads : List Thread}
-    (r : ReadOut l k next seq executing locked waits threads) where
+module _ (l : Lists) where
+  -- each sequence number is that of a command
+  pub read_placed : (seq commands : List ℕ) → seq ≡ tabulate 151 (λ (n : ℕ). number_at 2 (165 + 2 * n) l.state) → Long l commands → InRange l → (n : ℕ) → 16 * get_or seq n 0 ≤ length commands
+  read_placed seq commands is long range n =
+      let h = tabulate_all (λ (x : ℕ). x ≤ count_in l.state) 151 (λ (n : ℕ). number_at 2 (165 + 2 * n) l.state) 0 range.seq (omega arith) n in
+      let e = ap (λ (a : List ℕ). get_or a n 0) is in
+      omega (arith, long.commands_are, h, e)
+
+module _ (l : Lists) {k : Counters} {graph : Graph} {threads : List Thread} (r : ReadOut l k graph threads) where
   -- they show the state that stands in the lists
-  pub read_shows : shown (memory next seq executing locked waits l.keys l.chutes l.answers l.image k) (threads_of threads) ≡ state_in l
+  pub read_shows : shown (memory graph l.keys l.chutes l.answers l.image k) (threads_of threads) ≡ state_in l
   unfolding state_in
   read_shows = λ i. record {
     graph = record {
@@ -150,16 +153,8 @@ module _ (l : Lists) {k : Counters} {next seq : List ℕ} {executing locked : Li
   }
 
   module _ (commands : List ℕ) (long : Long l commands) (range : InRange l) where
-    -- each sequence number is that of a command
-    pub read_placed : (n : ℕ) → 16 * get_or seq n 0 ≤ length commands
-    read_placed n =
-        let h = tabulate_all (λ (x : ℕ). x ≤ count_in l.state) 151 (λ (n : ℕ). number_at 2 (165 + 2 * n) l.state) 0 range.seq (omega arith) n in
-        let e = ap (λ (a : List ℕ). get_or a n 0) r.seq_is in
-        omega (arith, long.commands_are, h, e)
-
     -- and they are ready for a step of any thread
-    pub read_ready : {kinds item_keys item_chutes : List ℕ} → Kept (commands_in commands) (numbers seq) kinds item_keys item_chutes
-        → Ready commands kinds item_keys item_chutes (memory next seq executing locked waits l.keys l.chutes l.answers l.image k) Idle
+    pub read_ready : Kept (commands_in commands) graph → Ready commands (memory graph l.keys l.chutes l.answers l.image k) Idle
     read_ready kept = record {
       nodes = subst (λ (a : List ℕ). (n : ℕ) → get_or a n 0 ≤ 150) (sym r.next_is) (tabulate_all (λ (x : ℕ). x ≤ 150) 151 _ 0 range.next (omega arith));
       free = omega (arith, r.counters.free_is, range.free);

@@ -3,25 +3,28 @@ use Prim.Native.Nat.{ℕ, zero, suc, ◌+◌, ◌-◌, ◌≤◌, ◌<◌}
 use native.Mathlib.Omega.{arith}
 use native.Mathlib.Numerals.{add-one}
 use mathlib.Core.Path.{◌≡◌, refl, sym, ap, ◌∙◌, fun_ext, subst}
-use mathlib.Core.Bool.{Bool, true, false, cond, not, ◌&&◌, and-eq-true_iff}
+use mathlib.Core.Bool.{true, false, and-eq-true_iff}
 use mathlib.Core.List.{List, [], ◌∷◌, ◌++◌, append_assoc, append-nil}
 use mathlib.Core.Logic.{⊎_elim}
 use lib.ListN.{length, get_or, take, drop, set, length-set, length-append, length-drop, drop_of_length-le}
 use lib.Dec.{leb}
 use lib.Seq.{take-suc, length-take-le, drop-cons, set-append_seam, get_or-set_same, get_or-set_other}
-use borrow.Author.Tests.{leb-true, le-leb, ne_eqb, not-true}
+use borrow.Author.Rules.{rules}
+use Rattle.std.specs.Prelude.{Some, None}
+use borrow.Author.Tests.{leb-true, le-leb, ne_eqb}
 use Rattle.model.specs.declared.Thread.{Thread}
 use Rattle.model.specs.declared.Thread.TheVariants.{Idle}
 use Rattle.model.specs.Upd.{upd}
 use Rattle.model.specs.Setup.{Setup}
 use Rattle.model.specs.Step.{State, step, steps}
-use Rattle.model.specs.Dispatch.{Next, step_of, fresh, following, goes_on, steps_from}
+use Rattle.model.specs.Dispatch.{Next, fresh, steps_from}
 use Rattle.model.specs.Statement.{all_within}
-use Rattle.command.proofs.Tests.{true_false, eqb_cases}
+use Rattle.command.proofs.Tests.{eqb_cases}
 use Rattle.model.proofs.Upd.{upd_at, upd_other}
 use Rattle.model.proofs.Finish.Schedule.{steps_append}
 use Rattle.model.proofs.Finish.Ends.{steps_none}
 use Rattle.model.specs.declared.Counters.{Counters}
+use Rattle.graph.specs.declared.Graph.{Graph}
 use Rattle.graph.specs.Arrays.{NodesWithin}
 use Rattle.command.specs.Read.{commands_in}
 use Rattle.graph.specs.Memory.{Memory, Ready, Steps, memory, shown}
@@ -30,8 +33,8 @@ use Rattle.state_bytes.specs.declared.Settings.{Settings}
 use Rattle.state_bytes.specs.Layout.{Lists, all_lists, lists_of}
 use Rattle.state_bytes.specs.Written.{Sets, Shown, Lays}
 use Rattle.choice.specs.declared.Plan.{Plan}
-use Rattle.choice.specs.Chosen.{next_of, Fresh, stays_with, looks_at, Kept as Kept'}
-use Rattle.runner.specs.Performed.{Order, given, chosen, order_from, schedule_of, Named, written_in, most, Over, Ahead, noted_in, Performed}
+use Rattle.choice.specs.Chosen.{next_of, NamesThread, Seen, after}
+use Rattle.runner.specs.Performed.{Order, given, chosen, schedule_of, Named, written_in, most, PlannedBy, Over, Ahead, noted_in, Performed}
 use Rattle.byte_fields.proofs.Bytes.{tabulate_elements}
 
 -- the threads of an array, idle past its end
@@ -83,10 +86,6 @@ module _ (threads : List Thread) (t : ℕ) (thread : Thread) (h : t < length thr
 
 -- ---- along the steps
 
--- what comes after the steps of a plan, or where none was made yet
-abbrev afterwards : Setup → Plan → State → Next
-afterwards o plan s = cond plan.going (following o plan.settled plan.thread s) (fresh o plan.settled s)
-
 -- what is left of the steps: the rest of the schedule, or what the dispatcher still chooses
 abbrev rest : Setup → Order → ℕ → (State → Next) → State → List ℕ
 rest o (given ts) i coming s = drop i ts
@@ -98,14 +97,14 @@ Filled (given ts) made lent₀ lent = lent ≡ lent₀
 Filled (chosen limit) made lent₀ lent = lent ≡ made ++ drop (length made) lent₀
 
 -- the arrays are ready for a step of any thread, and as long as before
-pub record Kept (commands : List ℕ) (m₀ : Memory) (kinds item_keys item_chutes : List ℕ) (m : Memory) (threads : List Thread) : Type 0 where
-  pub ready : Ready commands kinds item_keys item_chutes m Idle
+pub record Kept (commands : List ℕ) (m₀ : Memory) (m : Memory) (threads : List Thread) : Type 0 where
+  pub ready : Ready commands m Idle
   pub within : (t : ℕ) → NodesWithin (threads_of threads t)
   pub all : length threads ≡ 65
-  pub keys_long : length m.service.keys ≡ length m₀.service.keys
-  pub chutes_long : length m.service.chutes ≡ length m₀.service.chutes
-  pub answers_long : length m.service.answers ≡ length m₀.service.answers
-  pub image_long : length m.service.image ≡ length m₀.service.image
+  pub keys_long : length m.keys ≡ length m₀.keys
+  pub chutes_long : length m.chutes ≡ length m₀.chutes
+  pub answers_long : length m.answers ≡ length m₀.answers
+  pub image_long : length m.image ≡ length m₀.image
 
 -- of a setup: the arrays show the state after the steps made, and these with what is left are all
 pub record Reaches (o : Setup) (order : Order) (s₀ s : State) (made : List ℕ) (i : ℕ) (coming : State → Next) : Type 0 where
@@ -113,33 +112,37 @@ pub record Reaches (o : Setup) (order : Order) (s₀ s : State) (made : List ℕ
   pub all_are : schedule_of o order s₀ ≡ made ++ rest o order i coming s
 
 -- after i steps, those of the plan among them
-pub record Along (c : Settings) (commands : List ℕ) (order : Order) (lent₀ : List ℕ) (m₀ : Memory) (threads₀ : List Thread) (kinds item_keys item_chutes : List ℕ) (m : Memory) (threads : List Thread) (lent : List ℕ) (plan : Plan) (i : ℕ) : Type 0 where
+pub record Along (c : Settings) (commands : List ℕ) (order : Order) (lent₀ : List ℕ) (m₀ : Memory) (threads₀ : List Thread) (m : Memory) (threads : List Thread) (lent : List ℕ) (plan : Plan) (i : ℕ) : Type 0 where
   pub made : List ℕ
   pub made_long : length made ≡ i
   pub few : i ≤ most order
-  pub kept : Kept commands m₀ kinds item_keys item_chutes m threads
-  pub steady : plan.thread ≤ 64
+  pub kept : Kept commands m₀ m threads
+  pub steady : NamesThread plan
   pub filled : Filled order made lent₀ lent
-  pub reaches : (o : Setup) → Sets c o → o.commands ≡ commands_in commands → o.capacity ≡ length m₀.service.keys
-      → Reaches o order (shown m₀ (threads_of threads₀)) (shown m (threads_of threads)) made i (afterwards o plan)
+  pub reaches : (o : Setup) → Sets c o → o.commands ≡ commands_in commands → o.capacity ≡ length m₀.keys
+      → Reaches o order (shown m₀ (threads_of threads₀)) (shown m (threads_of threads)) made i (after o plan)
 
 -- after the steps of the first j threads kept ahead
-pub record Block (commands ahead : List ℕ) (m₁ : Memory) (threads₁ : List Thread) (kinds item_keys item_chutes : List ℕ) (m : Memory) (threads : List Thread) (j : ℕ) : Type 0 where
-  pub kept : Kept commands m₁ kinds item_keys item_chutes m threads
-  pub shows : (o : Setup) → o.commands ≡ commands_in commands → o.capacity ≡ length m₁.service.keys
+pub record Block (commands ahead : List ℕ) (m₁ : Memory) (threads₁ : List Thread) (m : Memory) (threads : List Thread) (j : ℕ) : Type 0 where
+  pub kept : Kept commands m₁ m threads
+  pub shows : (o : Setup) → o.commands ≡ commands_in commands → o.capacity ≡ length m₁.keys
       → shown m (threads_of threads) ≡ steps o (take j ahead) (shown m₁ (threads_of threads₁))
 
 -- ready, with another thread to step
-pub ready_for : {list kinds item_keys item_chutes : List ℕ} {m : Memory} {thread : Thread} (other : Thread) → NodesWithin other
-    → Ready list kinds item_keys item_chutes m thread → Ready list kinds item_keys item_chutes m other
+pub ready_for : {list : List ℕ} {m : Memory} {thread : Thread} (other : Thread) → NodesWithin other
+    → Ready list m thread → Ready list m other
 ready_for other w r = record { nodes = r.nodes; free = r.free; within = w; kept = r.kept; whole = r.whole; few = r.few }
 
 -- ---- what is kept ahead
 
 -- the thread kept is one of the 65
-pub ahead_named : {plan : Plan} {done n : ℕ} {ahead : List ℕ} (order : Order) (j : ℕ) (lent : List ℕ) → Ahead order plan done ahead n → j < n → Named 64 order lent → plan.thread ≤ 64 → get_or ahead j 0 < 65
+pub ahead_named : {plan : Plan} {done n : ℕ} {ahead : List ℕ} (order : Order) (j : ℕ) (lent : List ℕ) → Ahead order plan done ahead n → j < n → Named 64 order lent → NamesThread plan → get_or ahead j 0 < 65
 ahead_named {done} (given ts) j lent a more named steady = omega (arith, a.are j more, each_within 64 ts named (done + j))
-ahead_named (chosen limit) j lent a more named steady = omega (arith, a.are j more)
+ahead_named {ahead} (chosen limit) j lent a more named steady =
+    let few = a.are.0 in
+    let first : j ≡ 0 = omega arith in
+    let low : get_or ahead 0 0 ≤ 64 = steady _ (a.are.1 (omega arith)) in
+    rw first (omega (arith, low))
 
 -- ---- before the first step
 
@@ -149,8 +152,8 @@ unfolding steps_from
 steps_over o n s = refl
 
 -- the arrays as they are found
-kept_none : {commands kinds item_keys item_chutes : List ℕ} {m : Memory} {threads : List Thread} → Ready commands kinds item_keys item_chutes m Idle → ((t : ℕ) → NodesWithin (threads_of threads t)) → length threads ≡ 65
-    → Kept commands m kinds item_keys item_chutes m threads
+kept_none : {commands : List ℕ} {m : Memory} {threads : List Thread} → Ready commands m Idle → ((t : ℕ) → NodesWithin (threads_of threads t)) → length threads ≡ 65
+    → Kept commands m m threads
 kept_none r w h = record { ready = r; within = w; all = h; keys_long = refl; chutes_long = refl; answers_long = refl; image_long = refl }
 
 -- all steps, by what they come from
@@ -162,40 +165,38 @@ pub chosen_are : (o : Setup) (limit : ℕ) (s : State) → schedule_of o (chosen
 unfolding schedule_of
 chosen_are o limit s = refl
 
--- before the first step, with a plan that is not going
-pub along_none : {c : Settings} {commands lent kinds item_keys item_chutes : List ℕ} {m : Memory} {threads : List Thread} {plan : Plan} (b : Bool) (schedule : List ℕ) (limit : ℕ)
-    → Ready commands kinds item_keys item_chutes m Idle → ((t : ℕ) → NodesWithin (threads_of threads t)) → length threads ≡ 65
-    → plan.thread ≤ 64 → plan.going ≡ false → plan.settled ≡ false
-    → Along c commands (order_from b schedule limit) lent m threads kinds item_keys item_chutes m threads lent plan 0
-along_none {lent} {m} {threads} {plan} b schedule limit r w h steady idle unsettled = record {
+-- before the first step, with a plan that has no thread
+pub along_none : {c : Settings} {commands lent : List ℕ} {m : Memory} {threads : List Thread} (order : Order) → Ready commands m Idle → ((t : ℕ) → NodesWithin (threads_of threads t)) → length threads ≡ 65
+    → Along c commands order lent m threads m threads lent (record { next = None; settled = false }) 0
+along_none {lent} {m} {threads} order r w h = record {
   made = [];
   made_long = refl;
   few = omega arith;
   kept = kept_none r w h;
-  steady = steady;
-  filled = nothing b;
-  reaches = λ o _ _ _. record { state_is = sym (no_steps o (shown m (threads_of threads))); all_are = all b o (shown m (threads_of threads)) };
+  steady = λ t is. search rules;
+  filled = nothing order;
+  reaches = λ o _ _ _. record { state_is = sym (no_steps o (shown m (threads_of threads))); all_are = all order o (shown m (threads_of threads)) };
 }
   where
-    nothing : (b : Bool) → Filled (order_from b schedule limit) [] lent lent
-    nothing false = refl
-    nothing true = refl
+    nothing : (order : Order) → Filled order [] lent lent
+    nothing (given ts) = refl
+    nothing (chosen limit) = refl
 
-    all : (b : Bool) (o : Setup) (s : State) → schedule_of o (order_from b schedule limit) s ≡ [] ++ rest o (order_from b schedule limit) 0 (afterwards o plan) s
-    all false o s = given_are o schedule s
-    all true o s = let e : limit ≡ limit - 0 = omega arith in chosen_are o limit s ∙ rw (idle, unsettled) (ap (λ k. steps_from o k (fresh o false s) s) e)
+    all : (order : Order) (o : Setup) (s : State) → schedule_of o order s ≡ [] ++ rest o order 0 (after o (record { next = None; settled = false })) s
+    all (given ts) o s = given_are o ts s
+    all (chosen limit) o s = let e : limit ≡ limit - 0 = omega arith in chosen_are o limit s ∙ ap (λ k. steps_from o k (fresh o false s) s) e
 
 -- ---- a step
 
 -- the arrays after it, and the state that they show
-module _ {commands : List ℕ} {m₀ : Memory} {kinds item_keys item_chutes kinds' item_keys' item_chutes' : List ℕ} {m m' : Memory} {threads : List Thread} (t : ℕ) (thread : Thread)
-    (high : t < 65) (k : Kept commands m₀ kinds item_keys item_chutes m threads) (stepped : Steps commands t (threads_of threads t) m kinds' item_keys' item_chutes' thread m')
-    (keys : length m'.service.keys ≡ length m.service.keys) (chutes : length m'.service.chutes ≡ length m.service.chutes)
-    (answers : length m'.service.answers ≡ length m.service.answers) (image : length m'.service.image ≡ length m.service.image) where
+module _ {commands : List ℕ} {m₀ : Memory} {m m' : Memory} {threads : List Thread} (t : ℕ) (thread : Thread)
+    (high : t < 65) (k : Kept commands m₀ m threads) (stepped : Steps commands t (threads_of threads t) m thread m')
+    (keys : length m'.keys ≡ length m.keys) (chutes : length m'.chutes ≡ length m.chutes)
+    (answers : length m'.answers ≡ length m.answers) (image : length m'.image ≡ length m.image) where
   inside : t < length threads
   inside = omega (arith, k.all)
 
-  pub kept_more : Kept commands m₀ kinds' item_keys' item_chutes' m' (set threads t thread)
+  pub kept_more : Kept commands m₀ m' (set threads t thread)
   kept_more = record {
     ready = ready_for Idle tt stepped.ready;
     within = set_within threads t thread inside stepped.ready.within k.within;
@@ -206,19 +207,19 @@ module _ {commands : List ℕ} {m₀ : Memory} {kinds item_keys item_chutes kind
     image_long = image ∙ k.image_long;
   }
 
-  state_more : (o : Setup) → o.commands ≡ commands_in commands → o.capacity ≡ length m₀.service.keys → shown m' (threads_of (set threads t thread)) ≡ step o t (shown m (threads_of threads))
+  state_more : (o : Setup) → o.commands ≡ commands_in commands → o.capacity ≡ length m₀.keys → shown m' (threads_of (set threads t thread)) ≡ step o t (shown m (threads_of threads))
   state_more o cs cap = ap (shown m') (set_thread threads t thread inside) ∙ stepped.step_is o (threads_of threads) cs (cap ∙ sym k.keys_long) refl
 
 -- the arrays before the first thread kept ahead
-pub block_none : {commands kinds item_keys item_chutes : List ℕ} {m₀ m : Memory} {threads : List Thread} (ahead : List ℕ) → Kept commands m₀ kinds item_keys item_chutes m threads → Block commands ahead m threads kinds item_keys item_chutes m threads 0
+pub block_none : {commands : List ℕ} {m₀ m : Memory} {threads : List Thread} (ahead : List ℕ) → Kept commands m₀ m threads → Block commands ahead m threads m threads 0
 block_none {m} {threads} ahead k = record { kept = kept_none k.ready k.within k.all; shows = λ o _ _. sym (no_steps o (shown m (threads_of threads))) }
 
 -- a step of the next of them is the model's
-pub block_more : {commands kinds item_keys item_chutes kinds' item_keys' item_chutes' : List ℕ} {m₁ m m' : Memory} {threads₁ threads : List Thread} (ahead : List ℕ) (j : ℕ) (thread : Thread)
-    → j < length ahead → get_or ahead j 0 < 65 → Steps commands (get_or ahead j 0) (threads_of threads (get_or ahead j 0)) m kinds' item_keys' item_chutes' thread m'
-    → length m'.service.keys ≡ length m.service.keys → length m'.service.chutes ≡ length m.service.chutes → length m'.service.answers ≡ length m.service.answers
-    → length m'.service.image ≡ length m.service.image → Block commands ahead m₁ threads₁ kinds item_keys item_chutes m threads j
-    → Block commands ahead m₁ threads₁ kinds' item_keys' item_chutes' m' (set threads (get_or ahead j 0) thread) (j + 1)
+pub block_more : {commands : List ℕ} {m₁ m m' : Memory} {threads₁ threads : List Thread} (ahead : List ℕ) (j : ℕ) (thread : Thread)
+    → j < length ahead → get_or ahead j 0 < 65 → Steps commands (get_or ahead j 0) (threads_of threads (get_or ahead j 0)) m thread m'
+    → length m'.keys ≡ length m.keys → length m'.chutes ≡ length m.chutes → length m'.answers ≡ length m.answers
+    → length m'.image ≡ length m.image → Block commands ahead m₁ threads₁ m threads j
+    → Block commands ahead m₁ threads₁ m' (set threads (get_or ahead j 0) thread) (j + 1)
 block_more {m₁} {m'} {threads₁} {threads} ahead j thread h high stepped keys chutes answers image b = record {
   kept = kept_more (get_or ahead j 0) thread high b.kept stepped keys chutes answers image;
   shows = λ o cs cap.
@@ -228,70 +229,27 @@ block_more {m₁} {m'} {threads₁} {threads} ahead j thread h high stepped keys
 
 -- ---- the invariant when another thread is planned
 
--- a plan made of the arrays: the same while its thread goes on, and else another
-pub record PlannedBy (c : Settings) (chooses : Bool) (plan : Plan) (m : Memory) (threads : List Thread) (plan' : Plan) : Type 0 where
-  pub named : plan'.thread ≤ 64
-  pub same : stays_with plan (threads_of threads plan.thread) ≡ true → plan' ≡ plan
-  pub other : chooses ≡ true → stays_with plan (threads_of threads plan.thread) ≡ false
-      → Fresh plan.settled (get_or m.graph.next 0 0) m.graph.seq threads m.graph.loaded c.count c.largest plan'
+-- a plan made of the memory
+abbrev pub Planned : Order → Settings → Plan → Memory → List Thread → Plan → Type 0
+Planned order c plan m threads plan' = PlannedBy order plan m.graph threads m.counters.loaded.0 c.count c.largest plan'
 
--- made by looking at all threads
-module _ (c : Settings) (chooses : Bool) (plan : Plan) (m : Memory) (threads : List Thread) (plan' : Plan) where
-  pub by_looking : looks_at chooses plan (threads_of threads plan.thread) ≡ true → Fresh false (get_or m.graph.next 0 0) m.graph.seq threads m.graph.loaded c.count c.largest plan'
-      → PlannedBy c chooses plan m threads plan'
-  by_looking looks f =
-      let both = (and-eq-true_iff (chooses && not plan.settled) (not (stays_with plan (threads_of threads plan.thread)))).0 looks in
-      let unsettled : plan.settled ≡ false = not-true plan.settled ((and-eq-true_iff chooses (not plan.settled)).0 both.0).1 in
-      let ends : stays_with plan (threads_of threads plan.thread) ≡ false = not-true _ both.1 in
-      record { named = f.0; same = λ stays. absurd (true_false _ stays ends); other = λ _ _. rw unsettled f }
-
-  -- or without
-  pub by_keeping : Kept' chooses plan (threads_of threads plan.thread) (get_or m.graph.next 0 0) m.graph.loaded c.count plan' → PlannedBy c chooses plan m threads plan'
-  unfolding fresh
-  by_keeping k = record {
-    named = k.named;
-    same = k.same;
-    other = λ chosen ends.
-        let settled = k.other chosen ends in
-        (settled.1.0, λ o s first loaded count largest seq ts. settled.1.1 o s first loaded count ∙ rw settled.0);
-  }
-
--- what follows a step, by whether the thread goes on
-follows_on : (o : Setup) (settled : Bool) (t : ℕ) (s : State) → goes_on settled (s.threads t) ≡ true → following o settled t s ≡ step_of settled t
-unfolding following
-follows_on o settled t s g = rw g
-
-follows_fresh : (o : Setup) (settled : Bool) (t : ℕ) (s : State) → goes_on settled (s.threads t) ≡ false → following o settled t s ≡ fresh o settled s
-unfolding following
-follows_fresh o settled t s g = rw g
-
--- it is the model's, on the state that the arrays show
-planned : (c : Settings) (plan : Plan) (m : Memory) (threads : List Thread) (plan' : Plan) → PlannedBy c true plan m threads plan' → (o : Setup) → Sets c o
-    → next_of plan' ≡ afterwards o plan (shown m (threads_of threads))
-planned c plan m threads plan' p o sets = going plan.going refl
-  where
-    s : State
-    s = shown m (threads_of threads)
-
-    another : stays_with plan (threads_of threads plan.thread) ≡ false → next_of plan' ≡ fresh o plan.settled s
-    another ends = (p.other refl ends).1 o s refl refl sets.count sets.largest refl (λ t. refl)
-
-    goes : plan.going ≡ true → (b : Bool) → goes_on plan.settled (threads_of threads plan.thread) ≡ b → next_of plan' ≡ following o plan.settled plan.thread s
-    goes g true e = rw (p.same (rw (g, e)), g) (sym (follows_on o plan.settled plan.thread s e))
-    goes g false e = another (rw (g, e)) ∙ sym (follows_fresh o plan.settled plan.thread s e)
-
-    going : (b : Bool) → plan.going ≡ b → next_of plan' ≡ afterwards o plan s
-    going true g = rw g (goes g _ refl)
-    going false g = rw g (another (rw g))
+-- memory and threads show the state that the choice goes by
+pub seen : {c : Settings} (m : Memory) (threads : List Thread) {o : Setup} → Sets c o → Seen m.graph threads m.counters.loaded.0 c.count c.largest o (shown m (threads_of threads))
+seen m threads sets = record { first_is = refl; seq_is = refl; threads_are = λ t. refl; loaded_is = refl; count_is = sets.count; largest_is = sets.largest }
 
 -- so what is left is what the new plan begins with
-replanned : (c : Settings) (plan : Plan) (m : Memory) (threads : List Thread) (plan' : Plan) (b : Bool) (schedule : List ℕ) (limit i : ℕ) (s₀ : State) (made : List ℕ) → PlannedBy c b plan m threads plan' → (o : Setup) → Sets c o
-    → Reaches o (order_from b schedule limit) s₀ (shown m (threads_of threads)) made i (afterwards o plan) → Reaches o (order_from b schedule limit) s₀ (shown m (threads_of threads)) made i (λ s. next_of plan')
-replanned c plan m threads plan' false schedule limit i s₀ made p o sets r = record { state_is = r.state_is; all_are = r.all_are }
-replanned c plan m threads plan' true schedule limit i s₀ made p o sets r = record {
+replanned : (c : Settings) (plan : Plan) (m : Memory) (threads : List Thread) (plan' : Plan) (order : Order) (i : ℕ) (s₀ : State) (made : List ℕ) → Planned order c plan m threads plan' → (o : Setup) → Sets c o
+    → Reaches o order s₀ (shown m (threads_of threads)) made i (after o plan) → Reaches o order s₀ (shown m (threads_of threads)) made i (λ s. next_of plan')
+replanned c plan m threads plan' (given ts) i s₀ made p o sets r = record { state_is = r.state_is; all_are = r.all_are }
+replanned c plan m threads plan' (chosen limit) i s₀ made p o sets r = record {
   state_is = r.state_is;
-  all_are = r.all_are ∙ ap (λ (x : Next). made ++ steps_from o (limit - i) x (shown m (threads_of threads))) (sym (planned c plan m threads plan' p o sets));
+  all_are = r.all_are ∙ ap (λ (x : Next). made ++ steps_from o (limit - i) x (shown m (threads_of threads))) (sym (p.1 o (shown m (threads_of threads)) (seen m threads sets)));
 }
+
+-- its thread is one of the 65, as the last one's
+pub still_named : (order : Order) (c : Settings) (plan : Plan) (m : Memory) (threads : List Thread) (plan' : Plan) → Planned order c plan m threads plan' → NamesThread plan → NamesThread plan'
+still_named (given ts) c plan m threads plan' p steady = rw p steady
+still_named (chosen limit) c plan m threads plan' p steady = p.0
 
 -- a number that is not 0
 pub positive : (n : ℕ) → (n ≡ 0 → ⊥) → 0 < n
@@ -319,10 +277,10 @@ next_ones ts ahead done (suc n) in_ts in_ahead are =
     ∙ ap (λ (l : List ℕ). l ++ drop (suc (done + n)) ts) (sym (take-suc ahead n 0 (omega arith))) ∙ ap (λ k. take (suc n) ahead ++ drop k ts) (sym e)
 
 -- one that is chosen is the plan's, and what follows it comes after the plan
-steps_from_more : (o : Setup) (plan : Plan) (limit i : ℕ) (s : State) → i < limit → plan.going ≡ true
-    → steps_from o (limit - i) (next_of plan) s ≡ plan.thread ∷ steps_from o (limit - (i + 1)) (afterwards o plan (step o plan.thread s)) (step o plan.thread s)
+steps_from_more : (o : Setup) (plan : Plan) (t limit i : ℕ) (s : State) → i < limit → plan.next ≡ Some t
+    → steps_from o (limit - i) (next_of plan) s ≡ t ∷ steps_from o (limit - (i + 1)) (after o plan (step o t s)) (step o t s)
 unfolding steps_from
-steps_from_more o plan limit i s more going = let e : limit - i ≡ suc (limit - (i + 1)) = omega arith in rw (e, going)
+steps_from_more o plan t limit i s more next = let e : limit - i ≡ suc (limit - (i + 1)) = omega arith in rw (e, next)
 
 one_of : (ahead : List ℕ) → 0 < length ahead → take 1 ahead ≡ get_or ahead 0 0 ∷ []
 one_of ahead h = take-suc ahead 0 0 h
@@ -332,44 +290,44 @@ unfolding steps
 one_step o t s = refl
 
 -- what is left before them is they and what is left after them
-left_more : (o : Setup) (b : Bool) (schedule : List ℕ) (limit : ℕ) (plan : Plan) (done n : ℕ) (ahead : List ℕ) (s s' : State) → Ahead (order_from b schedule limit) plan done ahead n → (n ≡ 0 → ⊥) → n ≤ length ahead
-    → s' ≡ steps o (take n ahead) s
-    → rest o (order_from b schedule limit) done (λ z. next_of plan) s ≡ take n ahead ++ rest o (order_from b schedule limit) (done + n) (afterwards o plan) s'
-left_more o false schedule limit plan done n ahead s s' w some h e = next_ones schedule ahead done n w.left h w.are
-left_more o true schedule limit plan done n ahead s s' w some h e =
+left_more : (o : Setup) (order : Order) (plan : Plan) (done n : ℕ) (ahead : List ℕ) (s s' : State) → Ahead order plan done ahead n → (n ≡ 0 → ⊥) → n ≤ length ahead
+    → s' ≡ steps o (take n ahead) s → rest o order done (λ z. next_of plan) s ≡ take n ahead ++ rest o order (done + n) (after o plan) s'
+left_more o (given ts) plan done n ahead s s' w some h e = next_ones ts ahead done n w.left h w.are
+left_more o (chosen limit) plan done n ahead s s' w some h e =
     let less = positive n some in
-    let few = w.alone.0 in
+    let few = w.are.0 in
+    let t = get_or ahead 0 0 in
     let one : n ≡ 1 = omega arith in
     let here : done + n ≡ done + 1 = omega arith in
-    let first : take n ahead ≡ plan.thread ∷ [] = ap (λ k. take k ahead) one ∙ one_of ahead (omega arith) ∙ ap (λ t. t ∷ []) (w.are 0 less) in
-    let next : s' ≡ step o plan.thread s = e ∙ ap (λ (ts : List ℕ). steps o ts s) first ∙ one_step o plan.thread s in
-    rw (first, here, next) (steps_from_more o plan limit done s (omega (arith, w.left)) (w.alone.1 less))
+    let first : take n ahead ≡ t ∷ [] = ap (λ k. take k ahead) one ∙ one_of ahead (omega arith) in
+    let next : s' ≡ step o t s = e ∙ ap (λ (ts : List ℕ). steps o ts s) first ∙ one_step o t s in
+    rw (first, here, next) (steps_from_more o plan t limit done s (omega (arith, w.left)) (w.are.1 less))
 
 -- and in the lent list they are noted
-noted_more : (b : Bool) (schedule : List ℕ) (limit : ℕ) (plan : Plan) (done n : ℕ) (ahead made lent₀ lent lent' : List ℕ) → Named 64 (order_from b schedule limit) lent₀ → Ahead (order_from b schedule limit) plan done ahead n → (n ≡ 0 → ⊥) → n ≤ length ahead
-    → length made ≡ done → lent' ≡ noted_in (order_from b schedule limit) plan done n lent → Filled (order_from b schedule limit) made lent₀ lent → Filled (order_from b schedule limit) (made ++ take n ahead) lent₀ lent'
-noted_more false schedule limit plan done n ahead made lent₀ lent lent' named w some h long e f = e ∙ f
-noted_more true schedule limit plan done n ahead made lent₀ lent lent' named w some h long e f =
+noted_more : (order : Order) (plan : Plan) (done n : ℕ) (ahead made lent₀ lent lent' : List ℕ) → Named 64 order lent₀ → Ahead order plan done ahead n → (n ≡ 0 → ⊥) → n ≤ length ahead
+    → length made ≡ done → lent' ≡ noted_in order ahead done n lent → Filled order made lent₀ lent → Filled order (made ++ take n ahead) lent₀ lent'
+noted_more (given ts) plan done n ahead made lent₀ lent lent' named w some h long e f = e ∙ f
+noted_more (chosen limit) plan done n ahead made lent₀ lent lent' named w some h long e f =
     let less = positive n some in
-    let few = w.alone.0 in
+    let few = w.are.0 in
     let one : n ≡ 1 = omega arith in
-    let first : take n ahead ≡ plan.thread ∷ [] = ap (λ k. take k ahead) one ∙ one_of ahead (omega arith) ∙ ap (λ t. t ∷ []) (w.are 0 less) in
-    e ∙ rw (ne_eqb n 0 some, first) (filled_more made lent₀ lent plan.thread done long (omega (arith, w.left)) f)
+    let first : take n ahead ≡ get_or ahead 0 0 ∷ [] = ap (λ k. take k ahead) one ∙ one_of ahead (omega arith) in
+    e ∙ rw (ne_eqb n 0 some, first) (filled_more made lent₀ lent (get_or ahead 0 0) done long (omega (arith, w.left)) f)
 
-module _ {commands : List ℕ} {m₀ : Memory} {threads₀ : List Thread} {c : Settings} {lent₀ lent : List ℕ} {kinds item_keys item_chutes : List ℕ} {m : Memory} {threads : List Thread} {plan : Plan} where
+module _ {commands : List ℕ} {m₀ : Memory} {threads₀ : List Thread} {c : Settings} {lent₀ lent : List ℕ} {m : Memory} {threads : List Thread} {plan : Plan} where
   -- the lent list stays as long
-  pub lent_long : {i : ℕ} (b : Bool) (schedule : List ℕ) (limit : ℕ) → Named 64 (order_from b schedule limit) lent₀ → Along c commands (order_from b schedule limit) lent₀ m₀ threads₀ kinds item_keys item_chutes m threads lent plan i → length lent ≡ length lent₀
-  lent_long false schedule limit named a = ap length a.filled
-  lent_long true schedule limit named a =
+  pub lent_long : {i : ℕ} (order : Order) → Named 64 order lent₀ → Along c commands order lent₀ m₀ threads₀ m threads lent plan i → length lent ≡ length lent₀
+  lent_long (given ts) named a = ap length a.filled
+  lent_long (chosen limit) named a =
       let long = a.made_long in let few = a.few in
       ap length a.filled ∙ length-append a.made (drop (length a.made) lent₀) ∙ omega (arith, length-drop (length a.made) lent₀)
 
   -- after a plan, the threads that it keeps ahead and their steps
-  pub along_block : {done n : ℕ} {plan' : Plan} {kinds' item_keys' item_chutes' : List ℕ} {m' : Memory} {threads' : List Thread} (ahead lent' : List ℕ) (b : Bool) (schedule : List ℕ) (limit : ℕ) → Named 64 (order_from b schedule limit) lent₀
-      → PlannedBy c b plan m threads plan' → Ahead (order_from b schedule limit) plan' done ahead n → (n ≡ 0 → ⊥) → n ≤ length ahead → lent' ≡ noted_in (order_from b schedule limit) plan' done n lent
-      → Block commands ahead m threads kinds' item_keys' item_chutes' m' threads' n → Along c commands (order_from b schedule limit) lent₀ m₀ threads₀ kinds item_keys item_chutes m threads lent plan done
-      → Along c commands (order_from b schedule limit) lent₀ m₀ threads₀ kinds' item_keys' item_chutes' m' threads' lent' plan' (done + n)
-  along_block {done} {n} {plan'} {m'} {threads'} ahead lent' b schedule limit named p w some h noted_is k a = record {
+  pub along_block : {done n : ℕ} {plan' : Plan} {m' : Memory} {threads' : List Thread} (ahead lent' : List ℕ) (order : Order) → Named 64 order lent₀
+      → Planned order c plan m threads plan' → Ahead order plan' done ahead n → (n ≡ 0 → ⊥) → n ≤ length ahead → lent' ≡ noted_in order ahead done n lent
+      → Block commands ahead m threads m' threads' n → Along c commands order lent₀ m₀ threads₀ m threads lent plan done
+      → Along c commands order lent₀ m₀ threads₀ m' threads' lent' plan' (done + n)
+  along_block {done} {n} {plan'} {m'} {threads'} ahead lent' order named p w some h noted_is k a = record {
     made = a.made ++ take n ahead;
     made_long = length-append a.made (take n ahead) ∙ rw (a.made_long, length-take-le n ahead h);
     few = w.left;
@@ -382,31 +340,26 @@ module _ {commands : List ℕ} {m₀ : Memory} {threads₀ : List Thread} {c : S
       answers_long = k.kept.answers_long ∙ a.kept.answers_long;
       image_long = k.kept.image_long ∙ a.kept.image_long;
     };
-    steady = p.named;
-    filled = noted_more b schedule limit plan' done n ahead a.made lent₀ lent lent' named w some h a.made_long noted_is a.filled;
+    steady = still_named order c plan m threads plan' p a.steady;
+    filled = noted_more order plan' done n ahead a.made lent₀ lent lent' named w some h a.made_long noted_is a.filled;
     reaches = λ o sets cs cap.
         let s₀ = shown m₀ (threads_of threads₀) in
         let s = shown m (threads_of threads) in
         let s' = shown m' (threads_of threads') in
-        let r = replanned c plan m threads plan' b schedule limit done s₀ a.made p o sets (a.reaches o sets cs cap) in
+        let r = replanned c plan m threads plan' order done s₀ a.made p o sets (a.reaches o sets cs cap) in
         let e = k.shows o cs (cap ∙ sym a.kept.keys_long) in
         record {
           state_is = e ∙ ap (steps o (take n ahead)) r.state_is ∙ sym (steps_append o a.made (take n ahead) s₀);
           all_are =
-              r.all_are ∙ ap (λ (l : List ℕ). a.made ++ l) (left_more o b schedule limit plan' done n ahead s s' w some h e)
-              ∙ sym (append_assoc a.made (take n ahead) (rest o (order_from b schedule limit) (done + n) (afterwards o plan') s'));
+              r.all_are ∙ ap (λ (l : List ℕ). a.made ++ l) (left_more o order plan' done n ahead s s' w some h e)
+              ∙ sym (append_assoc a.made (take n ahead) (rest o order (done + n) (after o plan') s'));
         };
   }
 
 -- a list as long is lent as well
-pub named_still : (b : Bool) (schedule : List ℕ) (limit : ℕ) (lent lent' : List ℕ) → Named 64 (order_from b schedule limit) lent → length lent' ≡ length lent → Named 64 (order_from b schedule limit) lent'
-named_still false schedule limit lent lent' named e = named
-named_still true schedule limit lent lent' named e = omega arith
-
--- the most is a number, as the lists are
-pub most_fits : (b : Bool) (schedule : List ℕ) (limit high : ℕ) (lent : List ℕ) → Named 64 (order_from b schedule limit) lent → length schedule < high → length lent < high → most (order_from b schedule limit) < high
-most_fits true schedule limit high lent named short room = omega arith
-most_fits false schedule limit high lent named short room = short
+pub named_still : (order : Order) (lent lent' : List ℕ) → Named 64 order lent → length lent' ≡ length lent → Named 64 order lent'
+named_still (given ts) lent lent' named e = named
+named_still (chosen limit) lent lent' named e = omega arith
 
 -- ---- after the last step
 
@@ -422,27 +375,26 @@ made_all o (chosen limit) s₀ s made i plan r over = r.all_are ∙ ap (λ (x : 
         over
 
 -- and stand in the lent list, into which none is written any more
-filled_all : (b : Bool) (schedule : List ℕ) (limit : ℕ) (plan : Plan) (made all lent₀ lent lent' : List ℕ) (i n : ℕ) → n ≡ 0 → all ≡ made → lent' ≡ noted_in (order_from b schedule limit) plan i n lent
-    → Filled (order_from b schedule limit) made lent₀ lent → lent' ≡ written_in (order_from b schedule limit) all lent₀
-filled_all false schedule limit plan made all lent₀ lent lent' i n z e same f = same ∙ f
-filled_all true schedule limit plan made all lent₀ lent lent' i n z e same f = rw e (rw z at same ∙ f)
+filled_all : (order : Order) (ahead made all lent₀ lent lent' : List ℕ) (i n : ℕ) → n ≡ 0 → all ≡ made → lent' ≡ noted_in order ahead i n lent
+    → Filled order made lent₀ lent → lent' ≡ written_in order all lent₀
+filled_all (given ts) ahead made all lent₀ lent lent' i n z e same f = same ∙ f
+filled_all (chosen limit) ahead made all lent₀ lent lent' i n z e same f = rw e (rw z at same ∙ f)
 
 -- lists are known by their parts
 pub same_lists : (l m : Lists) → l.state ≡ m.state → l.answers ≡ m.answers → l.keys ≡ m.keys → l.chutes ≡ m.chutes → l.image ≡ m.image → l ≡ m
 same_lists l m state answers keys chutes image = λ i. record { state = state i; answers = answers i; keys = keys i; chutes = chutes i; image = image i }
 
 -- the bytes written and the lists are those of the state that the arrays show
-pub performed : {commands lent₀ lent : List ℕ} {m₀ : Memory} {threads₀ : List Thread} {kinds item_keys item_chutes : List ℕ} {threads : List Thread} {plan : Plan} {done n : ℕ} (b : Bool) (schedule : List ℕ) (limit : ℕ) (plan' : Plan) (ahead : List ℕ) (c : Settings) (k : Counters)
-    (next seq : List ℕ) (executing locked : List Bool) (waits : List (List ℕ)) (keys chutes answers image bytes lent' : List ℕ)
-    → Along c commands (order_from b schedule limit) lent₀ m₀ threads₀ kinds item_keys item_chutes (memory next seq executing locked waits keys chutes answers image k) threads lent plan done
-    → PlannedBy c b plan (memory next seq executing locked waits keys chutes answers image k) threads plan' → Ahead (order_from b schedule limit) plan' done ahead n → n ≡ 0
-    → lent' ≡ noted_in (order_from b schedule limit) plan' done n lent
-    → Lays c k next seq executing locked waits threads bytes → Performed c commands (order_from b schedule limit) lent₀ m₀ threads₀ (all_lists bytes keys chutes answers image) lent' done
+pub performed : {commands lent₀ lent : List ℕ} {m₀ : Memory} {threads₀ : List Thread} {threads : List Thread} {plan : Plan} {done n : ℕ} (order : Order) (plan' : Plan) (ahead : List ℕ) (c : Settings) (k : Counters)
+    (graph : Graph) (keys chutes answers image bytes lent' : List ℕ)
+    → Along c commands order lent₀ m₀ threads₀ (memory graph keys chutes answers image k) threads lent plan done
+    → Planned order c plan (memory graph keys chutes answers image k) threads plan' → Ahead order plan' done ahead n → n ≡ 0
+    → lent' ≡ noted_in order ahead done n lent
+    → Lays c k graph.next graph.seq graph.executing graph.locked graph.waits threads bytes → Performed c commands order lent₀ m₀ threads₀ (all_lists bytes keys chutes answers image) lent' done
 unfolding lists_of
-performed {commands} {lent₀} {lent} {m₀} {threads₀} {threads} {plan} {done} {n} b schedule limit plan' ahead c k next seq executing locked waits keys chutes answers image bytes lent' a p w none same lays o sets cs room =
-    let order = order_from b schedule limit in
-    let now = shown (memory next seq executing locked waits keys chutes answers image k) (threads_of threads) in
-    let sh : Shown k next seq executing locked waits threads now = record {
+performed {commands} {lent₀} {lent} {m₀} {threads₀} {threads} {plan} {done} {n} order plan' ahead c k graph keys chutes answers image bytes lent' a p w none same lays o sets cs room =
+    let now = shown (memory graph keys chutes answers image k) (threads_of threads) in
+    let sh : Shown k graph.next graph.seq graph.executing graph.locked graph.waits threads now = record {
       graph_is = record { next_is = refl; seq_is = refl; executing_is = refl; locked_is = refl; waits_is = refl };
       threads_are = λ t. refl;
       free_is = refl;
@@ -450,11 +402,11 @@ performed {commands} {lent₀} {lent} {m₀} {threads₀} {threads} {plan} {done
       used_is = refl;
       limit_is = refl;
     } in
-    let r = replanned c plan (memory next seq executing locked waits keys chutes answers image k) threads plan' b schedule limit done (shown m₀ (threads_of threads₀)) a.made p o sets (a.reaches o sets cs room) in
+    let r = replanned c plan (memory graph keys chutes answers image k) threads plan' order done (shown m₀ (threads_of threads₀)) a.made p o sets (a.reaches o sets cs room) in
     let all = made_all o order (shown m₀ (threads_of threads₀)) now a.made done plan' r (w.none none) in
     let count : length answers ≡ length o.commands = sym (commands_length commands (length answers) a.kept.ready.whole) ∙ ap length (sym cs) in (
       same_lists (all_lists bytes keys chutes answers image) (lists_of o now) (lays o now sets sh) (sym (tabulate_elements (length o.commands) answers 0 count)) refl refl refl
           ∙ ap (lists_of o) (r.state_is ∙ ap (λ (ts : List ℕ). steps o ts (shown m₀ (threads_of threads₀))) (sym all)),
-      filled_all b schedule limit plan' a.made (schedule_of o order (shown m₀ (threads_of threads₀))) lent₀ lent lent' done n none all same a.filled,
+      filled_all order ahead a.made (schedule_of o order (shown m₀ (threads_of threads₀))) lent₀ lent lent' done n none all same a.filled,
       sym a.made_long ∙ ap length (sym all),
     )

@@ -1,5 +1,5 @@
--- What making steps on the arrays needs and promises. Assumes nothing.
-use Rattle.std.specs.Prelude.{ℕ, ◌+◌, ◌≤◌, ◌<◌, ◌≡◌, Bool, true, false, cond, List, ◌++◌, ◌⊎◌, length, get_or, drop, set, eqb}
+-- What making steps on the graph needs and promises. Assumes nothing.
+use Rattle.std.specs.Prelude.{ℕ, ◌+◌, ◌≤◌, ◌<◌, ◌≡◌, true, false, cond, List, ◌++◌, ◌⊎◌, length, get_or, drop, set, eqb, Some, None}
 use Rattle.model.specs.declared.Thread.{Thread}
 use Rattle.model.specs.declared.Thread.TheVariants.{Idle}
 use Rattle.model.specs.Setup.{Setup}
@@ -8,8 +8,12 @@ use Rattle.model.specs.Step.{State, steps}
 use Rattle.model.specs.Dispatch.{fresh, steps_from}
 use Rattle.model.specs.Statement.{all_within}
 use Rattle.model.specs.declared.Counters.{Counters}
+use Rattle.graph.specs.declared.Graph.{Graph}
 use Rattle.graph.specs.Arrays.{NodesWithin}
 use Rattle.choice.specs.declared.Plan.{Plan}
+use Rattle.choice.specs.Chosen.{Follows}
+use Rattle.runner.specs.declared.Order.{Order as Steps}
+use Rattle.runner.specs.declared.Order.TheVariants.{Given, Chosen}
 use Rattle.command.specs.Read.{commands_in}
 use Rattle.graph.specs.Memory.{Memory, Ready, shown}
 use Rattle.state_bytes.specs.declared.Settings.{Settings}
@@ -35,9 +39,10 @@ pub data Order : Type 0 where
   given : List ℕ → Order
   chosen : ℕ → Order
 
-abbrev pub order_from : Bool → List ℕ → ℕ → Order
-order_from false schedule limit = given schedule
-order_from true schedule limit = chosen limit
+-- the steps that an order of src/ asks for
+abbrev pub order_of : Steps → Order
+order_of (Given schedule) = given schedule.now
+order_of (Chosen limit) = chosen limit
 
 unfoldable pub schedule_of : Setup → Order → State → List ℕ
 unfolding steps_from fresh
@@ -59,35 +64,34 @@ abbrev pub most : Order → ℕ
 most (given ts) = length ts
 most (chosen limit) = limit
 
--- the thread whose step comes next, where i are made: the schedule's, or the plan's
-abbrev pub next_thread : Order → Plan → ℕ → ℕ
-next_thread (given ts) plan i = get_or ts i 0
-next_thread (chosen limit) plan i = plan.thread
+-- what comes next, from the last plan on the graph and threads: a schedule needs no plan
+abbrev pub PlannedBy : Order → Plan → Graph → List Thread → ℕ → ℕ → ℕ → Plan → Type 0
+PlannedBy (given ts) plan graph threads loaded count largest p = p ≡ plan
+PlannedBy (chosen limit) plan graph threads loaded count largest p = Follows plan graph threads loaded count largest p
 
 -- ---- the threads kept ahead
 
--- of a schedule they may be many; one that is chosen stands alone, and only where one is to come
-abbrev pub Alone : Order → Plan → ℕ → Type 0
-Alone (given ts) plan n = Unit {0}
-Alone (chosen limit) plan n = (n ≤ 1) × (0 < n → plan.going ≡ true)
+-- of a schedule they are its next ones; one that is chosen stands alone, and is the plan's
+abbrev pub Coming : Order → Plan → ℕ → List ℕ → ℕ → Type 0
+Coming (given ts) plan done ahead n = (k : ℕ) → k < n → get_or ahead k 0 ≡ get_or ts (done + k) 0
+Coming (chosen limit) plan done ahead n = (n ≤ 1) × (0 < n → plan.next ≡ Some (get_or ahead 0 0))
 
 -- none is to come
 abbrev pub Over : Order → Plan → ℕ → Type 0
 Over (given ts) plan done = length ts ≤ done
-Over (chosen limit) plan done = (plan.going ≡ false) ⊎ (limit ≤ done)
+Over (chosen limit) plan done = (plan.next ≡ None) ⊎ (limit ≤ done)
 
 -- n of them, where so many steps are done
 pub record Ahead (order : Order) (plan : Plan) (done : ℕ) (ahead : List ℕ) (n : ℕ) : Type 0 where
   pub few : n ≤ 256
   pub left : done + n ≤ most order
-  pub are : (k : ℕ) → k < n → get_or ahead k 0 ≡ next_thread order plan (done + k)
-  pub alone : Alone order plan n
+  pub are : Coming order plan done ahead n
   pub none : n ≡ 0 → Over order plan done
 
 -- the lent list when they are kept: a chosen one is written down before its step
-abbrev pub noted_in : Order → Plan → ℕ → ℕ → List ℕ → List ℕ
-noted_in (given ts) plan done n lent = lent
-noted_in (chosen limit) plan done n lent = cond (eqb n 0) lent (set lent done plan.thread)
+abbrev pub noted_in : Order → List ℕ → ℕ → ℕ → List ℕ → List ℕ
+noted_in (given ts) ahead done n lent = lent
+noted_in (chosen limit) ahead done n lent = cond (eqb n 0) lent (set lent done (get_or ahead 0 0))
 
 -- ---- the contracts
 
@@ -105,17 +109,17 @@ pub record Ran (l : Lists) (commands : List ℕ) (order : Order) (lent : List �
   pub counted : count ≡ length (schedule_of (setup_in l.state commands) order (state_in l))
 
 -- memory that is ready for a step of any thread, and steps that can be made
-pub record Performs (state commands : List ℕ) (order : Order) (lent kinds item_keys item_chutes : List ℕ) (c : Settings) (m : Memory) (threads : List Thread) : Type 0 where
+pub record Performs (state commands : List ℕ) (order : Order) (lent : List ℕ) (c : Settings) (m : Memory) (threads : List Thread) : Type 0 where
   pub long : length state ≡ state_length
-  pub ready : Ready commands kinds item_keys item_chutes m Idle
+  pub ready : Ready commands m Idle
   pub within : (t : ℕ) → NodesWithin (get_or threads t Idle)
   pub named : Named 64 order lent
   pub largest : c.largest ≤ 64
-  pub imaged : length m.service.image ≡ image_length (length m.service.keys)
+  pub imaged : length m.image ≡ image_length (length m.keys)
 
--- the same of the arrays, for every setup that the settings are of
+-- the same of the memory, for every setup that the settings are of
 abbrev pub Performed : Settings → List ℕ → Order → List ℕ → Memory → List Thread → Lists → List ℕ → ℕ → Type 0
 Performed c commands order lent m threads after lent' count =
-    (o : Setup) → Sets c o → o.commands ≡ commands_in commands → o.capacity ≡ length m.service.keys
+    (o : Setup) → Sets c o → o.commands ≡ commands_in commands → o.capacity ≡ length m.keys
     → let s : State = shown m (λ t. get_or threads t Idle) in
     (after ≡ lists_of o (steps o (schedule_of o order s) s)) × (lent' ≡ written_in order (schedule_of o order s) lent) × (count ≡ length (schedule_of o order s))

@@ -1,21 +1,30 @@
 // The postal item identifier (UPU S10): from text to key and back.
 #![tactic(auto)]
 
-ghost use Rattle.std.specs.Prelude.{◌≡◌, ◌+◌, ◌-◌, ◌*◌, ◌%◌, ◌≤◌, ◌<◌, ◌&&◌, leb, length};
+ghost use Rattle.std.specs.Prelude.{◌≡◌, ◌+◌, ◌-◌, ◌*◌, ◌%◌, ◌≤◌, ◌<◌, length, MatchOption};
+ghost use Rattle.s10.specs.Refusal.{plain, at_place};
 ghost use Rattle.s10.specs.Text.{asks_digit, is_allowed, first_fault, weighted, weights, excepted, check_digit, decimal_number, character_sum, least_sum, untested_key, letters, digits, largest_key, text_of};
 ghost use Rattle.s10.specs.Parts.{Serial, values, characters, serial_text};
-ghost use Rattle.s10.specs.Outcome.{refusal_for, fault_at, text_outcome, read_text, number, write_number, write_text};
+ghost use Rattle.s10.specs.Outcome.{refusal_for, fault_at, text_outcome, read_text, number, write_number, write_text, RefusedFor, UnwrittenFor};
+
+// What a refusal says: its number, the place of the command that it names, and the first faulty character; 0 for none.
+#[derive(Clone, Copy, Debug, PartialEq, Eq)]
+pub struct Refusal {
+    pub number: u64,
+    pub place: usize,
+    pub character: u8,
+}
 
 // An identifier, by its key.
-#[derive(Clone, Copy)]
+#[derive(Clone, Copy, Debug, PartialEq, Eq)]
 pub struct Identifier(pub u64);
 
 // A character's place in a text, from 1.
-#[derive(Clone, Copy)]
+#[derive(Clone, Copy, Debug, PartialEq, Eq)]
 pub struct Character(pub u8);
 
 // Why a text is refused; a wrong letter or digit is the first faulty character.
-#[derive(Clone, Copy)]
+#[derive(Clone, Copy, Debug, PartialEq, Eq)]
 pub enum Reason {
     WrongLength,
     WrongLetter(Character),
@@ -23,43 +32,62 @@ pub enum Reason {
     WrongCheckDigit,
 }
 
-// What reading a text finds.
-#[derive(Clone, Copy)]
-pub enum Reading {
-    Key(u64),
-    Refused(Reason),
-}
-
-// What writing a key does.
-#[derive(Clone, Copy)]
-pub enum Writing {
-    Written,
+// Why a key is not written.
+#[derive(Clone, Copy, Debug, PartialEq, Eq)]
+pub enum WriteError {
     WrongLength,
     KeyTooLarge,
 }
 
-impl Reason {
-    // The refusal's number.
-    pub fn number(self) -> u64
-        ensures { (result ≡ (refusal_for self).number) × (result ≤ 13) }
+impl Refusal {
+    // A refusal that names no command and no character.
+    pub fn plain(number: u64) -> Refusal
+        ensures { result ≡ plain number }
     {
-        match self {
-            Reason::WrongLength => 8,
-            Reason::WrongLetter(_) => 8,
-            Reason::WrongDigit(_) => 13,
-            Reason::WrongCheckDigit => 9,
+        Refusal {
+            number,
+            place: 0,
+            character: 0,
         }
     }
 
-    // The first faulty character, 0 for none.
-    pub fn character(self) -> u8
-        ensures { result ≡ (refusal_for self).character }
+    // The same refusal of the command at a place.
+    pub fn at_place(self, place: usize) -> Refusal
+        ensures { result ≡ at_place place self }
     {
-        match self {
-            Reason::WrongLength => 0,
-            Reason::WrongLetter(character) => character.0,
-            Reason::WrongDigit(character) => character.0,
-            Reason::WrongCheckDigit => Identifier::CHECK as u8 + 1,
+        Refusal { place, ..self }
+    }
+}
+
+impl From<Reason> for Refusal {
+    ghost from_gives = { RefusedFor };
+
+    fn from(reason: Reason) -> Refusal {
+        match reason {
+            Reason::WrongLength => Refusal::plain(8),
+            Reason::WrongLetter(character) => Refusal {
+                character: character.0,
+                ..Refusal::plain(8)
+            },
+            Reason::WrongDigit(character) => Refusal {
+                character: character.0,
+                ..Refusal::plain(13)
+            },
+            Reason::WrongCheckDigit => Refusal {
+                character: Identifier::CHECK as u8 + 1,
+                ..Refusal::plain(9)
+            },
+        }
+    }
+}
+
+impl From<WriteError> for Refusal {
+    ghost from_gives = { UnwrittenFor };
+
+    fn from(error: WriteError) -> Refusal {
+        match error {
+            WriteError::WrongLength => Refusal::plain(6),
+            WriteError::KeyTooLarge => Refusal::plain(12),
         }
     }
 }
@@ -89,24 +117,25 @@ impl Identifier {
     const LEAST_SUM: u64 = 118_998_533_331_483;
 
     // The key of a text.
-    pub fn read(text: &[u8]) -> Reading
+    #[tactic(auto, unfolding(crate::specs::Outcome::read_text, crate::specs::Text::serial_digits))]
+    pub fn read(text: &[u8]) -> Result<u64, Reason>
         ensures { text_outcome result ≡ read_text text.now }
     {
         if text.len() != Identifier::LENGTH {
-            return Reading::Refused(Reason::WrongLength);
+            return Err(Reason::WrongLength);
         }
-        let fault = first_fault(text);
-        if fault != Identifier::LENGTH {
-            return Reading::Refused(reason_at(fault));
+        if let Some(fault) = first_fault(text) {
+            return Err(reason_at(fault));
         }
         let check = check_digit(&text[Identifier::SERIAL..Identifier::CHECK]);
         if text[Identifier::CHECK] - b'0' != check {
-            return Reading::Refused(Reason::WrongCheckDigit);
+            return Err(Reason::WrongCheckDigit);
         }
-        Reading::Key(key_of(text))
+        Ok(key_of(text))
     }
 
     // The key of a text that is not tested, as one that was read before; 0 where it is not thirteen characters long.
+    #[tactic(auto, unfolding(crate::specs::Text::untested_key))]
     pub fn untested(text: &[u8]) -> u64
         ensures { result ≡ untested_key text.now }
     {
@@ -117,61 +146,57 @@ impl Identifier {
     }
 
     // Writes the text of a key. A refusal leaves the list as it was.
-    pub fn write(key: u64, text: &mut [u8]) -> Writing
+    #[tactic(auto, unfolding(crate::specs::Outcome::write_number, crate::specs::Outcome::write_text, crate::specs::Text::largest_key))]
+    pub fn write(key: u64, text: &mut [u8]) -> Result<(), WriteError>
         ensures { (number result ≡ write_number key text.old) × (text.new ≡ write_text key text.old) }
     {
         let length = text.len();
         if length != Identifier::LENGTH {
-            return Writing::WrongLength;
+            return Err(WriteError::WrongLength);
         }
         if key > Identifier::LARGEST_KEY {
-            return Writing::KeyTooLarge;
+            return Err(WriteError::KeyTooLarge);
         }
         write_key(key, text);
-        Writing::Written
+        Ok(())
     }
 }
 
-// Whether a character lies from `low` to `high`.
-fn is_between(low: u8, c: u8, high: u8) -> bool
-    ensures { result ≡ (leb low c && leb c high) }
-{
-    low <= c && c <= high
-}
-
 // Whether a digit stands at a position; else a letter does.
+#[tactic(auto, unfolding(crate::specs::Text::asks_digit))]
 fn asks_digit(i: usize) -> bool
     ensures { result ≡ asks_digit i }
 {
-    Identifier::SERIAL <= i && i <= Identifier::CHECK
+    (Identifier::SERIAL..=Identifier::CHECK).contains(&i)
 }
 
 // Whether a character may stand at a position.
+#[tactic(auto, unfolding(crate::specs::Text::is_allowed, crate::specs::Text::is_digit, crate::specs::Text::is_letter))]
 fn is_allowed(i: usize, c: u8) -> bool
     ensures { result ≡ is_allowed i c }
 {
     if asks_digit(i) {
-        is_between(b'0', c, b'9')
+        c.is_ascii_digit()
     } else {
-        is_between(b'A', c, b'Z')
+        c.is_ascii_uppercase()
     }
 }
 
-// The position of the first character that is not allowed, or the length.
-fn first_fault(text: &[u8]) -> usize
-    ensures { result ≡ first_fault 0 text.now }
+// The position of the first character that is not allowed, if one is not.
+#[tactic(auto, using(crate::proofs::Fault::fault_step), unfolding(crate::specs::Text::first_fault))]
+fn first_fault(text: &[u8]) -> Option<usize>
+    ensures { MatchOption result (first_fault 0 text.now ≡ length text.now) (λ i. (first_fault 0 text.now ≡ i) × (i < length text.now)) }
 {
-    let mut i = 0;
-    while i < text.len() {
-        if !is_allowed(i, text[i]) {
-            return i;
+    for (i, c) in text.iter().enumerate() {
+        if !is_allowed(i, *c) {
+            return Some(i);
         }
-        i += 1;
     }
-    i
+    None
 }
 
 // Why a text is refused whose first faulty character stands at a position.
+#[tactic(auto, unfolding(crate::specs::Outcome::fault_at))]
 fn reason_at(i: usize) -> Reason
     requires { i < 13 }
     ensures { refusal_for result ≡ fault_at i }
@@ -191,10 +216,8 @@ fn weighted_sum(digits: &[u8]) -> u16
     ensures upper_bound { result ≤ 396 }
 {
     let mut sum = 0;
-    let mut k = 0;
-    while k < Identifier::WEIGHTS.len() {
-        sum += Identifier::WEIGHTS[k] * (digits[k] - b'0') as u16;
-        k += 1;
+    for (weight, digit) in Identifier::WEIGHTS.iter().zip(digits) {
+        sum += *weight * (*digit - b'0') as u16;
     }
     sum
 }
@@ -223,6 +246,7 @@ fn check_of(sum: u16) -> u16
 }
 
 // The check digit of eight digits.
+#[tactic(auto, using(crate::proofs::Weighted::check_digit_below), unfolding(crate::specs::Text::check_digit))]
 fn check_digit(digits: &[u8]) -> u8
     requires { Serial digits.now }
     ensures { (result ≡ check_digit (values digits.now)) × (result < 10) }
@@ -238,30 +262,28 @@ fn pair_sum(first: u8, second: u8) -> u64
 }
 
 // Eight digits in a key, as characters.
+#[tactic(auto, using(crate::proofs::Decimal::decimal_step), unfolding(crate::specs::Text::decimal_number))]
 fn serial_sum(digits: &[u8]) -> u64
     requires { length digits.now ≡ 8 }
     ensures { (result ≡ decimal_number 0 digits.now) × (result ≤ 2_900_000_000) }
 {
     let mut n = 0;
-    let mut k = 0;
-    while k < digits.len() {
-        n = n * 10 + digits[k] as u64;
-        k += 1;
+    for digit in digits {
+        n = n * 10 + *digit as u64;
     }
     n
 }
 
 // A sum of characters less what it is where each letter is A and each digit 0.
+#[tactic(auto, unfolding(crate::specs::Text::least_sum))]
 fn above_least(sum: u64) -> u64
     ensures { result ≡ sum - least_sum }
 {
-    if sum < Identifier::LEAST_SUM {
-        return 0;
-    }
-    sum - Identifier::LEAST_SUM
+    sum.saturating_sub(Identifier::LEAST_SUM)
 }
 
 // The key of a text of thirteen characters, which are not tested.
+#[tactic(auto, unfolding(crate::specs::Text::character_sum))]
 fn key_of(text: &[u8]) -> u64
     requires { length text.now ≡ 13 }
     ensures { result ≡ character_sum text.now - least_sum }
@@ -273,6 +295,7 @@ fn key_of(text: &[u8]) -> u64
 }
 
 // Writes the two letters of a pair.
+#[tactic(auto, unfolding(crate::specs::Text::letters))]
 fn write_pair(number: u64, text: &mut [u8])
     requires { (number < 676) × (length text.old ≡ 2) }
     ensures { text.new ≡ letters number }
@@ -286,9 +309,7 @@ fn write_digits(number: u64, text: &mut [u8])
     ensures { text.new ≡ characters (digits (length text.old) number) }
 {
     let mut rest = number;
-    let mut i = text.len();
-    while i > 0 {
-        i -= 1;
+    for i in (0..text.len()).rev() {
         text[i] = b'0' + (rest % 10) as u8;
         rest = rest / 10;
     }

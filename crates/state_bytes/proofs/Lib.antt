@@ -2,5 +2,6 @@ pub mod StateParts
 pub mod RoundTrip
 pub mod Shown
 pub mod Below
-pub mod Tested
+pub mod Placed
+pub mod Tests
 pub mod Passed

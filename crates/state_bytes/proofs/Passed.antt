@@ -10,7 +10,7 @@ use borrow.Author.Tests.{leb-true, eqb-true}
 use Rattle.byte_fields.specs.Bytes.{number_at, all_below}
 use Rattle.state_bytes.specs.Layout.{Lists, set_at, setup_in, count_in, state_length, lock_coupled, head_fits, settings_fit, set_fits, node_fits_at, thread_fits_at, ascends, state_fits, lengths_fit, handed_back_fit}
 use Rattle.byte_fields.proofs.Bytes.{all_below_each}
-use Rattle.state_bytes.proofs.Tested.{each_passed}
+use Rattle.state_bytes.proofs.Tests.{each_passed}
 use Rattle.state_bytes.proofs.RoundTrip.{state_tests, node_tests}
 
 -- ---- refusal 6

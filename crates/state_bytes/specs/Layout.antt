@@ -1,6 +1,6 @@
 -- The state as bytes ("The run crosses to it as bytes, in a layout written down in docs/"): every field at a fixed offset, docs/STATE-LAYOUT.md.
 -- `state_bytes` lays a model state out; `state_in` reads one. Assumes nothing.
-use Rattle.std.specs.Prelude.{ℕ, suc, ◌+◌, ◌*◌, Bool, true, false, cond, not, ◌&&◌, ◌||◌, List, [], ◌∷◌, ◌++◌, length, get_or, eqb, leb, ltb}
+use Rattle.std.specs.Prelude.{ℕ, suc, ◌+◌, ◌*◌, Bool, false, cond, not, ◌&&◌, ◌||◌, List, [], ◌∷◌, ◌++◌, length, get_or, eqb, leb, ltb}
 use Rattle.std.specs.Borrow.{Bor, MutBor}
 use denote.Triple.Both.{Both}
 use Rattle.node_set.specs.Members.{member, word_of}
@@ -11,6 +11,7 @@ use Rattle.model.specs.Image.{image_length}
 use Rattle.model.specs.Step.{State, node}
 use Rattle.command.specs.Read.{commands_in}
 use Rattle.byte_fields.specs.Bytes.{bytes_of, number_at, tabulate, fields, all_below}
+use Rattle.byte_fields.specs.Bytes as Bytes
 
 -- ---- what the caller keeps between calls
 
@@ -51,8 +52,7 @@ state_length = 4718
 -- ---- a state as bytes
 
 abbrev pub flag_byte : Bool → List ℕ
-flag_byte false = 0 ∷ []
-flag_byte true = 1 ∷ []
+flag_byte flag = Bytes.flag_byte flag
 
 -- the three words of a set
 unfoldable pub set_bytes : (ℕ → Bool) → List ℕ

@@ -1,4 +1,5 @@
 pub mod Layout
+pub mod Fields
 pub mod Head
 pub mod Written
 pub mod Outcome

@@ -1,3 +1,3 @@
 pub mod Halve
-pub mod Shift
 pub mod Operations
+pub mod Shift

@@ -1,15 +1,14 @@
 -- What the search for a key in the store finds. Assumes nothing.
-use Rattle.std.specs.Prelude.{ℕ, ◌+◌, ◌≤◌, ◌≡◌, List}
-use Rattle.model.specs.Store.{Store, in_use, halve, key_place, holds}
+use Rattle.std.specs.Prelude.{ℕ, ◌+◌, ◌≤◌, ◌≡◌, cond, ◌&&◌, List, get_or, ltb, eqb, Result, Ok, Err}
+use Rattle.model.specs.Store.{halve, place_among}
 use Rattle.store.specs.declared.Left.{Left}
-use Rattle.store.specs.declared.Found.{Found}
 
--- as many places in use as the definitions say, the key's place, and whether the key stands there
-pub record Finds (key : ℕ) (st : Store) (found : Found) : Type 0 where
-  pub in_use : found.in_use ≡ in_use st
-  pub place : found.at ≡ key_place key st
-  pub held : found.held ≡ holds key st
-  pub within : found.at ≤ found.in_use
+-- the place of a key among the first n of a list: where it stands, or else where it belongs
+unfoldable pub found_among : ℕ → List ℕ → ℕ → Result ℕ ℕ
+unfolding place_among
+found_among n keys key =
+    let at : ℕ = place_among n keys key in
+    cond (ltb at n && eqb (get_or keys at 0) key) (Ok at) (Err at)
 
 -- halvings lead from the places left to fewer of them, at least one, from which the search goes on to the same place, by any number of halvings that
 -- is enough

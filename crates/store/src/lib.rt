@@ -1,35 +1,19 @@
 // The sorted store on two lists that the caller lends, with the count of places in use. Each function is defined for any
-// contents and any count.
+// contents and any count. Keys and chutes are two lists, not one of entries, since the C calls lend two (`depot_open`).
 #![tactic(auto)]
 
-ghost use Rattle.std.specs.Prelude.{◌≡◌, cond, ◌&&◌, min, ◌+◌, ◌-◌, ◌*◌, ◌/◌, ◌<◌, ◌≤◌, length, get_or, ltb, eqb};
-ghost use Rattle.model.specs.Store.{in_use, look_up, insert as inserted, remove as removed, replace as replaced};
-ghost use Rattle.model.specs.Store.{place_among, shift_up, shift_down};
+ghost use Rattle.std.specs.Prelude.{◌≡◌, cond, ◌+◌, ◌-◌, ◌*◌, ◌/◌, ◌<◌, ◌≤◌, ◌++◌, ◌∷◌, length, get_or, ltb, take, drop};
+ghost use Rattle.model.specs.Store.{in_use, look_up, place_among, insert as inserted, remove as removed, replace as replaced};
 ghost use Rattle.store.specs.Lists.{store_of};
-ghost use Rattle.store.specs.Find.{Finds, Leads};
-
-// What the search for a key finds: how many places are in use, where the key stands, or belongs where it is absent, and
-// whether it stands there.
-#[derive(Clone, Copy)]
-struct Found {
-    in_use: usize,
-    at: usize,
-    held: bool,
-}
-
-// The smaller of two numbers.
-fn smaller(a: usize, b: usize) -> usize
-    ensures { result ≡ min a b }
-{
-    if a < b { a } else { b }
-}
+ghost use Rattle.store.specs.Find.{found_among, Leads};
 
 // How many places are in use: as many as the count says, and no more than both lists have.
+#[tactic(auto, unfolding(model::specs::Store::in_use, model::specs::Store::room))]
 pub fn in_use(keys: &[u64], chutes: &[u16], used: usize) -> usize
     ensures counted { result ≡ in_use (store_of keys.now chutes.now used) }
     ensures within { (result ≤ length keys.now) × (result ≤ length chutes.now) }
 {
-    smaller(used, smaller(keys.len(), chutes.len()))
+    used.min(keys.len().min(chutes.len()))
 }
 
 // The places left to a search: so many, from one on.
@@ -37,13 +21,6 @@ pub fn in_use(keys: &[u64], chutes: &[u16], used: usize) -> usize
 struct Left {
     from: usize,
     size: usize,
-}
-
-// The first of two numbers, or the second.
-fn either(first: bool, a: usize, b: usize) -> usize
-    ensures { result ≡ cond first a b }
-{
-    if first { a } else { b }
 }
 
 // One halving of what is left.
@@ -55,7 +32,7 @@ fn halved(keys: &[u64], left: Left, key: u64) -> Left
     let half = left.size / 2;
     let middle = from + half;
     Left {
-        from: either(keys[middle] < key, middle, from),
+        from: if keys[middle] < key { middle } else { from },
         size: left.size - half,
     }
 }
@@ -87,10 +64,11 @@ fn behind(keys: &[u64], at: usize, key: u64) -> usize
     requires { at < length keys.now }
     ensures { result ≡ cond (ltb (get_or keys.now at 0) key) (at + 1) at }
 {
-    either(keys[at] < key, at + 1, at)
+    if keys[at] < key { at + 1 } else { at }
 }
 
-// Where a key stands in the first n places, or belongs where it is absent: binary search.
+// Where a key stands in the first n places, or belongs where it is absent: binary search. std's `binary_search` promises a place on sorted keys
+// alone, and `place_among` has one value on any contents.
 fn place(keys: &[u64], n: usize, key: u64) -> usize
     requires { n ≤ length keys.now }
     ensures found { result ≡ place_among n keys.now key }
@@ -109,103 +87,49 @@ fn place(keys: &[u64], n: usize, key: u64) -> usize
     behind(keys, last.from, key)
 }
 
-// Whether the key stands at the place, which must be one of the first n for that.
-fn is_at(keys: &[u64], n: usize, place: usize, key: u64) -> bool
+// Searches the first n places for a key: `Ok` has the place where it stands, `Err` the one where it belongs. Which of both it is is chosen, too.
+#[tactic(auto, unfolding(crate::specs::Find::found_among))]
+fn find(keys: &[u64], n: usize, key: u64) -> Result<usize, usize>
     requires { n ≤ length keys.now }
-    ensures { result ≡ (ltb place n && eqb (get_or keys.now place 0) key) }
+    ensures { result ≡ found_among n keys.now key }
 {
-    if place < n { keys[place] == key } else { false }
-}
-
-// Searches the store for a key.
-fn find(keys: &[u64], chutes: &[u16], used: usize, key: u64) -> Found
-    ensures { Finds key (store_of keys.now chutes.now used) result }
-{
-    let n = in_use(keys, chutes, used);
     let at = place(keys, n, key);
-    let held = is_at(keys, n, at, key);
-    Found {
-        in_use: n,
-        at: at,
-        held: held,
-    }
+    let held = at < n && keys[at] == key;
+    held.then_some(at).ok_or(at)
 }
 
-// Puts a key in at place p of the first n, with those from p on shifted up.
-fn shift_up_keys(keys: &mut [u64], p: usize, n: usize, key: u64)
-    requires { (p ≤ n) × (n < length keys.old) }
-    ensures { keys.new ≡ shift_up p n key keys.old }
+// Puts a value in at place p of the first n, with those from p on shifted up.
+#[tactic(auto, using(crate::proofs::Shift::put_in))]
+fn shift_up<T: Copy>(list: &mut [T], p: usize, n: usize, value: T)
+    requires { (p ≤ n) × (n < length list.old) }
+    ensures { list.new ≡ take p list.old ++ (value ∷ take (n - p) (drop p list.old)) ++ drop (n + 1) list.old }
 {
-    let mut i = n;
-    while p < i {
-        let before = i - 1;
-        keys[i] = keys[before];
-        i = before;
-    }
-    keys[p] = key;
+    list.copy_within(p..n, p + 1);
+    list[p] = value;
 }
 
-// The same for a chute.
-fn shift_up_chutes(chutes: &mut [u16], p: usize, n: usize, chute: u16)
-    requires { (p ≤ n) × (n < length chutes.old) }
-    ensures { chutes.new ≡ shift_up p n chute chutes.old }
+// Takes the value at place p out of the first n, with those after it shifted down and `freed` in the freed place.
+#[tactic(auto, using(crate::proofs::Shift::taken_out))]
+fn shift_down<T: Copy>(list: &mut [T], p: usize, n: usize, freed: T)
+    requires { (p < n) × (n ≤ length list.old) }
+    ensures { list.new ≡ take p list.old ++ take (n - (p + 1)) (drop (p + 1) list.old) ++ (freed ∷ drop n list.old) }
 {
-    let mut i = n;
-    while p < i {
-        let before = i - 1;
-        chutes[i] = chutes[before];
-        i = before;
-    }
-    chutes[p] = chute;
+    list.copy_within(p + 1..n, p);
+    list[n - 1] = freed;
 }
 
-// Takes the key at place p out of the first n, with those after it shifted down and 0 in the freed place.
-fn shift_down_keys(keys: &mut [u64], p: usize, n: usize)
-    requires { (p < n) × (n ≤ length keys.old) }
-    ensures { keys.new ≡ shift_down p n keys.old }
-{
-    let last = n - 1;
-    let mut i = p + 1;
-    while i < n {
-        let before = i - 1;
-        keys[before] = keys[i];
-        i += 1;
-    }
-    keys[last] = 0;
-}
-
-// The same for a chute.
-fn shift_down_chutes(chutes: &mut [u16], p: usize, n: usize)
-    requires { (p < n) × (n ≤ length chutes.old) }
-    ensures { chutes.new ≡ shift_down p n chutes.old }
-{
-    let last = n - 1;
-    let mut i = p + 1;
-    while i < n {
-        let before = i - 1;
-        chutes[before] = chutes[i];
-        i += 1;
-    }
-    chutes[last] = 0;
-}
-
-// A chute, or 0 for none.
-fn chute_if(held: bool, chute: u16) -> u16
-    ensures { result ≡ cond held chute 0 }
-{
-    if held { chute } else { 0 }
-}
-
-// The chute of a key, 0 where the store does not hold it.
+// The chute of a key, 0 where the store does not hold it. A chute is read in any case and then chosen: a jump on what was found, which cannot be
+// foretold either, would wait for the whole search.
 pub fn look_up(keys: &[u64], chutes: &[u16], used: usize, key: u64) -> u16
     ensures { result ≡ look_up key (store_of keys.now chutes.now used) }
 {
-    let found = find(keys, chutes, used, key);
-    if found.in_use == 0 {
+    let entries = in_use(keys, chutes, used);
+    if entries == 0 {
         return 0;
     }
-    let at = either(found.held, found.at, 0);
-    chute_if(found.held, chutes[at])
+    let found = find(keys, entries, key);
+    let chute = chutes[found.unwrap_or(0)];
+    if found.is_ok() { chute } else { 0 }
 }
 
 // Puts a key and its chute in where the key belongs, with later entries shifted up, and returns the count in use. A key
@@ -213,20 +137,20 @@ pub fn look_up(keys: &[u64], chutes: &[u16], used: usize, key: u64) -> u16
 pub fn insert(keys: &mut [u64], chutes: &mut [u16], used: usize, key: u64, chute: u16) -> usize
     ensures { store_of keys.new chutes.new result ≡ inserted key chute (store_of keys.old chutes.old used) }
 {
-    let room = smaller(keys.len(), chutes.len());
-    let found = find(keys, chutes, used, key);
-    let n = found.in_use;
-    let at = found.at;
-    if found.held {
-        chutes[at] = chute;
-        return used;
+    let room = keys.len().min(chutes.len());
+    let n = in_use(keys, chutes, used);
+    match find(keys, n, key) {
+        Ok(at) => {
+            chutes[at] = chute;
+            used
+        }
+        Err(_) if room <= n => used,
+        Err(at) => {
+            shift_up(keys, at, n, key);
+            shift_up(chutes, at, n, chute);
+            n + 1
+        }
     }
-    if room <= n {
-        return used;
-    }
-    shift_up_keys(keys, at, n, key);
-    shift_up_chutes(chutes, at, n, chute);
-    n + 1
 }
 
 // Takes a key and its chute out, with later entries shifted down and 0 in the freed place, and returns the count in use.
@@ -234,14 +158,14 @@ pub fn insert(keys: &mut [u64], chutes: &mut [u16], used: usize, key: u64, chute
 pub fn remove(keys: &mut [u64], chutes: &mut [u16], used: usize, key: u64) -> usize
     ensures { store_of keys.new chutes.new result ≡ removed key (store_of keys.old chutes.old used) }
 {
-    let found = find(keys, chutes, used, key);
-    let n = found.in_use;
-    if found.held {
-        shift_down_keys(keys, found.at, n);
-        shift_down_chutes(chutes, found.at, n);
-        n - 1
-    } else {
-        used
+    let n = in_use(keys, chutes, used);
+    match find(keys, n, key) {
+        Ok(at) => {
+            shift_down(keys, at, n, 0);
+            shift_down(chutes, at, n, 0);
+            n - 1
+        }
+        Err(_) => used,
     }
 }
 
@@ -249,9 +173,8 @@ pub fn remove(keys: &mut [u64], chutes: &mut [u16], used: usize, key: u64) -> us
 pub fn replace(keys: &[u64], chutes: &mut [u16], used: usize, key: u64, chute: u16)
     ensures { store_of keys.now chutes.new used ≡ replaced key chute (store_of keys.now chutes.old used) }
 {
-    let found = find(keys, chutes, used, key);
-    let place = found.at;
-    if found.held {
+    let n = in_use(keys, chutes, used);
+    if let Ok(place) = find(keys, n, key) {
         chutes[place] = chute;
     }
 }

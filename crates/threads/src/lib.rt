@@ -1,13 +1,14 @@
-// A thread's step: which kind of step on the graph's arrays its state asks for. Together they are the model's `step`.
+// A thread's step: which kind of step on the graph its state asks for. Together they are the model's `step`.
 #![tactic(auto)]
 
-ghost use Rattle.std.specs.Prelude.{◌≡◌, length, leb};
+ghost use Rattle.std.specs.Prelude.{◌≡◌, length};
 ghost use Rattle.model.specs.Image.{image_length};
 ghost use Rattle.graph.specs.Memory.{Ready, Steps, memory};
 
 mod loader_thread;
 mod worker_thread;
 
+use graph::Graph;
 use loader_thread::loader_step;
 use model::{Counters, Thread};
 use worker_thread::worker_step;
@@ -19,23 +20,10 @@ pub struct Stepped {
     pub counters: Counters,
 }
 
-// Whether thread t is within the worker count in force.
-fn is_allowed(t: u8, limit: usize) -> bool
-    ensures { result ≡ leb t limit }
-{
-    t as usize <= limit
-}
-
-// One step of thread t, which is in state `thread`.
+// One step of thread t, which is in state `thread`. A worker is allowed to begin a search and to take a node where the worker count in
+// force is at least its number.
 pub fn step(
-    next: &mut [u8; 151],
-    seq: &mut [u16; 151],
-    executing: &mut [bool; 151],
-    locked: &mut [bool; 151],
-    waits: &mut [[u64; 3]; 151],
-    kinds: &mut [u8; 151],
-    item_keys: &mut [u64; 151],
-    item_chutes: &mut [u16; 151],
+    graph: &mut Graph,
     keys: &mut [u64],
     chutes: &mut [u16],
     answers: &mut [u16],
@@ -45,44 +33,15 @@ pub fn step(
     thread: Thread,
     counters: Counters,
 ) -> Stepped
-    requires { Ready list.now kinds.old item_keys.old item_chutes.old (memory next.old seq.old executing.old locked.old waits.old keys.old chutes.old answers.old image.old counters) thread × (length image.old ≡ image_length (length keys.old)) }
-    ensures { Steps list.now t thread
-        (memory next.old seq.old executing.old locked.old waits.old keys.old chutes.old answers.old image.old counters)
-        kinds.new item_keys.new item_chutes.new result.thread
-        (memory next.new seq.new executing.new locked.new waits.new keys.new chutes.new answers.new image.new result.counters) }
+    requires { Ready list.now (memory graph.old keys.old chutes.old answers.old image.old counters) thread × (length image.old ≡ image_length (length keys.old)) }
+    ensures { Steps list.now t thread (memory graph.old keys.old chutes.old answers.old image.old counters)
+        result.thread (memory graph.new keys.new chutes.new answers.new image.new result.counters) }
 {
     if t == 0 {
-        return loader_step(
-            next,
-            seq,
-            executing,
-            locked,
-            waits,
-            kinds,
-            item_keys,
-            item_chutes,
-            answers,
-            list,
-            thread,
-            counters,
-        );
+        return loader_step(graph, answers, list, thread, counters);
     }
-    let allowed = is_allowed(t, counters.limit);
+    let allowed = t as usize <= counters.limit;
     worker_step(
-        next,
-        seq,
-        executing,
-        locked,
-        waits,
-        kinds,
-        item_keys,
-        item_chutes,
-        keys,
-        chutes,
-        answers,
-        image,
-        allowed,
-        thread,
-        counters,
+        graph, keys, chutes, answers, image, allowed, thread, counters,
     )
 }

@@ -1,19 +1,13 @@
 -- `byte_fields::put_number` meets its contract. The loop's invariant: the bytes from k on are put. Assumes nothing.
 use native.Mathlib.Omega.{arith}
-use Rattle.byte_fields.proofs.Paste.{bytes_none, bytes_more, bytes_all, bytes_put_length}
+use Rattle.byte_fields.proofs.Paste.{bytes_none, bytes_more, bytes_all}
 use Rattle.byte_fields.proofs.put_number.Goals as goal
 
 pub loop-k-init : goal.loop-k-init
 loop-k-init c = bytes_none _ _ _ _
 
-pub bounds-list-at : goal.bounds-list-at
-bounds-list-at c = omega (arith, bytes_put_length c.loop-k.invariant)
-
 pub loop-k-preserved : goal.loop-k-preserved
 loop-k-preserved c = bytes_more c.loop-k.invariant (omega arith)
-
-pub shape_of-list : goal.shape_of-list
-shape_of-list c = bytes_put_length c.loop-k.invariant
 
 pub returns : goal.returns
 returns c = bytes_all c.loop-k.invariant (omega arith)

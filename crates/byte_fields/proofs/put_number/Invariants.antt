@@ -4,6 +4,3 @@ use Rattle.byte_fields.proofs.put_number.Given as goal
 
 abbrev pub invariant-loop-k : goal.invariant-loop-k
 invariant-loop-k l = PutBytes l.at l.width l.n l.initial.list l.list l.rest l.k
-
-abbrev pub decreases-loop-k : goal.decreases-loop-k
-decreases-loop-k l = l.k

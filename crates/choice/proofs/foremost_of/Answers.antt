@@ -1,11 +1,10 @@
--- `choice::foremost_of` meets its contract. The loop's invariant: best is the foremost of the threads 0 to t, and highest its rank. The measure is
--- how many threads are left. Assumes nothing.
+-- `choice::foremost_of` meets its contract. The loop's invariant: best is the foremost of the threads so far, and highest its rank. Assumes nothing.
 use Prim.Native.Nat.{ℕ, ◌+◌, ◌≤◌, ◌<◌}
 use native.Mathlib.Numerals.{add-one}
-use native.Mathlib.Omega.{arith}
-use mathlib.Core.Path.{◌≡◌, refl, ap, ◌∙◌}
+use mathlib.Core.Path.{◌≡◌, refl}
 use borrow.Author.Tests.{lt-ltb, le-ltb}
 use Rattle.model.specs.Dispatch.{foremost}
+use Rattle.choice.proofs.foremost_of.Goals.{then-highest-r, else-highest-r}
 use Rattle.choice.proofs.foremost_of.Goals as goal
 
 module _ (ranks : ℕ → ℕ) (t best highest next : ℕ) (is : best ≡ foremost ranks t) (has : highest ≡ ranks best) (new : next ≡ ranks (t + 1)) where
@@ -22,25 +21,18 @@ module _ (ranks : ℕ → ℕ) (t best highest next : ℕ) (is : best ≡ foremo
 pub rank_of-highest-requires : goal.rank_of-highest-requires
 rank_of-highest-requires c = c.requires.0 0
 
-pub loop-t-init : goal.loop-t-init
+pub loop-before-init : goal.loop-before-init
 unfolding foremost
-loop-t-init c = (omega arith, refl, c.rank_of-highest.ensures)
+loop-before-init c = record { best_is = refl; highest_is = c.rank_of-highest.ensures }
 
 pub rank_of-r-requires : goal.rank_of-r-requires
 rank_of-r-requires c = c.requires.0 _
 
-pub loop-t-preserved-then-highest-r : goal.loop-t-preserved-then-highest-r
-loop-t-preserved-then-highest-r c =
-    let last = c.loop-t.invariant in
-    (omega arith, overtakes _ _ _ _ _ last.1 last.2 c.rank_of-r.ensures c.if-highest-r.true, c.rank_of-r.ensures)
-
-pub loop-t-preserved : goal.loop-t-preserved
-loop-t-preserved c =
-    let last = c.loop-t.invariant in
-    (omega arith, stays _ _ _ _ _ last.1 last.2 c.rank_of-r.ensures c.if-highest-r.false, last.2)
-
-pub returns : goal.returns
-returns c =
-    let last = c.loop-t in
-    let whole : last.t ≡ c.args.largest = omega arith in
-    last.invariant.1 ∙ ap (foremost _) whole
+pub loop-before-preserved : goal.loop-before-preserved
+loop-before-preserved c =
+    let last = c.loop-before.invariant in
+    let r = c.rank_of-r.ensures in
+    elim c.if-highest-r.branch [
+      | then-highest-r w ↦ record { best_is = rw w.best-is (overtakes _ _ _ _ _ last.best_is last.highest_is r w.if-highest-r.true); highest_is = rw (w.best-is, w.highest-is) r }
+      | else-highest-r w ↦ record { best_is = rw w.best-is (stays _ _ _ _ _ last.best_is last.highest_is r w.if-highest-r.false); highest_is = rw (w.best-is, w.highest-is) last.highest_is }
+    ]

@@ -1,6 +1,5 @@
--- `choice::foremost_of` meets its contract. The loop's invariant: best is the foremost of the threads 0 to t, and highest its rank. The measure is
--- how many threads are left. Assumes nothing.
-use Prim.Native.Nat.{ℕ, ◌-◌, ◌≤◌}
+-- `choice::foremost_of` meets its contract. The loop's invariant: best is the foremost of the threads so far, and highest its rank. Assumes nothing.
+use Prim.Native.Nat.{ℕ}
 use mathlib.Core.Path.{◌≡◌}
 use mathlib.Core.List.{List}
 use lib.ListN.{get_or}
@@ -14,8 +13,8 @@ use Rattle.choice.proofs.foremost_of.Given as goal
 abbrev pub rank_at : List ℕ → List Thread → ℕ → ℕ
 rank_at seq threads t = rank (numbers seq) (get_or threads t Idle)
 
-abbrev pub invariant-loop-t : goal.invariant-loop-t
-invariant-loop-t l = (l.t ≤ l.largest) × (l.best ≡ foremost (rank_at l.seq l.threads) l.t) × (l.highest ≡ rank_at l.seq l.threads l.best)
-
-abbrev pub decreases-loop-t : goal.decreases-loop-t
-decreases-loop-t l = l.largest - l.t
+abbrev pub invariant-loop-before : goal.invariant-loop-before
+invariant-loop-before l = record {
+  best_is : l.best ≡ foremost (rank_at l.seq l.threads) l.before;
+  highest_is : l.highest ≡ rank_at l.seq l.threads l.best;
+}

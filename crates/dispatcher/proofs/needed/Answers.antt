@@ -24,28 +24,6 @@ byte_3_read b long = number_one 3 b (omega arith)
 product_fits : (a b : ℕ) → a ≤ 65750 → b ≤ 456 → a * b ≤ 29982000
 product_fits a b h k = mul-le-mul {n₁ = a} {m₁ = b} {n₂ = 65750} {m₂ = 456} h k
 
-pub bounds-state-1 : goal.bounds-state-1
-unfolding state_length
-bounds-state-1 c = omega arith
-
-pub overflow_cast-size : goal.overflow_cast-size
-overflow_cast-size c = omega (arith, c.shared_slice_known-2-1.given 1)
-
-pub bounds-state-3 : goal.bounds-state-3
-unfolding state_length
-bounds-state-3 c = omega arith
-
-pub overflow_cast-largest : goal.overflow_cast-largest
-overflow_cast-largest c = omega (arith, c.shared_slice_known-3-1.given 3)
-
-pub number_at-requires : goal.number_at-requires
-unfolding state_length
-number_at-requires c = omega arith
-
-pub number_at-requires-2 : goal.number_at-requires-2
-unfolding state_length
-number_at-requires-2 c = omega arith
-
 pub used_nodes-used-requires : goal.used_nodes-used-requires
 used_nodes-used-requires c =
     let size_in : number_at 1 1 c.args.state.now ≡ get_or c.args.state.now 1 0 = byte_1_read c.args.state.now c.requires.0 in
@@ -71,7 +49,7 @@ overflow_mul-result-2 c =
     let largest = get_or c.args.state.now 3 0 in
     let few : size ≤ 150 = omega (arith, size_in, c.requires) in
     let workers : largest ≤ 64 = omega (arith, largest_in, c.requires) in
-    omega (arith, product_fits (c.not_loaded-left.result + c.used_nodes-used.result + largest) (3 * size + 6) (omega arith) (omega arith))
+    omega (arith, product_fits (c.saturating_sub-left.result + c.used_nodes-used.result + largest) (3 * size + 6) (omega arith) (omega arith))
 
 pub returns : goal.returns
 returns c =
@@ -80,7 +58,7 @@ returns c =
     let count = c.number_at.ensures in
     let loaded = c.number_at-2.ensures in
     needed_in (record {
-      left_is = c.not_loaded-left.ensures.0 ∙ ap₂ ◌-◌ count loaded;
+      left_is = c.saturating_sub-left.ensures ∙ ap₂ ◌-◌ count loaded;
       used_is = c.used_nodes-used.ensures.0;
       size_is = sym size_in;
       size_fits = omega (arith, size_in, c.requires);

@@ -5,26 +5,6 @@ use Rattle.state_bytes.specs.Layout.{state_length, setup_in, count_in}
 use Rattle.byte_fields.proofs.Fill.{number_one}
 use Rattle.runner.proofs.settings_in.Goals as goal
 
-pub bounds-state-1 : goal.bounds-state-1
-unfolding state_length
-bounds-state-1 c = omega arith
-
-pub bounds-state-2 : goal.bounds-state-2
-unfolding state_length
-bounds-state-2 c = omega arith
-
-pub bounds-state-3 : goal.bounds-state-3
-unfolding state_length
-bounds-state-3 c = omega arith
-
-pub number_at-requires : goal.number_at-requires
-unfolding state_length
-number_at-requires c = omega arith
-
-pub number_at-requires-2 : goal.number_at-requires-2
-unfolding state_length
-number_at-requires-2 c = omega arith
-
 pub returns : goal.returns
 unfolding state_length setup_in count_in
 returns c commands count =

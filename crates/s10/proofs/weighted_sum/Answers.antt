@@ -1,18 +1,16 @@
--- `s10::weighted_sum` meets its contract. The loop's invariant: the sum so far and the sum from `k` on are the whole sum. Assumes nothing.
+-- `s10::weighted_sum` meets its contract. Assumes nothing.
 use Prim.Native.Nat.{ℕ, ◌+◌, ◌*◌, ◌-◌, ◌≤◌, ◌<◌}
 use mathlib.Core.Path.{◌≡◌}
 use mathlib.Core.List.{List}
 use native.Mathlib.Omega.{arith}
-use lib.ListN.{drop, get_or}
+use lib.ListN.{length, get_or, length-append}
+use Rattle.std.proofs.lemmas.Slice.Zip.{zip_turn, zip_end}
 use Rattle.s10.specs.Text.{weights, weighted}
-use Rattle.s10.specs.Parts.{Serial, Between, values}
+use Rattle.s10.specs.Parts.{Serial, values}
 use Rattle.s10.proofs.Values.{length_values, get_d_values}
 use Rattle.s10.proofs.Weighted.{weighted_step, weighted_bound}
+use Rattle.s10.proofs.weighted_sum.Invariants.{rest}
 use Rattle.s10.proofs.weighted_sum.Goals as goal
-
--- what is left of a text's weighted sum from place k on
-abbrev rest : List ℕ → ℕ → ℕ
-rest text k = weighted (drop k weights) (drop k (values text))
 
 -- one more product in the sum
 abbrev Step : List ℕ → ℕ → ℕ → Type 0
@@ -30,36 +28,25 @@ sum_step text sum k s h inv =
     let step = rw (get_d_values text k) at (weighted_step weights (values text) k h (omega arith)) in
     omega arith
 
--- the weights of the code are those of the definition
-pub loop-k-preserved : goal.loop-k-preserved
-unfolding weights
-loop-k-preserved c =
-    let next : Step c.args.digits.now c.loop-k.sum c.loop-k.k = sum_step c.args.digits.now _ _ c.requires c.loop-k-test.true c.loop-k.invariant.1 in
-    (omega arith, (next).0)
-
-pub overflow_sub-sum : goal.overflow_sub-sum
-overflow_sub-sum c =
-    let digit : Between 48 57 (get_or c.args.digits.now c.loop-k.k 0) = c.requires.digit c.loop-k.k (omega arith) in
-    (digit).0
-
-pub overflow_cast-sum : goal.overflow_cast-sum
-overflow_cast-sum c = let digit : Between 48 57 (get_or c.args.digits.now c.loop-k.k 0) = c.requires.digit c.loop-k.k (omega arith) in
-    omega (arith, digit)
-
-pub overflow_mul-sum : goal.overflow_mul-sum
-unfolding weights
-overflow_mul-sum c = let next : Step c.args.digits.now c.loop-k.sum c.loop-k.k = sum_step c.args.digits.now _ _ c.requires c.loop-k-test.true c.loop-k.invariant.1 in
-    omega (arith, (next).1)
-
 pub overflow_add-sum : goal.overflow_add-sum
 unfolding weights
-overflow_add-sum c = let next : Step c.args.digits.now c.loop-k.sum c.loop-k.k = sum_step c.args.digits.now _ _ c.requires c.loop-k-test.true c.loop-k.invariant.1 in
-    omega (arith, (next).1)
+overflow_add-sum c =
+    let turn = zip_turn weights c.args.digits.now c.loop-weight.yielded c.into_iter-weight-iterator.result c.loop-weight.weight-iterator c.next.new.self c.next.result (cc) (cc) c.loop-weight.yielded_by (c.in-Some.weight, c.in-Some.digit) c.in-Some.is c.next.ensures.steps in
+    let next = sum_step c.args.digits.now c.loop-weight.sum (length c.loop-weight.yielded) c.requires turn.0 c.loop-weight.invariant in
+    rw (turn.2 0, turn.3 0) (omega (arith, next.1))
+
+pub loop-weight-preserved : goal.loop-weight-preserved
+unfolding weights
+loop-weight-preserved c =
+    let turn = zip_turn weights c.args.digits.now c.loop-weight.yielded c.into_iter-weight-iterator.result c.loop-weight.weight-iterator c.next.new.self c.next.result (cc) (cc) c.loop-weight.yielded_by (c.in-Some.weight, c.in-Some.digit) c.in-Some.is c.next.ensures.steps in
+    let next = sum_step c.args.digits.now c.loop-weight.sum (length c.loop-weight.yielded) c.requires turn.0 c.loop-weight.invariant in
+    simp length-append (rw (turn.2 0, turn.3 0) next.0)
 
 pub returns : goal.returns
 unfolding weights weighted
 returns c =
-    let k : c.loop-k.k ≡ 8 = omega arith in
-    let all = rw k at c.loop-k.invariant.1 in
+    let all = zip_end weights c.args.digits.now c.loop-weight.yielded c.into_iter-weight-iterator.result c.loop-weight.weight-iterator c.next.new.self c.next.result (cc) (cc) c.loop-weight.yielded_by c.in-None.is c.next.ensures.steps in
+    let eight : length c.loop-weight.yielded ≡ 8 = omega (arith, all, c.requires.long) in
+    let whole = rw eight at c.loop-weight.invariant in
     let bound = weighted_bound c.args.digits.now c.requires in
     record { value = omega arith; upper_bound = omega arith }

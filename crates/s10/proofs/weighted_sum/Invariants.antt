@@ -1,8 +1,8 @@
--- `s10::weighted_sum` meets its contract. The loop's invariant: the sum so far and the sum from `k` on are the whole sum. Assumes nothing.
-use Prim.Native.Nat.{ℕ, ◌+◌, ◌-◌, ◌≤◌}
+-- `s10::weighted_sum` meets its contract. The loop's invariant: the sum so far and the sum of what is left are the whole sum. Assumes nothing.
+use Prim.Native.Nat.{ℕ, ◌+◌}
 use mathlib.Core.Path.{◌≡◌}
 use mathlib.Core.List.{List}
-use lib.ListN.{drop}
+use lib.ListN.{length, drop}
 use Rattle.s10.specs.Text.{weights, weighted}
 use Rattle.s10.specs.Parts.{values}
 use Rattle.s10.proofs.weighted_sum.Given as goal
@@ -11,8 +11,5 @@ use Rattle.s10.proofs.weighted_sum.Given as goal
 abbrev pub rest : List ℕ → ℕ → ℕ
 rest text k = weighted (drop k weights) (drop k (values text))
 
-abbrev pub invariant-loop-k : goal.invariant-loop-k
-invariant-loop-k l = (l.k ≤ 8) × (l.sum + rest l.digits l.k ≡ weighted weights (values l.digits))
-
-abbrev pub decreases-loop-k : goal.decreases-loop-k
-decreases-loop-k l = 8 - l.k
+abbrev pub invariant-loop-weight : goal.invariant-loop-weight
+invariant-loop-weight l = l.sum + rest l.digits (length l.yielded) ≡ weighted weights (values l.digits)

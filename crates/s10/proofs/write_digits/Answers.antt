@@ -1,7 +1,6 @@
--- `s10::write_digits` meets its contract. The loop's invariant: the last digits stand from `i` on, and the rest is still to be written.
--- Assumes nothing.
+-- `s10::write_digits` meets its contract. Assumes nothing.
 use Prim.Native.Nat.{ℕ, suc, ◌+◌, ◌-◌, ◌/◌, ◌%◌, ◌<◌}
-use mathlib.Core.Path.{◌≡◌, refl}
+use mathlib.Core.Path.{◌≡◌}
 use mathlib.Core.List.{List}
 use native.Mathlib.Nat.{div-div-eq-div-mul, div-one, pow-suc, sub_self, sub-zero}
 use native.Mathlib.Omega.{arith}
@@ -42,16 +41,12 @@ fill number text rest i some f =
     }
 
 pub loop-i-init : goal.loop-i-init
-loop-i-init c = (refl, none_filled c.args.number c.args.text.now)
+loop-i-init c = none_filled c.args.number c.args.text.now
 
 pub loop-i-preserved : goal.loop-i-preserved
-loop-i-preserved c = (rw length-set c.loop-i.invariant.0, fill _ _ _ _ c.loop-i-test.true c.loop-i.invariant.1)
-
-pub shape_of-text : goal.shape_of-text
-shape_of-text c = c.loop-i.invariant.0
+loop-i-preserved c = fill _ _ _ _ c.loop-i-test.true c.loop-i.invariant
 
 pub returns : goal.returns
 returns c =
-    let l = c.loop-i in
-    let start : l.i ≡ 0 = omega arith in
-    rw l.invariant.0 at (all_filled (rw start at l.invariant.1))
+    let start : c.loop-i.i ≡ 0 = omega arith in
+    rw c.loop-i.auto.text at (all_filled (rw start at c.loop-i.invariant))

@@ -15,7 +15,4 @@ pub record Filled (number : ℕ) (text : List ℕ) (rest i : ℕ) : Type 0 where
   pub written : drop i text ≡ characters (digits (length text - i) number)
 
 abbrev pub invariant-loop-i : goal.invariant-loop-i
-invariant-loop-i l = (length l.text ≡ length l.initial.text) × Filled l.number l.text l.rest l.i
-
-abbrev pub decreases-loop-i : goal.decreases-loop-i
-decreases-loop-i l = l.i
+invariant-loop-i l = Filled l.number l.text l.rest l.i

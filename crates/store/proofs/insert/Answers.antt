@@ -1,36 +1,28 @@
 -- `store::insert` meets its contract: a key that is held gets the chute at the place found; else both lists are shifted up from there, where
 -- both have a place left. Assumes nothing.
-use native.Mathlib.Omega.{arith}
+use Rattle.std.proofs.Common.{arith}
+use Rattle.model.specs.Store.{room, shift_up}
+use Rattle.store.specs.Lists.{store_of}
 use Rattle.store.proofs.Operations.{held_within, room_within, inserted, not_inserted, inserted_again}
 use Rattle.store.proofs.insert.Goals as goal
 
 pub offset_bounds-chutes-at : goal.offset_bounds-chutes-at
-offset_bounds-chutes-at c = omega (arith, held_within c.find-found.ensures c.if-found.true)
+offset_bounds-chutes-at c = omega (arith, held_within c.args.key (store_of c.args.keys.now c.args.chutes.now c.args.used) c.in_use-n.ensures.counted c.in-Ok.ensures)
 
 pub bounds-chutes-at : goal.bounds-chutes-at
-bounds-chutes-at c = omega (arith, held_within c.find-found.ensures c.if-found.true)
+bounds-chutes-at c = omega (arith, held_within c.args.key (store_of c.args.keys.now c.args.chutes.now c.args.used) c.in_use-n.ensures.counted c.in-Ok.ensures)
 
-pub returns-then-found : goal.returns-then-found
-returns-then-found c = inserted_again c.find-found.ensures c.args.chute c.if-found.true
+pub returns-in-Ok : goal.returns-in-Ok
+returns-in-Ok c = inserted_again c.args.key (store_of c.args.keys.now c.args.chutes.now c.args.used) c.in_use-n.ensures.counted c.in-Ok.ensures c.args.chute
 
-pub returns-then-room-n : goal.returns-then-room-n
-returns-then-room-n c =
-    not_inserted c.find-found.ensures c.smaller-room.ensures c.args.chute
-    c.if-found.false c.if-room-n.true
+pub returns-in-Err : goal.returns-in-Err
+unfolding room
+returns-in-Err c = not_inserted c.args.key (store_of c.args.keys.now c.args.chutes.now c.args.used) c.in_use-n.ensures.counted c.in-Err.ensures c.args.chute (omega arith)
 
-pub shift_up_keys-requires : goal.shift_up_keys-requires
-shift_up_keys-requires c =
-    omega (arith, room_within c.find-found.ensures c.smaller-room.ensures c.if-room-n.false)
+pub shift_up-requires : goal.shift_up-requires
+unfolding room
+shift_up-requires c = omega (arith, room_within c.args.key (store_of c.args.keys.now c.args.chutes.now c.args.used) c.in_use-n.ensures.counted c.in-Err.ensures (omega arith))
 
-pub shift_up_chutes-requires : goal.shift_up_chutes-requires
-shift_up_chutes-requires c =
-    omega (arith, room_within c.find-found.ensures c.smaller-room.ensures c.if-room-n.false)
-
-pub overflow_add-result : goal.overflow_add-result
-overflow_add-result c =
-    omega (arith, room_within c.find-found.ensures c.smaller-room.ensures c.if-room-n.false)
-
-pub returns : goal.returns
-returns c =
-    inserted c.find-found.ensures c.smaller-room.ensures c.args.chute
-    c.if-found.false c.if-room-n.false c.shift_up_keys.ensures c.shift_up_chutes.ensures
+pub returns-in-Err-2 : goal.returns-in-Err-2
+unfolding room shift_up
+returns-in-Err-2 c = inserted c.args.key (store_of c.args.keys.now c.args.chutes.now c.args.used) c.in_use-n.ensures.counted c.in-Err.ensures c.args.chute (omega arith) c.shift_up.ensures c.shift_up-in-Err-2.ensures

@@ -1,5 +1,5 @@
 -- `threads::step` meets its contract: thread 0 takes the loader's step, any other a worker's. Assumes nothing.
-use mathlib.Core.Path.{sym}
+use mathlib.Core.Path.{refl}
 use mathlib.Core.List.{[]}
 use lib.ListN.{length}
 use Rattle.command.specs.Read.{commands_in}
@@ -9,7 +9,7 @@ use Rattle.threads.proofs.step.Goals as goal
 
 pub loader_step-requires : goal.loader_step-requires
 loader_step-requires c =
-    ready_beside _ _ _ _ _ _ c.requires.0 _ _ [] [] []
+    ready_beside _ _ _ c.requires.0 [] [] []
 
 pub returns-then-t-eq0 : goal.returns-then-t-eq0
 returns-then-t-eq0 c =
@@ -20,13 +20,12 @@ worker_step-requires c =
     let a = c.args in
     record {
       nodes = c.requires.0.nodes;
-      free = c.requires.0.free;
+      first = c.requires.0.free;
       within = c.requires.0.within;
-      placed = kept_placed (commands_in a.list.now) a.seq.now a.kinds.now a.item_keys.now a.item_chutes.now a.answers.now
-          (commands_length a.list.now (length a.answers.now) c.requires.0.whole) c.requires.0.kept;
+      placed = kept_placed (commands_in a.list.now) a.graph.now a.answers.now (commands_length a.list.now (length a.answers.now) c.requires.0.whole) c.requires.0.kept;
       imaged = c.requires.1;
     }
 
 pub returns : goal.returns
 returns c =
-    c.worker_step.ensures c.args.list.now c.args.t c.if-t-eq0.false (sym c.is_allowed-allowed.ensures) c.requires.0
+    c.worker_step.ensures c.args.list.now c.args.t c.if-t-eq0.false refl c.requires.0

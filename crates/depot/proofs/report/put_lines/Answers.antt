@@ -1,35 +1,27 @@
--- `depot::report::put_lines` meets its contract. The loop's invariant: the lines of the first i commands stand at the start. Assumes nothing.
-use Prim.Native.Nat.{◌/◌, ◌+◌, ◌*◌, ◌-◌}
+-- `depot::report::put_lines` meets its contract: line by line. Assumes nothing.
+use Rattle.std.proofs.Common.{rules, ◌≡◌, length, refl, arith}
 use native.Mathlib.Numerals.{add-one}
-use native.Mathlib.Omega.{arith}
-use mathlib.Core.Path.{◌≡◌, refl}
-use lib.ListN.{length}
-use Rattle.depot.specs.Program.{command_lines}
-use Rattle.depot.proofs.Wrote.{wrote_then}
-use Rattle.byte_fields.proofs.Paste.{fields_more}
-use Rattle.depot.proofs.Lines.{none_wrote, some_from, first_from}
-use Rattle.depot.proofs.report.put_lines.Invariants.{line_of}
+use Rattle.depot.proofs.Lines.{none_lined, next_whole, one_lined, all_lined}
 use Rattle.depot.proofs.report.put_lines.Goals as goal
 
 pub loop-i-init : goal.loop-i-init
-loop-i-init c = (omega arith, omega arith, refl, none_wrote (line_of c.args.commands.now c.args.answers.now) c.args.out.now)
-
-pub bounds-rest-0 : goal.bounds-rest-0
-bounds-rest-0 c =
-    some_from c.loop-i.i c.args.answers.now c.answers_from-rest.result.now c.answers_from-rest.ensures.answers (omega arith)
+loop-i-init c = record {
+  size = search rules;
+  same = refl;
+  lined = rw (c.into_iter-i-iterator.ensures.into_iter_gives, c.enumerate-i-items.ensures.source, c.enumerate-i-items.ensures.count, c.chunks.ensures.rest) (none_lined _ _ _);
+}
 
 pub loop-i-preserved : goal.loop-i-preserved
 loop-i-preserved c =
-    let l = c.loop-i in
-    let cut : 16 * l.i + 16 - 16 * l.i ≡ 16 = omega arith in
-    let own = first_from l.i c.args.answers.now c.answers_from-rest.result.now c.answers_from-rest.ensures.answers in
-    let line = rw (own, add-one, cut) at c.put_line-at.ensures.wrote in
-    (omega arith, omega arith, omega arith, rw (add-one, fields_more) (wrote_then (omega arith) l.invariant.3 line))
+    let v = c.loop-i.invariant in
+    let s = c.in-Some.ensures.steps in
+    let next = next_whole c.requires.0 v.lined c.in-Some.command.now (omega (arith, s.0.1.1, s.0.1.2, v.size)) (omega (arith, s.0.1.1, s.0.1.2)) in
+    let line = rw (s.1, add-one) at c.put_line-at.ensures.wrote in
+    record {
+      size = search rules;
+      same = search rules;
+      lined = rw (s.2, add-one) (one_lined c.requires.0 v.lined c.in-Some.command.now _ _ _ s.0.1.0 next.0 next.1 (omega (arith, v.lined.bound, next.1, c.requires)) line c.put_line-at.ensures.upper_bound);
+    }
 
-pub returns : goal.returns
-unfolding command_lines
-returns c =
-    let l = c.loop-i in
-    let a = c.args in
-    let count : length a.commands.now / 16 ≡ l.i = omega arith in
-    record { wrote = rw count l.invariant.3; upper_bound = omega arith }
+pub returns-clause-wrote : goal.returns-clause-wrote
+returns-clause-wrote c = (all_lined c.requires.0 c.loop-i.invariant.lined c.in-None.ensures.steps.0.1.0).0

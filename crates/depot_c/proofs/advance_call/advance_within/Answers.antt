@@ -1,49 +1,23 @@
--- `depot_c::advance_call::advance_within` meets its contract: the numbers are read, the proved call is made, and what it leaves is written. Assumes nothing.
-use native.Mathlib.Omega.{arith}
-use borrow.Author.Rules.{rules}
-use mathlib.Core.Path.{◌≡◌, ◌∙◌}
-use mathlib.Core.List.{List}
-use Prim.Native.Nat.{ℕ}
-use lib.ListN.{length}
-use Rattle.state_bytes.specs.Layout.{Lists, all_lists}
-use Rattle.state_bytes.specs.Outcome.{CallOutcome}
+-- `depot_c::advance_call::advance_within` meets its contract: the proved call is made, and what it leaves is written. Assumes nothing.
+use mathlib.Core.Path.{refl, sym, ap}
+use Rattle.state_bytes.specs.Layout.{all_lists}
 use Rattle.controller.specs.Calls.{advance_on}
-use Rattle.depot_c.specs.Boundary.{number_lists, answer_of}
-use Rattle.depot_c.proofs.Outcomes.{advance_packed, entries_read_back, answer_on, written_on, refused_on}
+use Rattle.depot_c.specs.Boundary.{packed, answer_of}
+use Rattle.depot_c.proofs.Refused.{advance_refused}
+use Rattle.depot_c.proofs.Accepted.{advance_accepted}
+use Rattle.depot_c.proofs.Outcomes.{refused_left, accepted_left}
 use Rattle.depot_c.proofs.advance_call.advance_within.Goals as goal
 
--- the proved call on the numbers of the lists that the function gets
-abbrev outcome : List ℕ → List ℕ → Lists → CallOutcome
-outcome commands schedule l = advance_on l commands schedule
+pub returns-in_err-advance-clause-left : goal.returns-in_err-advance-clause-left
+returns-in_err-advance-clause-left c =
+    let a = c.args in
+    let r = all_lists a.state.now a.key_room.now a.chute_room.now a.answer_room.now a.image.now in
+    refused_left (advance_on r a.commands.now a.schedule.now) (all_lists a.state.now a.keys.now a.chutes.now a.answers.now a.image.now) r (advance_refused _).0 c.in_err-advance.ensures.refusal c.in_err-advance.ensures.left refl refl
 
-pub write_lists-requires : goal.write_lists-requires
-write_lists-requires c =
-    let pre = c.requires in
-    record {
-      keys_fit = omega (arith, pre.keys_fit);
-      chutes_fit = omega (arith, pre.chutes_fit);
-      answers_fit = omega (arith, pre.answers_fit);
-    }
-
-pub returns-then-answer-eq0 : goal.returns-then-answer-eq0
-returns-then-answer-eq0 c =
-    let answer_is : c.number-answer.result ≡ answer_of (outcome c.args.commands.now c.args.schedule.now (number_lists (all_lists c.args.state.now c.args.keys.now c.args.chutes.now c.args.answers.now c.args.image.now))) = let args = c.args in c.number-answer.ensures.0 ∙ advance_packed c.advance-advancing.result ∙ answer_on args.state.now args.keys.now args.chutes.now args.answers.now args.image.now (outcome c.args.commands.now c.args.schedule.now) c.read_lists.ensures c.advance-advancing.ensures.refusal in
-    let args = c.args in
-    let whole = entries_read_back args.state.now args.keys.now args.chutes.now args.answers.now args.image.now (length args.key_room.now) (length args.chute_room.now)
-    (length args.answer_room.now) c.requires.keys_fit c.requires.chutes_fit c.requires.answers_fit
-    (λ i. search rules)
-    (λ i. search rules)
-    (λ i. search rules) in record {
-      number = answer_is;
-      left = written_on args.state.now args.keys.now args.chutes.now args.answers.now args.image.now (outcome c.args.commands.now c.args.schedule.now) c.read_lists.ensures whole
-          c.advance-advancing.ensures.left c.write_lists.ensures;
-    }
-
-pub returns-else-answer-eq0 : goal.returns-else-answer-eq0
-returns-else-answer-eq0 c =
-    let answer_is : c.number-answer.result ≡ answer_of (outcome c.args.commands.now c.args.schedule.now (number_lists (all_lists c.args.state.now c.args.keys.now c.args.chutes.now c.args.answers.now c.args.image.now))) = let args = c.args in c.number-answer.ensures.0 ∙ advance_packed c.advance-advancing.result ∙ answer_on args.state.now args.keys.now args.chutes.now args.answers.now args.image.now (outcome c.args.commands.now c.args.schedule.now) c.read_lists.ensures c.advance-advancing.ensures.refusal in
-    let args = c.args in record {
-      number = answer_is;
-      left = refused_on args.state.now args.keys.now args.chutes.now args.answers.now args.image.now (outcome c.args.commands.now c.args.schedule.now) c.read_lists.ensures
-          c.advance-advancing.ensures.left (λ z. c.if-answer-eq0.false (answer_is ∙ z));
-    }
+pub returns-clause-left : goal.returns-clause-left
+unfolding answer_of
+returns-clause-left c =
+    let a = c.args in
+    let r = all_lists a.state.now a.key_room.now a.chute_room.now a.answer_room.now a.image.now in
+    let is = advance_accepted r a.commands.now a.schedule.now (ap packed (sym c.in_ok-advance.ensures.refusal)) in
+    accepted_left (advance_on r a.commands.now a.schedule.now) (all_lists a.state.now a.keys.now a.chutes.now a.answers.now a.image.now) r is.0 is.1 c.in_ok-advance.ensures.left c.write_lists.ensures

@@ -1,55 +1,22 @@
--- `depot_c::dispatch_calls::dispatch_within` meets its contract: the numbers are read, the proved call is made, and what it leaves is written. Assumes nothing.
-use native.Mathlib.Omega.{arith}
-use borrow.Author.Rules.{rules}
-use mathlib.Core.Path.{◌≡◌, ap, ◌∙◌}
-use mathlib.Core.List.{List}
-use Prim.Native.Nat.{ℕ}
-use lib.ListN.{length}
-use Rattle.state_bytes.specs.Layout.{Lists, all_lists}
-use Rattle.dispatcher.specs.Calls.{DispatchOutcome, dispatch_on, refusal_in, count_in, lent_left}
-use Rattle.s10.specs.Refusal.{Refusal}
-use Rattle.depot_c.specs.Boundary.{number_lists}
-use Rattle.depot_c.proofs.Outcomes.{entries_read_back}
-use Rattle.depot_c.proofs.Dispatched.{same_outcome, written_on, refused_on}
+-- `depot_c::dispatch_calls::dispatch_within` meets its contract: the proved call is made, and what it leaves is written. Assumes nothing.
+use mathlib.Core.Path.{refl, sym, ap}
+use Rattle.state_bytes.specs.Layout.{all_lists}
+use Rattle.dispatcher.specs.Calls.{dispatch_on}
+use Rattle.depot_c.specs.Boundary.{packed}
+use Rattle.depot_c.proofs.Refused.{state_refused}
+use Rattle.depot_c.proofs.Accepted.{dispatch_made}
+use Rattle.depot_c.proofs.Dispatched.{refused_left, made_written}
 use Rattle.depot_c.proofs.dispatch_calls.dispatch_within.Goals as goal
 
--- the proved call on the numbers of the lists that the function gets
-abbrev outcome : List ℕ → List ℕ → Lists → DispatchOutcome
-outcome commands schedule l = dispatch_on l commands schedule
+pub returns-in_err-steps-clause-left : goal.returns-in_err-steps-clause-left
+returns-in_err-steps-clause-left c =
+    let a = c.args in
+    let r = all_lists a.state.now a.key_room.now a.chute_room.now a.answer_room.now a.image.now in
+    refused_left (dispatch_on r a.commands.now a.schedule.now) (all_lists a.state.now a.keys.now a.chutes.now a.answers.now a.image.now) r (state_refused _).0 c.in_err-steps.ensures.refusal c.in_err-steps.ensures.left refl refl
 
-pub write_lists-requires : goal.write_lists-requires
-write_lists-requires c =
-    let pre = c.requires in
-    record {
-      keys_fit = omega (arith, pre.keys_fit);
-      chutes_fit = omega (arith, pre.chutes_fit);
-      answers_fit = omega (arith, pre.answers_fit);
-    }
-
-pub returns-then-number-eq0 : goal.returns-then-number-eq0
-returns-then-number-eq0 c =
-    let same : let args = c.args in outcome c.args.commands.now c.args.schedule.now (all_lists args.state.now c.read_lists.new.key_room c.read_lists.new.chute_room c.read_lists.new.answer_room args.image.now) ≡ outcome c.args.commands.now c.args.schedule.now (number_lists (all_lists args.state.now args.keys.now args.chutes.now args.answers.now args.image.now)) = let args = c.args in same_outcome args.state.now args.keys.now args.chutes.now args.answers.now args.image.now (outcome c.args.commands.now c.args.schedule.now) c.read_lists.ensures in
-    let args = c.args in
-    let whole = entries_read_back args.state.now args.keys.now args.chutes.now args.answers.now args.image.now (length args.key_room.now) (length args.chute_room.now)
-    (length args.answer_room.now) c.requires.keys_fit c.requires.chutes_fit c.requires.answers_fit
-    (λ i. search rules)
-    (λ i. search rules)
-    (λ i. search rules) in record {
-      refusal = c.dispatch-dispatching.ensures.refusal ∙ ap refusal_in same;
-      counted = c.dispatch-dispatching.ensures.counted ∙ ap count_in same;
-      left = written_on args.state.now args.keys.now args.chutes.now args.answers.now args.image.now (outcome c.args.commands.now c.args.schedule.now) c.read_lists.ensures whole
-          c.dispatch-dispatching.ensures.left c.write_lists.ensures;
-      written = c.dispatch-dispatching.ensures.written ∙ ap (λ (o : DispatchOutcome). lent_left o args.schedule.now) same;
-    }
-
-pub returns-else-number-eq0 : goal.returns-else-number-eq0
-returns-else-number-eq0 c =
-    let same : let args = c.args in outcome c.args.commands.now c.args.schedule.now (all_lists args.state.now c.read_lists.new.key_room c.read_lists.new.chute_room c.read_lists.new.answer_room args.image.now) ≡ outcome c.args.commands.now c.args.schedule.now (number_lists (all_lists args.state.now args.keys.now args.chutes.now args.answers.now args.image.now)) = let args = c.args in same_outcome args.state.now args.keys.now args.chutes.now args.answers.now args.image.now (outcome c.args.commands.now c.args.schedule.now) c.read_lists.ensures in
-    let args = c.args in
-    let refusal = c.dispatch-dispatching.ensures.refusal ∙ ap refusal_in (same) in record {
-      refusal = refusal;
-      counted = c.dispatch-dispatching.ensures.counted ∙ ap count_in same;
-      left = refused_on args.state.now args.keys.now args.chutes.now args.answers.now args.image.now (outcome c.args.commands.now c.args.schedule.now) c.read_lists.ensures
-          c.dispatch-dispatching.ensures.left (λ z. c.if-number-eq0.false (c.number.ensures.0 ∙ ap (λ (r : Refusal). r.number) refusal ∙ z));
-      written = c.dispatch-dispatching.ensures.written ∙ ap (λ (o : DispatchOutcome). lent_left o args.schedule.now) same;
-    }
+pub returns-clause-left : goal.returns-clause-left
+returns-clause-left c =
+    let a = c.args in
+    let r = all_lists a.state.now a.key_room.now a.chute_room.now a.answer_room.now a.image.now in
+    let is = dispatch_made r a.commands.now a.schedule.now (ap packed (sym c.in_ok-steps.ensures.refusal)) in
+    made_written (dispatch_on r a.commands.now a.schedule.now) (all_lists a.state.now a.keys.now a.chutes.now a.answers.now a.image.now) r is.0 is.1 c.in_ok-steps.ensures.left c.write_lists.ensures

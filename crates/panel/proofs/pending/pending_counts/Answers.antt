@@ -1,25 +1,24 @@
 -- `panel::pending::pending_counts` meets its contract: where the tests pass the report is written, and a refusal leaves the list. Assumes nothing.
-use mathlib.Core.Path.{◌≡◌, refl, sym, ap, ◌∙◌}
-use lib.ListN.{length}
+use Rattle.std.proofs.Common.{◌≡◌, ℕ, length, refl, sym, ap, ◌∙◌}
+use Rattle.s10.specs.Refusal.{plain}
 use Rattle.state_bytes.specs.Layout.{Lists, lists}
-use Rattle.panel.specs.Reports.{report_of, report_number}
-use Rattle.panel.proofs.Reporting.{passed_lengths, refusal_told, left_report, left_old}
+use Rattle.state_bytes.specs.Outcome.{tested_number}
+use Rattle.panel.specs.Reports.{report_number}
+use Rattle.panel.proofs.Reporting.{tests_told, passed_lengths, refused_for, left_old, left_report}
+use Rattle.panel.proofs.pending.pending_counts.Goals.{In_ok-tested}
 use Rattle.panel.proofs.pending.pending_counts.Goals as goal
 
+-- the tests pass
+told_ok : (c : In_ok-tested) → let l : Lists = lists c.args.state.now c.args.keys.now c.args.chutes.now c.args.answers.now in ◌≡◌ {A = ℕ} 0 (report_number l c.args.commands.now (length c.args.counts.now) 150)
+told_ok c = sym (ap tested_number c.in_ok-tested.was) ∙ tests_told _ _ _ _ (c.tested.ensures _ _ refl refl refl refl refl)
+
+pub returns-in_err-tested : goal.returns-in_err-tested
+returns-in_err-tested c =
+    let e = sym (ap tested_number c.in_err-tested.was) ∙ tests_told (lists c.args.state.now c.args.keys.now c.args.chutes.now c.args.answers.now) c.args.commands.now _ _ (c.tested.ensures _ _ refl refl refl refl refl) in
+    record { refusal = refused_for _ _ c.from_residual.ensures.1 e; left = left_old _ _ _ _ c.from_residual.ensures.1 }
+
 pub write_counts-requires : goal.write_counts-requires
-write_counts-requires c =
-    let given : Lists = lists c.args.state.now c.args.keys.now c.args.chutes.now c.args.answers.now in
-    let number_is : report_of c.tested-report.result ≡ report_number given c.args.commands.now (length c.args.counts.now) 150 = c.tested-report.ensures given c.args.commands.now refl refl refl refl refl in
-    passed_lengths given c.args.commands.now (length c.args.counts.now) 150 (sym (ap report_of c.in-Reported.is) ∙ number_is)
+write_counts-requires c = passed_lengths _ _ _ _ (told_ok (goal.at.write_counts-requires c).In_ok-tested)
 
-pub returns-in-Reported : goal.returns-in-Reported
-returns-in-Reported c =
-    let given : Lists = lists c.args.state.now c.args.keys.now c.args.chutes.now c.args.answers.now in
-    let number_is : report_of c.tested-report.result ≡ report_number given c.args.commands.now (length c.args.counts.now) 150 = c.tested-report.ensures given c.args.commands.now refl refl refl refl refl in
-    record { refusal = refusal_told c.tested-report.result number_is; left = c.write_counts.ensures given refl ∙ left_report c.tested-report.result _ c.args.counts.now c.in-Reported.is }
-
-pub returns-in_default : goal.returns-in_default
-returns-in_default c =
-    let given : Lists = lists c.args.state.now c.args.keys.now c.args.chutes.now c.args.answers.now in
-    let number_is : report_of c.tested-report.result ≡ report_number given c.args.commands.now (length c.args.counts.now) 150 = c.tested-report.ensures given c.args.commands.now refl refl refl refl refl in
-    record { refusal = refusal_told c.tested-report.result number_is; left = left_old c.tested-report.result _ c.args.counts.now c.in_default.not-Reported }
+pub returns : goal.returns
+returns c = record { refusal = ap plain (told_ok (goal.at.returns c).In_ok-tested); left = left_report _ (c.write_counts.ensures _ refl) }

@@ -6,13 +6,6 @@ use Rattle.state_bytes.specs.Layout.{state_length, state_in}
 use Rattle.panel.proofs.Showing.{past_shown, worker_shown}
 use Rattle.panel.proofs.status.status_at.Goals as goal
 
-pub bounds-state-3 : goal.bounds-state-3
-unfolding state_length
-bounds-state-3 c = omega arith
-
-pub overflow_cast-largest : goal.overflow_cast-largest
-overflow_cast-largest c = omega (arith, c.shared_slice_known-2-1.given 3)
-
 pub returns-then-worker-largest : goal.returns-then-worker-largest
 returns-then-worker-largest c l same =
     past_shown c.args.state.now (state_in l) c.args.worker c.requires.0 c.if-worker-largest.true
@@ -20,4 +13,4 @@ returns-then-worker-largest c l same =
 pub returns : goal.returns
 returns c l same =
     let within : c.args.worker ≤ get_or c.args.state.now 3 0 = omega arith in
-    worker_shown c.args.state.now l c.args.worker same c.requires.0 within c.requires.1 c.thread_at.ensures c.status_of.ensures
+    worker_shown c.args.state.now l c.args.worker same c.requires.0 within c.requires.1 c.thread_at.ensures c.from.ensures

@@ -2,24 +2,8 @@
 use Prim.Native.Nat.{◌+◌, ◌*◌}
 use native.Mathlib.Omega.{arith}
 use mathlib.Core.Path.{◌≡◌}
-use Rattle.state_bytes.specs.Layout.{state_length, thread_fits_at}
+use Rattle.state_bytes.specs.Layout.{thread_fits_at}
 use Rattle.state_bytes.proofs.fits.thread_fits_at.Goals as goal
-
-pub number_at-found-requires : goal.number_at-found-requires
-unfolding state_length
-number_at-found-requires c = omega arith
-
-pub bounds-state-from : goal.bounds-state-from
-unfolding state_length
-bounds-state-from c = omega arith
-
-pub bounds-state-from-2 : goal.bounds-state-from-2
-unfolding state_length
-bounds-state-from-2 c = omega arith
-
-pub bounds-state-from-3 : goal.bounds-state-from-3
-unfolding state_length
-bounds-state-from-3 c = omega arith
 
 pub returns : goal.returns
 unfolding thread_fits_at

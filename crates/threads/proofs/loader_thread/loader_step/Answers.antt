@@ -10,15 +10,15 @@ loader_walk-thread-requires c =
 
 pub returns-in-Idle : goal.returns-in-Idle
 returns-in-Idle c =
-    λ keys chutes image. from_known c.in-Idle.is (λ ready. c.load_next.ensures c.args.executing.now c.args.waits.now keys chutes image)
-    (ready_beside _ _ _ _ _ _ c.requires _ _ keys chutes image)
+    λ keys chutes image. from_known c.in-Idle.is (λ ready. c.load_next.ensures keys chutes image) (ready_beside _ _ _ c.requires keys chutes image)
 
 pub returns-in-Loading : goal.returns-in-Loading
 returns-in-Loading c =
+    let does = c.loader_walk-thread.ensures in
     λ keys chutes image. from_known c.in-Loading.is
-    (walk_steps _ _ _ _ _ c.in-Loading.at c.in-Loading.own _ _ _ _ _ c.loader_walk-thread.ensures.steps c.loader_walk-thread.ensures.within.0 c.loader_walk-thread.ensures.within.1)
-    (ready_beside _ _ _ _ _ _ c.requires _ _ keys chutes image)
+    (walk_steps _ _ c.in-Loading.at c.in-Loading.own _ _ does.steps does.within.0 does.within.1 does.same)
+    (ready_beside _ _ _ c.requires keys chutes image)
 
 pub returns-in_default : goal.returns-in_default
 returns-in_default c =
-    λ keys chutes image. worker_state_waits _ _ _ _ _ c.args.thread c.in_default.not-Idle c.in_default.not-Loading (ready_beside _ _ _ _ _ _ c.requires _ _ keys chutes image)
+    λ keys chutes image. worker_state_waits _ _ c.args.thread c.in_default.not-Idle c.in_default.not-Loading (ready_beside _ _ _ c.requires keys chutes image)
