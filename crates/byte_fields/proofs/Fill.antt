@@ -1,6 +1,6 @@
 -- Laws of reading: a loop that fills a list from the front makes a tabulated list, and a number grows by one byte at a time. Assumes nothing.
-use Prim.Native.Nat.{ℕ, zero, suc, ◌+◌, ◌*◌, ◌≤◌, ◌<◌}
-use native.Mathlib.Nat.{add-zero}
+use Prim.Native.Nat.{ℕ, zero, suc, ◌+◌, ◌*◌, ◌^◌, ◌≤◌, ◌<◌}
+use native.Mathlib.Nat.{pow-suc, pow-le-pow_right, add-zero}
 use native.Mathlib.Numerals.{add-one}
 use native.Mathlib.Omega.{arith}
 use mathlib.Core.Path.{◌≡◌, refl, sym, ap, ap₂, ◌∙◌}
@@ -82,3 +82,12 @@ number_one at bytes h = number_more 0 at bytes (omega arith) ∙ rw (number_none
 pub number_two : (at : ℕ) (bytes : List ℕ) → at + 2 ≤ length bytes → number_at 2 at bytes ≡ get_or bytes at 0 * 256 + get_or bytes (at + 1) 0
 number_two at bytes h =
     number_more 1 at bytes (omega arith) ∙ rw (number_one at bytes (omega arith))
+
+-- a number of i bytes and one byte more is one of i + 1 bytes
+pub byte_more : (i n b : ℕ) → n < 256 ^ i → b < 256 → n * 256 + b < 256 ^ (i + 1)
+byte_more i n b h k = rw (add-one, pow-suc 256 i) (omega arith)
+
+-- so it fits eight bytes
+pub byte_fits : (i n b : ℕ) → n < 256 ^ i → b < 256 → i < 8 → n * 256 + b < 256 ^ 8
+byte_fits i n b h k short =
+    omega (arith, byte_more i n b h k, pow-le-pow_right {n = 256} (omega arith) {i = i + 1} {j = 8} (omega arith))

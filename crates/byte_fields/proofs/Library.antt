@@ -1,17 +1,16 @@
 -- The library's numbers as bytes are those of `specs/Bytes.antt`, and a copy into a part of a list is a store of the part. Assumes nothing.
-use Prim.Native.Nat.{ℕ, zero, suc, ◌+◌, ◌*◌, ◌/◌, ◌%◌, ◌^◌, ◌≤◌, ◌<◌}
+use Prim.Native.Nat.{ℕ, zero, suc, ◌+◌, ◌/◌, ◌%◌, ◌^◌, ◌≤◌}
 use native.Mathlib.Nat.{div-one}
 use native.Mathlib.Omega.{arith}
 use mathlib.Core.Path.{◌≡◌, refl, sym, ap, ap₂, ◌∙◌}
 use mathlib.Core.Bool.{Bool, true, false}
 use mathlib.Core.List.{List, ◌∷◌, ◌++◌, append_assoc}
-use lib.ListN.{length, get_or, take, drop, set}
+use lib.ListN.{length, take, drop, set}
 use lib.Seq.{sets-eq, drop-drop}
 use borrow.Rule.Slice.PartMut.{put_mid}
 use mir.Val.{bool_byte}
 use Rattle.std.specs.Int.{bytes_high_first, byte_at}
-use Rattle.byte_fields.specs.Bytes.{bytes_of, number_at, flag_byte, pasted}
-use Rattle.byte_fields.proofs.Fill.{number_more, number_two}
+use Rattle.byte_fields.specs.Bytes.{bytes_of, flag_byte, pasted}
 
 -- the last byte of a number is the lowest
 byte_is : (k n : ℕ) → byte_at k n ≡ n / 256 ^ k % 256
@@ -39,22 +38,3 @@ pub flag_pastes : (at : ℕ) (flag : Bool) (b : List ℕ) → set b at (bool_byt
 unfolding pasted
 flag_pastes at true b = refl
 flag_pastes at false b = refl
-
--- the number of eight bytes
-number_next : (k k' at : ℕ) (b : List ℕ) → k' ≡ k + 1 → at + k < length b → number_at k' at b ≡ number_at k at b * 256 + get_or b (at + k) 0
-number_next k k' at b e h = rw e (number_more k at b h)
-
-pub number_eight : (at : ℕ) (b : List ℕ) → at + 8 ≤ length b → number_at 8 at b
-    ≡ get_or b at 0 * 256 ^ 7 + get_or b (at + 1) 0 * 256 ^ 6 + get_or b (at + 2) 0 * 256 ^ 5 + get_or b (at + 3) 0 * 256 ^ 4
-    + get_or b (at + 4) 0 * 256 ^ 3 + get_or b (at + 5) 0 * 256 ^ 2 + get_or b (at + 6) 0 * 256 + get_or b (at + 7) 0
-number_eight at b h =
-    omega (
-      arith,
-      number_two at b (omega arith),
-      number_next 2 3 at b refl (omega arith),
-      number_next 3 4 at b refl (omega arith),
-      number_next 4 5 at b refl (omega arith),
-      number_next 5 6 at b refl (omega arith),
-      number_next 6 7 at b refl (omega arith),
-      number_next 7 8 at b refl (omega arith),
-    )

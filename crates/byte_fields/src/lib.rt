@@ -88,17 +88,14 @@ impl Field for u64 {
 
     ghost has_width = { number_width 8 };
 
+    // Byte by byte, and not by `from_be_bytes`: of that the compiler makes, in a loop over many, shuffles of four at once, which take longer than
+    // to turn one round after the other.
     fn read(list: &[u8], at: usize) -> u64 {
-        u64::from_be_bytes([
-            list[at],
-            list[at + 1],
-            list[at + 2],
-            list[at + 3],
-            list[at + 4],
-            list[at + 5],
-            list[at + 6],
-            list[at + 7],
-        ])
+        let mut n = 0;
+        for k in 0..8 {
+            n = n * 256 + list[at + k] as u64;
+        }
+        n
     }
 
     fn write(list: &mut [u8], at: usize, value: u64) {

@@ -1,12 +1,16 @@
--- Laws of lines one after the other: none at first, one more for each command, and all where no byte is left. Assumes nothing.
+-- Laws of lines one after the other: none at first, one more for each command, and all where no byte is left; a command's answer is the first of
+-- those from its place on. Assumes nothing.
 use Prim.Native.Nat.{ℕ, suc, ◌+◌, ◌*◌, ◌/◌, ◌≤◌, ◌<◌, min}
+use native.Mathlib.Nat.{add-zero}
+use native.Mathlib.Numerals.{add-one}
 use native.Mathlib.Omega.{arith}
 use mathlib.Core.Path.{◌≡◌, refl, sym, ap, ◌∙◌}
 use mathlib.Core.List.{List, ◌++◌}
 use lib.ListN.{length, take, drop, get_or, length-drop}
-use lib.Seq.{take_at, drop_at, drop-drop}
+use lib.Seq.{take_at, drop_at, drop-drop, get_or-drop}
 use Rattle.byte_fields.specs.Bytes.{fields}
 use Rattle.byte_fields.proofs.Paste.{fields_more}
+use Rattle.panel.specs.Reports.{answers_from}
 use Rattle.depot.specs.Program.{command_line, command_lines}
 use Rattle.depot.specs.Wrote.{Wrote}
 use Rattle.depot.proofs.Wrote.{wrote_then}
@@ -56,3 +60,13 @@ module _ {commands answers left before after : List ℕ} {n at : ℕ} (whole : l
   all_lined none =
       let count : length commands / 16 ≡ n = omega (arith, left_long, none, whole) in
       (rw count lined.wrote, omega (arith, lined.bound, lined.within))
+
+-- the answers from the place of command i on: there are some, and the first is its own
+module _ (i : ℕ) (answers rest : List ℕ) (from : rest ≡ answers_from (i + 1) answers) where
+  pub some_from : i < length answers → 0 < length rest
+  unfolding answers_from
+  some_from h = rw (from, add-one i, length-drop i answers) (omega arith)
+
+  pub first_from : get_or rest 0 0 ≡ get_or answers i 0
+  unfolding answers_from
+  first_from = rw (from, add-one i, get_or-drop, add-zero)

@@ -10,6 +10,7 @@ use crate::text::{NEWLINE, SPACE, put_byte, put_number, put_text};
 use byte_fields::number_at;
 use command::{Command, Kind, Seq};
 use node_set::Node;
+use panel::answers_from;
 use state_bytes::{USED, next_at};
 
 // How many nodes a chain has at most.
@@ -76,7 +77,7 @@ fn put_line(out: &mut [u8], at: usize, place: Seq, command: &[u8], answer: u16) 
     put_byte(out, at, NEWLINE)
 }
 
-// The lines of all commands; their places are 1, 2, 3 and on.
+// The lines of all commands; their places are 1, 2, 3 and on. A command's answer is the first of those from its place on.
 fn put_lines(out: &mut [u8], commands: &[u8], answers: &[u16]) -> usize
     requires { (length commands.now ≡ 16 * length answers.now) × (length answers.now < 4096) × (147456 ≤ length out.old) }
     ensures wrote { Wrote (command_lines commands.now answers.now) 0 out.old out.new result }
@@ -84,7 +85,9 @@ fn put_lines(out: &mut [u8], commands: &[u8], answers: &[u16]) -> usize
 {
     let mut at = 0;
     for (i, command) in commands.chunks(Command::LENGTH).enumerate() {
-        at = put_line(out, at, Seq(i + 1), command, answers[i]);
+        let place = Seq(i + 1);
+        let rest = answers_from(answers, place);
+        at = put_line(out, at, place, command, rest[0]);
     }
     at
 }

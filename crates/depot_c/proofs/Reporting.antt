@@ -2,12 +2,12 @@
 -- Assumes nothing.
 use Prim.Native.Nat.{ℕ, ◌<◌}
 use native.Mathlib.Omega.{arith}
-use mathlib.Core.Path.{◌≡◌, refl, sym, ap, ◌∙◌}
-use mathlib.Core.Bool.{Bool, true, false, cond, ◌&&◌, and-eq-true_iff}
+use mathlib.Core.Path.{◌≡◌, refl, sym, ap, subst, ◌∙◌}
+use mathlib.Core.Bool.{Bool, true, false, cond, ◌&&◌, and-false, and-eq-true_iff}
 use mathlib.Core.List.{List, []}
 use lib.ListN.{length}
 use lib.Dec.{eqb}
-use borrow.Author.Tests.{ne_eqb}
+use borrow.Author.Tests.{eq-eqb, ne_eqb}
 use Rattle.s10.specs.declared.Refusal.{Refusal}
 use Rattle.s10.specs.Refusal.{plain}
 use Rattle.state_bytes.specs.declared.Reason.{Reason}
@@ -29,7 +29,7 @@ unfit_refused true whole unfit = rw (unfit refl)
 unfit_refused false whole unfit = refl
 
 -- so are lists that are not lent
-pub unlent_reported : (s k c a commands : List ℕ) (lent wanted : ℕ) (reason : Reason) → are_lent (length k) (length c) (length a) ≡ false
+unlent_reported : (s k c a commands : List ℕ) (lent wanted : ℕ) (reason : Reason) → are_lent (length k) (length c) (length a) ≡ false
     → UnlentFor s (length k) (length c) (length a) (length commands) (eqb lent wanted) reason
     → refusal_for reason ≡ plain (report_number (decoded (lists s k c a)) commands lent wanted)
 unfolding report_number
@@ -41,6 +41,19 @@ unlent_reported s k c a commands lent wanted reason e said =
     unlent_cases b e (λ broken. rw (broken, decoded_none b broken) (nothing_reported commands lent wanted))
     (λ w long. rw (w, decoded_whole b w) (sym (unfit_refused (fit && eqb lent wanted) (state_fits (number_lists b)) (λ both. long_unfit b commands long ((and-eq-true_iff fit (eqb lent wanted)).0 both).0)))) in
     unlent_as s k c a [] commands (eqb lent wanted) reason said ∙ ap plain (sym is)
+
+-- so are lists that are not lent with a report list of the length that is asked for
+pub unlent_told : (s k c a commands : List ℕ) (lent wanted : ℕ) (reason : Reason) → lent ≡ wanted → are_lent (length k) (length c) (length a) ≡ false
+    → UnlentFor s (length k) (length c) (length a) (length commands) true reason
+    → refusal_for reason ≡ plain (report_number (decoded (lists s k c a)) commands lent wanted)
+unlent_told s k c a commands lent wanted reason same e said =
+    unlent_reported s k c a commands lent wanted reason e
+    (subst (λ (b : Bool). UnlentFor s (length k) (length c) (length a) (length commands) b reason) (sym (eq-eqb lent wanted same)) said)
+
+-- and a report list of another length
+pub misfit_told : (l : Lists) (commands : List ℕ) (lent wanted : ℕ) → (lent ≡ wanted → ⊥) → report_number l commands lent wanted ≡ 6
+unfolding report_number
+misfit_told l commands lent wanted other = rw (ne_eqb lent wanted other, and-false (handed_back_fit l commands))
 
 -- a refusal leaves the report list
 pub refused_left : {x : Refusal} (n : ℕ) (report old : List ℕ) → 0 < x.number → x ≡ plain n → old ≡ report_left n report old

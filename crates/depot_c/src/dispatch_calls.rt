@@ -6,7 +6,7 @@ ghost use Rattle.depot_c.specs.Lent.{AreRooms};
 ghost use Rattle.depot_c.specs.Boundary.{packed, refusal_of, Fits, made_left, needed_answer, needed_left, dispatch_answer, dispatch_left, schedule_left, count_left};
 
 use crate::answer::answer;
-use crate::lists::{Counts, KEY, Rooms, write_lists};
+use crate::lists::{Counts, KEY, MOST, Rooms, read_lists, write_lists};
 use byte_fields::Field;
 use dispatcher::{dispatch, steps_needed};
 use s10::Refusal;
@@ -36,13 +36,22 @@ fn count_steps(
         commands.len(),
         true,
     )?;
-    let mut rooms = Rooms::new();
-    rooms.read(keys, chutes, answers);
+    let mut key_room = [0; MOST];
+    let mut chute_room = [0; MOST];
+    let mut answer_room = [0; MOST];
+    read_lists(
+        keys,
+        chutes,
+        answers,
+        &mut key_room,
+        &mut chute_room,
+        &mut answer_room,
+    );
     let needed = steps_needed(
         state,
-        &rooms.keys[..counts.keys],
-        &rooms.chutes[..counts.chutes],
-        &rooms.answers[..counts.answers],
+        &key_room[..counts.keys],
+        &chute_room[..counts.chutes],
+        &answer_room[..counts.answers],
         commands,
     )?;
     u64::write(count, 0, needed as u64);

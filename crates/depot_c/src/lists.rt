@@ -11,7 +11,7 @@ use state_bytes::{Reason, lengths_fit};
 pub const KEY: usize = 8;
 
 // The most entries that a list of an accepted call has.
-const MOST: usize = 4096;
+pub const MOST: usize = 4096;
 
 // How many numbers byte lists write: keys are eight bytes each, chutes and answers two.
 #[derive(Clone, Copy)]
@@ -102,10 +102,33 @@ impl Rooms {
         requires { are_lent (length keys.now) (length chutes.now) (length answers.now) ≡ true }
         ensures { AreRead self.new keys.now chutes.now answers.now }
     {
-        read_fields::<u64>(keys, 0, &mut self.keys[..keys.len() / 8]);
-        read_fields::<u16>(chutes, 0, &mut self.chutes[..chutes.len() / 2]);
-        read_fields::<u16>(answers, 0, &mut self.answers[..answers.len() / 2]);
+        read_lists(
+            keys,
+            chutes,
+            answers,
+            &mut self.keys,
+            &mut self.chutes,
+            &mut self.answers,
+        );
     }
+}
+
+// Fills rooms that are arrays of their own, for a call that writes no list: of these the compiler leaves out those whose numbers are not looked at,
+// and of a struct's it leaves out none.
+pub fn read_lists(
+    keys: &[u8],
+    chutes: &[u8],
+    answers: &[u8],
+    key_room: &mut [u64; 4096],
+    chute_room: &mut [u16; 4096],
+    answer_room: &mut [u16; 4096],
+)
+    requires { are_lent (length keys.now) (length chutes.now) (length answers.now) ≡ true }
+    ensures { AreRead (record { keys = key_room.new; chutes = chute_room.new; answers = answer_room.new }) keys.now chutes.now answers.now }
+{
+    read_fields::<u64>(keys, 0, &mut key_room[..keys.len() / 8]);
+    read_fields::<u16>(chutes, 0, &mut chute_room[..chutes.len() / 2]);
+    read_fields::<u16>(answers, 0, &mut answer_room[..answers.len() / 2]);
 }
 
 // Writes the bytes of the numbers in rooms. The proof does not follow three fields of a struct that are lent as `&mut` slices at once,

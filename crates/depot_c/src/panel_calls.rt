@@ -6,9 +6,10 @@ ghost use Rattle.panel.specs.Reports.{report_number, report_left, pending_counts
 ghost use Rattle.depot_c.specs.Boundary.{decoded, refusal_of, Fits};
 
 use crate::answer::answer;
-use crate::lists::{Counts, Rooms};
+use crate::lists::{Counts, MOST, read_lists};
 use panel::{pending_counts, worker_status_bytes};
 use s10::Refusal;
+use state_bytes::Reason;
 
 // How many bytes a report has.
 const COUNTS_LENGTH: usize = 150;
@@ -29,21 +30,33 @@ fn count_pending(
     ensures fits { Fits (refusal_of result) }
     ensures left { counts.new ≡ report_left (report_number (decoded (at_entry state keys chutes answers)) commands.now (length counts.old) 150) (pending_counts (state_in (decoded (at_entry state keys chutes answers)))) counts.old }
 {
+    if counts.len() != COUNTS_LENGTH {
+        return Err(Refusal::from(Reason::WrongLength));
+    }
     let lent = Counts::tested(
         state,
         keys.len(),
         chutes.len(),
         answers.len(),
         commands.len(),
-        counts.len() == COUNTS_LENGTH,
+        true,
     )?;
-    let mut rooms = Rooms::new();
-    rooms.read(keys, chutes, answers);
+    let mut key_room = [0; MOST];
+    let mut chute_room = [0; MOST];
+    let mut answer_room = [0; MOST];
+    read_lists(
+        keys,
+        chutes,
+        answers,
+        &mut key_room,
+        &mut chute_room,
+        &mut answer_room,
+    );
     pending_counts(
         state,
-        &rooms.keys[..lent.keys],
-        &rooms.chutes[..lent.chutes],
-        &rooms.answers[..lent.answers],
+        &key_room[..lent.keys],
+        &chute_room[..lent.chutes],
+        &answer_room[..lent.answers],
         commands,
         counts,
     )?;
@@ -63,21 +76,33 @@ fn show_workers(
     ensures fits { Fits (refusal_of result) }
     ensures left { status.new ≡ report_left (report_number (decoded (at_entry state keys chutes answers)) commands.now (length status.old) 128) (worker_status_bytes (largest_in state.now) (state_in (decoded (at_entry state keys chutes answers)))) status.old }
 {
+    if status.len() != STATUS_LENGTH {
+        return Err(Refusal::from(Reason::WrongLength));
+    }
     let lent = Counts::tested(
         state,
         keys.len(),
         chutes.len(),
         answers.len(),
         commands.len(),
-        status.len() == STATUS_LENGTH,
+        true,
     )?;
-    let mut rooms = Rooms::new();
-    rooms.read(keys, chutes, answers);
+    let mut key_room = [0; MOST];
+    let mut chute_room = [0; MOST];
+    let mut answer_room = [0; MOST];
+    read_lists(
+        keys,
+        chutes,
+        answers,
+        &mut key_room,
+        &mut chute_room,
+        &mut answer_room,
+    );
     worker_status_bytes(
         state,
-        &rooms.keys[..lent.keys],
-        &rooms.chutes[..lent.chutes],
-        &rooms.answers[..lent.answers],
+        &key_room[..lent.keys],
+        &chute_room[..lent.chutes],
+        &answer_room[..lent.answers],
         commands,
         status,
     )?;

@@ -18,7 +18,7 @@ use Rattle.model.specs.Step.{node, command_of, move_to, step_on, link, add_depen
 use Rattle.model.proofs.Upd.{upd_at, upd_other, upd_id}
 use Rattle.command.proofs.Tests.{eqb_cases}
 use Rattle.graph.specs.declared.Graph.{Graph}
-use Rattle.graph.specs.Arrays.{numbers, flags, sets, shown_graph, with_locked, SteppedOn, Linked}
+use Rattle.graph.specs.Arrays.{numbers, flags, sets, with_locked, SteppedOn, Linked}
 use Rattle.graph.specs.Items.{kept_at}
 use Rattle.graph.specs.Memory.{AddsDependence, LoaderWalks}
 use Rattle.graph.proofs.Bridge.{value}
@@ -48,34 +48,32 @@ module _ (at own : Node) (graph : Graph) (y : ℕ) (next_is : y ≡ numbers grap
   -- at the end of the chain: what `link` stored is the model's link
   pub loader_links : (graph' : Graph) → y ≡ 0 → Linked at.0 own.0 graph graph' → LoaderWalks at own graph Idle graph'
   unfolding loader_walk link move_to set_locked set_executing set_next
-  loader_links graph' end linked o s sh kept th =
-      rw (value sh.next_is at.0 ∙ sym next_is, eq-eqb y 0 end, linked.next_is, linked.executing_is, linked.locked_is, linked.others.0.0, linked.others.1, ← sh.next_is, ← sh.seq_is, ← sh.executing_is, ← sh.locked_is, ← sh.waits_is)
+  loader_links graph' end linked o s ne ex lo wa kept th =
+      rw (value ne at.0 ∙ sym next_is, eq-eqb y 0 end, linked.next_is, linked.executing_is, linked.locked_is, linked.others.1, ← ne, ← ex, ← lo, ← wa)
 
   module _ (more : y ≡ 0 → ⊥) where
     -- at a locked node: nothing changes
     pub loader_waits : flags graph.locked y ≡ true → LoaderWalks at own graph (Loading at own) graph
     unfolding loader_walk move_to
-    loader_waits locked_y o s sh kept th =
-        rw (value sh.next_is at.0 ∙ sym next_is, ne_eqb y 0 more, value sh.locked_is y ∙ locked_y, upd_id s.threads 0 (Loading at own) (sym th), ← sh.next_is, ← sh.seq_is, ← sh.executing_is, ← sh.locked_is, ← sh.waits_is)
+    loader_waits locked_y o s ne ex lo wa kept th =
+        rw (value ne at.0 ∙ sym next_is, ne_eqb y 0 more, value lo y ∙ locked_y, upd_id s.threads 0 (Loading at own) (sym th), ← ne, ← ex, ← lo, ← wa)
 
     -- at an unlocked node: the kept commands are those of the sequence numbers, so the same sets are picked
     pub loader_steps : (g graph' : Graph) → SteppedOn at.0 y graph g → AddsDependence own.0 y g graph' → length graph.locked ≡ 151 → at.0 ≤ 150 → y ≤ 150 → own.0 ≤ 150
         → flags graph.locked y ≡ false → LoaderWalks at own graph (Loading (node y) own) graph'
     unfolding loader_walk add_dependence both_dependent command_of step_on move_to set_locked set_waits
-    loader_steps g graph' on added long at_in y_in own_in unlocked_y o s sh kept th =
+    loader_steps g graph' on added long at_in y_in own_in unlocked_y o s ne ex lo wa kept th =
         let added' : AddsDependence own.0 y (with_locked (set (set graph.locked y true) at.0 false) graph) graph' = rw on at added in
         let dependent : Bool = both_dependent (kept_at graph.items y) (kept_at graph.items own.0) in
         rw (
-          sh.next_is,
-          sh.seq_is,
-          sh.executing_is,
-          sh.locked_is,
-          sh.waits_is,
+          ne,
+          ex,
+          lo,
+          wa,
           ← next_is,
           ne_eqb y 0 more,
           unlocked_y,
           added'.waits_is,
-          added'.others.0.0,
           added'.others.1,
           added'.others.2,
           added'.others.3,
@@ -84,4 +82,4 @@ module _ (at own : Node) (graph : Graph) (y : ℕ) (next_is : y ≡ numbers grap
           ← kept own.0 own_in,
         )
         (ap (λ (g : Model.Graph). move_to 0 (Loading (node y) own) g s)
-        (sets_picked dependent own.0 (upd (sets graph.waits own.0) y true) (step_on at.0 y (shown_graph graph s.graph.free s.graph.loaded))))
+        (sets_picked dependent own.0 (upd (sets graph.waits own.0) y true) (step_on at.0 y (graph_of (numbers graph.next) s.graph.seq (flags graph.executing) (flags graph.locked) (sets graph.waits) s.graph.free s.graph.loaded))))

@@ -100,25 +100,35 @@ pub record PutBack (own free : ℕ) (graph graph' : Graph) : Type 0 where
   pub waits_is : sets graph'.waits ≡ upd (sets graph.waits) own no_node
   pub items_are : graph'.items ≡ set graph.items own None
 
--- ---- the kinds of step: on every state that the table shows, the model's
+-- ---- the kinds of step: the model's, on every state that shows what the step reads of the table; all else of its graph stays
 
--- "Wait if the head is locked; else lock it": thread t is what the model's `enter` makes it
+-- thread t in another state, and another graph, part by part, in which as many commands are loaded
+abbrev pub moved_with : ℕ → Thread → (ℕ → ℕ) → (ℕ → ℕ) → (ℕ → Bool) → (ℕ → Bool) → (ℕ → ℕ → Bool) → ℕ → State → State
+moved_with t thread next seq executing locked waits free s = move_to t thread (graph_of next seq executing locked waits free s.graph.loaded) s
+
+-- "Wait if the head is locked; else lock it": on every state with these locks, thread t is what the model's `enter` makes it
 abbrev pub Entered : Thread → Thread → Graph → Thread → Graph → Type 0
 Entered thread entered graph r graph' =
-    (s : State) (t : ℕ) → Shown s.graph graph → s.threads t ≡ thread → enter t entered s ≡ moved_to t r graph' s.graph.free s
+    (s : State) (t : ℕ) → s.graph.locked ≡ flags graph.locked → s.threads t ≡ thread
+    → enter t entered s ≡ moved_with t r s.graph.next s.graph.seq s.graph.executing (flags graph'.locked) s.graph.waits s.graph.free s
 
 -- the kinds of a worker's step along the chain
 abbrev pub Searches : Bool → Node → Graph → Thread → Graph → Type 0
 Searches allowed at graph r graph' =
-    (s : State) (t : ℕ) → is_allowed t s ≡ allowed → Shown s.graph graph → s.threads t ≡ Searching at
-    → searching t at.0 (s.graph.next at.0) s ≡ moved_to t r graph' s.graph.free s
+    (s : State) (t : ℕ) → is_allowed t s ≡ allowed → s.graph.next ≡ numbers graph.next → s.graph.executing ≡ flags graph.executing
+    → s.graph.locked ≡ flags graph.locked → s.graph.waits ≡ sets graph.waits → s.threads t ≡ Searching at
+    → searching t at.0 (s.graph.next at.0) s ≡ moved_with t r s.graph.next s.graph.seq (flags graph'.executing) (flags graph'.locked) s.graph.waits s.graph.free s
 
 abbrev pub Walks : Node → Node → Graph → Thread → Graph → Type 0
 Walks at own graph r graph' =
-    (s : State) (t : ℕ) → Shown s.graph graph → s.threads t ≡ Walking at own
-    → walking t at.0 own.0 (s.graph.next at.0) s ≡ moved_to t r graph' s.graph.free s
+    (s : State) (t : ℕ) → s.graph.next ≡ numbers graph.next → s.graph.locked ≡ flags graph.locked → s.threads t ≡ Walking at own
+    → walking t at.0 own.0 (s.graph.next at.0) s ≡ moved_with t r (numbers graph'.next) s.graph.seq s.graph.executing (flags graph'.locked) s.graph.waits s.graph.free s
 
 abbrev pub ClearsOn : Node → Node → ℕ → Graph → Thread → ℕ → Graph → Type 0
 ClearsOn at own free graph r free' graph' =
     (s : State) (t : ℕ) → Shown s.graph graph → s.graph.free ≡ free → s.threads t ≡ Clearing at own
     → clearing t at.0 own.0 (s.graph.next at.0) s ≡ moved_to t r graph' free' s
+
+-- the commands of all nodes stay, but for the own node's, which goes where clearing ends
+abbrev pub Forgets : ℕ → Thread → Graph → Graph → Type 0
+Forgets own r graph graph' = (r ≡ Idle → graph'.items ≡ set graph.items own None) × ((r ≡ Idle → ⊥) → graph'.items ≡ graph.items)

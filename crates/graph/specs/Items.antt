@@ -17,5 +17,9 @@ abbrev pub kept_at : List (Option Command) → ℕ → Model.Option Command
 kept_at items n = item_of (get_or items n None)
 
 -- each node's command is the one of its sequence number
+abbrev pub KeptFor : List Command → (ℕ → ℕ) → List (Option Command) → Type 0
+KeptFor cs seq items = (n : ℕ) → n ≤ 150 → kept_at items n ≡ command_at cs (seq n)
+
+-- those of a table are
 abbrev pub Kept : List Command → Graph → Type 0
-Kept cs graph = (n : ℕ) → n ≤ 150 → kept_at graph.items n ≡ command_at cs (numbers graph.seq n)
+Kept cs graph = KeptFor cs (numbers graph.seq) graph.items

@@ -14,9 +14,9 @@ use Rattle.model.specs.Step.{State, step, loader_walk}
 use Rattle.store.specs.Lists.{store_of}
 use Rattle.model.specs.declared.Counters.{Counters}
 use Rattle.graph.specs.declared.Graph.{Graph}
-use Rattle.graph.specs.Arrays.{sets, Nodes, NodesWithin, Shown, shown_graph, moved_to, SameCommands}
+use Rattle.graph.specs.Arrays.{numbers, flags, sets, Nodes, NodesWithin, shown_graph, moved_with, SameCommands}
 use Rattle.command.specs.Read.{commands_in}
-use Rattle.graph.specs.Items.{kept_at, Kept}
+use Rattle.graph.specs.Items.{kept_at, KeptFor, Kept}
 
 -- the answer to each command, by its sequence number
 abbrev pub answers_of : List ℕ → ℕ → ℕ
@@ -50,11 +50,12 @@ pub record AddsDependence (own y : ℕ) (graph graph' : Graph) : Type 0 where
   pub waits_is : sets graph'.waits ≡ cond (both_dependent (kept_at graph.items y) (kept_at graph.items own)) (upd (sets graph.waits) own (upd (sets graph.waits own) y true)) (sets graph.waits)
   pub others : SameCommands graph graph' × (graph'.next ≡ graph.next) × (graph'.executing ≡ graph.executing) × (graph'.locked ≡ graph.locked)
 
--- the loader's walk on the graph: on every state that it shows, the model's
+-- the loader's walk: the model's, on every state that shows what it reads of the table
 abbrev pub LoaderWalks : Node → Node → Graph → Thread → Graph → Type 0
 LoaderWalks at own graph r graph' =
-    (o : Setup) (s : State) → Shown s.graph graph → Kept o.commands graph → s.threads 0 ≡ Loading at own
-    → loader_walk o at.0 own.0 (s.graph.next at.0) s ≡ moved_to 0 r graph' s.graph.free s
+    (o : Setup) (s : State) → s.graph.next ≡ numbers graph.next → s.graph.executing ≡ flags graph.executing → s.graph.locked ≡ flags graph.locked
+    → s.graph.waits ≡ sets graph.waits → KeptFor o.commands s.graph.seq graph.items → s.threads 0 ≡ Loading at own
+    → loader_walk o at.0 own.0 (s.graph.next at.0) s ≡ moved_with 0 r (numbers graph'.next) s.graph.seq (flags graph'.executing) (flags graph'.locked) (sets graph'.waits) s.graph.free s
 
 -- the worker count in force after a command is written
 abbrev pub limit_after : Option Command → ℕ → ℕ

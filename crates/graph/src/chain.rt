@@ -4,7 +4,7 @@
 // any number, and `panel` and `state_bytes` read any byte as a node.
 ghost use Rattle.std.specs.Prelude.{◌≡◌, ◌&&◌, ◌≤◌, List};
 ghost use Rattle.command.specs.declared.Command.{Command as Cmd};
-ghost use Rattle.graph.specs.Arrays.{numbers, flags, is_ready, Nodes, NodesWithin, SameCommands, SteppedOn, Loaded, PutBack, Entered, Searches, Walks, ClearsOn};
+ghost use Rattle.graph.specs.Arrays.{numbers, flags, is_ready, Nodes, NodesWithin, SameCommands, SteppedOn, Loaded, PutBack, Entered, Searches, Walks, ClearsOn, Forgets};
 ghost use Rattle.graph.specs.Items.{Kept};
 
 use crate::Graph;
@@ -132,6 +132,7 @@ impl Graph {
         ensures within { NodesWithin result.thread × (result.free.0 ≤ 150) × Nodes self.new.next }
         ensures steps { ClearsOn at own free.0 self.old result.thread result.free.0 self.new }
         ensures kept { (cs : List Cmd) → Kept cs self.old → Kept cs self.new }
+        ensures items { Forgets own.0 result.thread self.old self.new }
     {
         let y = self.behind(at);
         let n = y.0 as usize;

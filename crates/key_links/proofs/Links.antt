@@ -5,7 +5,7 @@ use mathlib.Core.Bool.{Bool, true, false, cond}
 use mathlib.Core.List.{List, [], ◌∷◌, ◌++◌}
 use native.Mathlib.Omega.{arith}
 use borrow.Author.Tests.{eqb-true, eqb-false, eq-eqb, ne_eqb}
-use lib.ListN.{length, get_or, set, take, drop, get_or-append}
+use lib.ListN.{length, get_or, set, take, drop, replicate, get_or-append}
 use lib.Seq.{get_or-set_same, get_or-set_other, get_or-append_seam}
 use lib.Dec.{eqb}
 use Rattle.std.proofs.lemmas.List.{length-take-le, take-append-drop}
@@ -78,16 +78,16 @@ walk_goes keys previous key k (suc j) linked w some other =
     rw before (rw at (omega arith), (rw at (omega arith), λ i is. last_in_lem keys (bucket_of key) j i (sym at ∙ is), rw at (skipped keys key j ∙ here)))
 
 -- and ends at the key's last, or behind all
-pub walk_ends : (keys : List ℕ) (key k link : ℕ) → Walked keys key k link → (link ≡ 0 → ⊥) → get_or keys (link - 1) 0 ≡ key → Some (link - 1) ≡ place_at (last_of keys key k)
+pub walk_ends : (keys : List ℕ) (key k link : ℕ) → Walked keys key k link → (link ≡ 0 → ⊥) → get_or keys (link - 1) 0 ≡ key → link ≡ last_of keys key k
 unfolding last_of
 walk_ends keys key k zero w some same = absurd (some refl)
 walk_ends keys key k (suc j) w some same =
     let before : suc j - 1 ≡ j = omega arith in
-    rw before (ap place_at (rw (eq-eqb (get_or keys j 0) key (rw before at same)) at w.2))
+    rw (eq-eqb (get_or keys j 0) key (rw before at same)) at w.2
 
-pub walk_fails : (keys : List ℕ) (key k link : ℕ) → Walked keys key k link → link ≡ 0 → None ≡ place_at (last_of keys key k)
+pub walk_fails : (keys : List ℕ) (key k link : ℕ) → Walked keys key k link → link ≡ 0 → 0 ≡ last_of keys key k
 unfolding last_of
-walk_fails keys key k zero w none = ap place_at w.2
+walk_fails keys key k zero w none = w.2
 walk_fails keys key k (suc j) w none = absurd (omega arith)
 
 -- ---- one command more
@@ -99,6 +99,13 @@ last_same keys k key b zero low = refl
 last_same keys k key b (suc j) low =
     let there = get_or-set_other keys k j key 0 (λ e. omega arith) in
     rw (there, last_same keys k key b j (omega arith))
+
+pub last_of_same : (keys : List ℕ) (k key key' j : ℕ) → j ≤ k → last_of (set keys k key) key' j ≡ last_of keys key' j
+unfolding last_of
+last_of_same keys k key key' zero low = refl
+last_of_same keys k key key' (suc j) low =
+    let there = get_or-set_other keys k j key 0 (λ e. omega arith) in
+    rw (there, last_of_same keys k key key' j (omega arith))
 
 at_same : (values : List ℕ) (k v m : ℕ) → m ≤ k → at_link (set values k v) m ≡ at_link values m
 unfolding at_link
@@ -158,6 +165,18 @@ indexed_more keys previous heads k key (linked, last) kk kp hh bucket = (links, 
             let other = eqb-false (bucket_of key) b is in
             rw (get_or-set_other heads (bucket_of key) b (suc k) 0 (λ e. other (sym e)), last_same keys k key b k (omega arith)) (last b h)
 
+-- ---- tables that hold nothing
+
+pub zeros : (n b : ℕ) → ◌≡◌ {A = ℕ} (get_or (replicate n 0) b 0) 0
+zeros zero b = refl
+zeros (suc n) zero = refl
+zeros (suc n) (suc b) = zeros n b
+
+-- no key is linked, and every bucket is empty
+pub indexed_none : (keys previous heads : List ℕ) → ((b : ℕ) → get_or heads b 0 ≡ 0) → Indexed keys previous heads 0
+unfolding last_in
+indexed_none keys previous heads none = (λ j h. absurd (omega arith), λ b h. none b)
+
 -- ---- a place and its link
 
 pub link_of_place : (link place : ℕ) → Some place ≡ place_at link → link ≡ suc place
@@ -167,3 +186,11 @@ link_of_place (suc j) place e = let same : place ≡ j = cc in ap suc (sym same)
 pub link_of_none : (link : ℕ) → None ≡ place_at link → link ≡ 0
 link_of_none zero e = refl
 link_of_none (suc j) e = absurd (let z : ◌≡◌ {A = ℕ} 0 1 = cc in omega arith)
+
+pub place_of_none : (link : ℕ) → link ≡ 0 → None ≡ place_at link
+place_of_none zero e = refl
+place_of_none (suc j) e = absurd (omega arith)
+
+pub place_of_link : (link : ℕ) → (link ≡ 0 → ⊥) → Some (link - 1) ≡ place_at link
+place_of_link zero some = absurd (some refl)
+place_of_link (suc j) some = let before : suc j - 1 ≡ j = omega arith in rw before refl

@@ -1,13 +1,73 @@
-// Keys in the order that they were entered, linked so that the last of them that equals one is found.
+// Keys in the order that they were entered, linked so that the last of them that equals one is found: in tables that are lent, and in a
+// struct that holds its own.
 #![tactic(auto)]
 
-ghost use Rattle.std.specs.Prelude.{◌≡◌, ◌<◌, [], ◌∷◌, ◌++◌, length};
-ghost use Rattle.key_links.specs.Links.{bucket_of, last_of, place_at};
+ghost use Rattle.std.specs.Prelude.{◌≡◌, ℕ, suc, ◌≤◌, ◌<◌, [], ◌∷◌, ◌++◌, length, get_or, set};
+ghost use Rattle.key_links.specs.Links.{bucket_of, last_in, last_of, place_at, Linked, Indexed};
 
 use std::marker::Model;
 
 // How many buckets there are for keys.
 const BUCKETS: u64 = 4093;
+
+// Tables for 4,096 keys, and for as many links or buckets: none is linked.
+pub fn new_keys() -> [u64; 4096]
+    ensures { length result ≡ 4096 }
+{
+    [0; 4096]
+}
+
+pub fn new_links() -> [u16; 4096]
+    ensures { (length result ≡ 4096) × ((b : ℕ) → get_or result b 0 ≡ 0) }
+{
+    [0; 4096]
+}
+
+// The bucket of a key.
+fn bucket_of(key: u64) -> usize
+    ensures { (result ≡ bucket_of key) × (result < 4096) }
+{
+    (key % BUCKETS) as usize
+}
+
+// The last of the first k keys that equals one, counted from 1, 0 for none, along the links of its bucket.
+fn last_of(keys: &[u64], previous: &[u16], k: usize, last: u16, key: u64) -> u16
+    requires { (k ≤ length keys.now) × (length previous.now ≡ length keys.now) × (last ≡ last_in keys.now (bucket_of key) k) × Linked keys.now previous.now k }
+    ensures { result ≡ last_of keys.now key k }
+{
+    let mut link = last;
+    // A `while`: it follows links, and counts no index.
+    while link != 0 {
+        let j = link as usize - 1;
+        if keys[j] == key {
+            return link;
+        }
+        link = previous[j];
+    }
+    0
+}
+
+// The last of the first k keys that equals one, counted from 1, 0 for none.
+pub fn find(keys: &[u64], previous: &[u16], heads: &[u16], k: usize, key: u64) -> u16
+    requires { (k ≤ length keys.now) × (length previous.now ≡ length keys.now) × (length heads.now ≡ 4096) × Indexed keys.now previous.now heads.now k }
+    ensures { result ≡ last_of keys.now key k }
+{
+    let last = heads[bucket_of(key)];
+    last_of(keys, previous, k, last, key)
+}
+
+// Enters a key behind the first i.
+pub fn enter(keys: &mut [u64], previous: &mut [u16], heads: &mut [u16], i: usize, key: u64)
+    requires { (i < length keys.old) × (length keys.old ≤ 4096) × (length previous.old ≡ length keys.old) × (length heads.old ≡ 4096) × Indexed keys.old previous.old heads.old i }
+    ensures entered { keys.new ≡ set keys.old i key }
+    ensures index { Indexed keys.new previous.new heads.new (suc i) }
+{
+    let bucket = bucket_of(key);
+    let last = heads[bucket];
+    keys[i] = key;
+    previous[i] = last;
+    heads[bucket] = i as u16 + 1;
+}
 
 // Up to 4,096 keys. Each is linked to the one before it in its bucket, and each bucket to its last. Links count from 1, 0 for none: in
 // fixed memory an `Option<u16>` takes twice the room.
@@ -36,9 +96,9 @@ impl KeyLinks {
         ensures { result ≡ [] }
     {
         KeyLinks {
-            keys: [0; 4096],
-            previous: [0; 4096],
-            heads: [0; 4096],
+            keys: new_keys(),
+            previous: new_links(),
+            heads: new_links(),
             count: 0,
         }
     }
@@ -47,16 +107,12 @@ impl KeyLinks {
     pub fn find(&self, key: u64) -> Option<usize>
         ensures { result ≡ place_at (last_of self.now key (length self.now)) }
     {
-        let mut link = self.heads[bucket_of(key)];
-        // A `while`: it follows links, and counts no index.
-        while link != 0 {
-            let place = link as usize - 1;
-            if self.keys[place] == key {
-                return Some(place);
-            }
-            link = self.previous[place];
+        let count = self.count as usize;
+        let link = find(&self.keys, &self.previous, &self.heads, count, key);
+        if link == 0 {
+            return None;
         }
-        None
+        Some(link as usize - 1)
     }
 
     // Enters a key behind the others: its place.
@@ -65,19 +121,14 @@ impl KeyLinks {
         ensures { (result ≡ length self.old) × (self.new ≡ self.old ++ key ∷ []) }
     {
         let place = self.count as usize;
-        let bucket = bucket_of(key);
-        let last = self.heads[bucket];
-        self.keys[place] = key;
-        self.previous[place] = last;
+        enter(
+            &mut self.keys,
+            &mut self.previous,
+            &mut self.heads,
+            place,
+            key,
+        );
         self.count += 1;
-        self.heads[bucket] = self.count;
         place
     }
-}
-
-// The bucket of a key.
-fn bucket_of(key: u64) -> usize
-    ensures { (result ≡ bucket_of key) × (result < 4096) }
-{
-    (key % BUCKETS) as usize
 }

@@ -1,4 +1,5 @@
-// The set of nodes that a node waits for: three 64-bit words. A set has the nodes 0 to 191; a larger number is never a member.
+// The set of nodes that a node waits for: three 64-bit words, taken and returned by value. A set has the nodes 0 to 191;
+// a larger number is never a member.
 #![tactic(auto)]
 
 ghost use Rattle.std.specs.Prelude.{◌≡◌, Bool, false, not, ◌&&◌, ◌||◌, ℕ, ◌-◌, ◌^◌, eqb, ltb, List};
@@ -10,8 +11,83 @@ use std::marker::Model;
 #[derive(Clone, Copy, Debug, PartialEq, Eq)]
 pub struct Node(pub u8);
 
-// A set, in clauses its three words.
-#[derive(Clone, Copy)]
+// The set with no member.
+#[tactic(auto, using(crate::proofs::Words::no_member_of_zeros))]
+pub fn empty() -> [u64; 3]
+    ensures { (n : ℕ) → member result n ≡ false }
+{
+    [0, 0, 0]
+}
+
+// The set with `node` as a member too.
+pub fn add(set: [u64; 3], node: Node) -> [u64; 3]
+    ensures { (n : ℕ) → member result n ≡ (member set n || (eqb n node.0 && ltb n 192)) }
+{
+    let n = node.0;
+    if n >= 192 {
+        return set;
+    }
+    let i = (n / 64) as usize;
+    let mut out = set;
+    out[i] = set[i] | (1u64 << (n % 64));
+    out
+}
+
+// The set without `node`.
+pub fn remove(set: [u64; 3], node: Node) -> [u64; 3]
+    ensures { (n : ℕ) → member result n ≡ (member set n && not (eqb n node.0)) }
+{
+    let n = node.0;
+    if n >= 192 {
+        return set;
+    }
+    let i = (n / 64) as usize;
+    let mut out = set;
+    out[i] = set[i] & !(1u64 << (n % 64));
+    out
+}
+
+// Whether the set has no member.
+pub fn is_empty(set: [u64; 3]) -> bool
+    ensures { result ≡ none_below 192 (member set) }
+{
+    set[0] | set[1] | set[2] == 0
+}
+
+// How many members the set has.
+pub fn count(set: [u64; 3]) -> u32
+    ensures { result ≡ count_below 192 (member set) }
+{
+    set[0].count_ones() + set[1].count_ones() + set[2].count_ones()
+}
+
+// Whether a word has no bit set from place `places` on.
+#[tactic(auto, using(crate::proofs::Places::shifted_to_zero, crate::proofs::Places::all_places))]
+fn has_places(word: u64, places: u16) -> bool
+    ensures { result ≡ ltb word (2 ^ places) }
+{
+    if places >= 64 {
+        return true;
+    }
+    word >> places == 0
+}
+
+// Whether no member of the set is above a limit.
+pub fn is_within(set: [u64; 3], limit: u8) -> bool
+    ensures { result ≡ none_above 192 limit (member set) }
+{
+    let places = limit as u16 + 1;
+    if !has_places(set[0], places) {
+        return false;
+    }
+    if !has_places(set[1], places.saturating_sub(64)) {
+        return false;
+    }
+    has_places(set[2], places.saturating_sub(128))
+}
+
+// The three words with their functions as methods, in clauses the three words.
+#[derive(Clone, Copy, Debug, PartialEq, Eq)]
 pub struct NodeSet {
     words: [u64; 3],
 }
@@ -34,11 +110,10 @@ impl From<[u64; 3]> for NodeSet {
 
 impl NodeSet {
     // The set with no member.
-    #[tactic(auto, using(crate::proofs::Words::no_member_of_zeros))]
     pub fn empty() -> NodeSet
         ensures { (n : ℕ) → member result n ≡ false }
     {
-        NodeSet { words: [0, 0, 0] }
+        NodeSet { words: empty() }
     }
 
     // The three words of the set.
@@ -52,66 +127,38 @@ impl NodeSet {
     pub fn add(self, node: Node) -> NodeSet
         ensures { (n : ℕ) → member result n ≡ (member self n || (eqb n node.0 && ltb n 192)) }
     {
-        let n = node.0;
-        if n >= 192 {
-            return self;
+        NodeSet {
+            words: add(self.words, node),
         }
-        let i = (n / 64) as usize;
-        let mut words = self.words;
-        words[i] = words[i] | (1u64 << (n % 64));
-        NodeSet { words }
     }
 
     // The set without `node`.
     pub fn remove(self, node: Node) -> NodeSet
         ensures { (n : ℕ) → member result n ≡ (member self n && not (eqb n node.0)) }
     {
-        let n = node.0;
-        if n >= 192 {
-            return self;
+        NodeSet {
+            words: remove(self.words, node),
         }
-        let i = (n / 64) as usize;
-        let mut words = self.words;
-        words[i] = words[i] & !(1u64 << (n % 64));
-        NodeSet { words }
     }
 
     // Whether the set has no member.
     pub fn is_empty(self) -> bool
         ensures { result ≡ none_below 192 (member self) }
     {
-        self.words[0] | self.words[1] | self.words[2] == 0
+        is_empty(self.words)
     }
 
     // How many members the set has.
     pub fn count(self) -> u32
         ensures { result ≡ count_below 192 (member self) }
     {
-        self.words[0].count_ones() + self.words[1].count_ones() + self.words[2].count_ones()
+        count(self.words)
     }
 
     // Whether no member of the set is above a limit.
     pub fn is_within(self, limit: u8) -> bool
         ensures { result ≡ none_above 192 limit (member self) }
     {
-        let places = limit as u16 + 1;
-        if !has_places(self.words[0], places) {
-            return false;
-        }
-        if !has_places(self.words[1], places.saturating_sub(64)) {
-            return false;
-        }
-        has_places(self.words[2], places.saturating_sub(128))
+        is_within(self.words, limit)
     }
-}
-
-// Whether a word has no bit set from place `places` on.
-#[tactic(auto, using(crate::proofs::Places::shifted_to_zero, crate::proofs::Places::all_places))]
-fn has_places(word: u64, places: u16) -> bool
-    ensures { result ≡ ltb word (2 ^ places) }
-{
-    if places >= 64 {
-        return true;
-    }
-    word >> places == 0
 }

@@ -21,7 +21,7 @@ use Rattle.model.proofs.Upd.{upd_id}
 use Rattle.graph.specs.declared.Graph.{Graph}
 use Rattle.graph.specs.Arrays.{flags, Nodes, NodesWithin, SameCommands, Loaded}
 use Rattle.graph.specs.Memory.{Memory, memory, shown, Ready, Steps, LoaderWalks}
-use Rattle.graph.proofs.Bridge.{nodes_stored, shown_shows}
+use Rattle.graph.proofs.Bridge.{nodes_stored}
 use Rattle.graph.proofs.Commands.{commands_length, kept_stored}
 use Rattle.threads.proofs.Readiness.{with_graph, graph_ready}
 
@@ -78,7 +78,7 @@ module _ (list : List ℕ) (m : Memory) where
   unfolding loader_step move_to
   walk_steps at own r graph' steps within nodes same ready =
       loader_steps (Loading at own) r (with_graph graph' m)
-      (λ o threads commands is. steps o (shown m threads) (shown_shows m.graph m.counters.free.0 m.counters.loaded.0) (rw commands ready.kept) is)
+      (λ o threads commands is. rw same.0 (steps o (shown m threads) refl refl refl refl (rw commands ready.kept) is))
       (graph_ready list m (Loading at own) ready r graph' nodes same within)
 
   -- the model's test is that of the arrays

@@ -33,6 +33,10 @@ WorkerMakes list t thread m thread' m' =
     (o : Setup) (threads : ℕ → Thread) → o.commands ≡ commands_in list → o.capacity ≡ length m.keys → threads t ≡ thread
     → worker_step o t thread (shown m threads) ≡ shown m' (upd threads t thread')
 
+-- entering changes locks alone
+abbrev Locks : Graph → Graph → Type 0
+Locks graph graph' = (graph'.next ≡ graph.next) × (graph'.executing ≡ graph.executing) × (graph'.waits ≡ graph.waits)
+
 -- what is written in one step is a command
 pub one_step_command : (item : Option Command) → in_one_step item ≡ true → (c : Command) × (item ≡ some c)
 unfolding in_one_step
@@ -75,23 +79,30 @@ module _ (list : List ℕ) (t : ℕ) (other : t ≡ 0 → ⊥) (m : Memory) wher
   idle_waits thread known above = worker_steps thread thread m (λ o threads commands capacity is. rw (upd_id threads t thread (sym is), known, above))
 
   module _ (r : Thread) (graph' : Graph) (within : NodesWithin r) (nodes : Nodes graph'.next) (same : SameCommands m.graph graph') where
-    pub idle_enters : leb t m.counters.limit ≡ true → Entered Idle (Searching (node 0)) m.graph r graph' → Ready list m Idle → Steps list t Idle m r (with_graph graph' m)
+    pub idle_enters : leb t m.counters.limit ≡ true → Entered Idle (Searching (node 0)) m.graph r graph' → Locks m.graph graph' → Ready list m Idle
+        → Steps list t Idle m r (with_graph graph' m)
     unfolding worker_step idle is_allowed
-    idle_enters may steps = along Idle r graph' (λ o threads is. rw may (steps (shown m threads) t (shows threads) is)) within nodes same
+    idle_enters may steps locks =
+        along Idle r graph' (λ o threads is. rw (may, same.0, locks.0, locks.1, locks.2) (steps (shown m threads) t refl is)) within nodes same
 
-    pub written_enters : (own : Node) → Entered (Written own) (Walking (node 0) own) m.graph r graph' → Ready list m (Written own) → Steps list t (Written own) m r (with_graph graph' m)
+    pub written_enters : (own : Node) → Entered (Written own) (Walking (node 0) own) m.graph r graph' → Locks m.graph graph' → Ready list m (Written own)
+        → Steps list t (Written own) m r (with_graph graph' m)
     unfolding worker_step
-    written_enters own steps = along (Written own) r graph' (λ o threads is. steps (shown m threads) t (shows threads) is) within nodes same
+    written_enters own steps locks =
+        along (Written own) r graph' (λ o threads is. rw (same.0, locks.0, locks.1, locks.2) (steps (shown m threads) t refl is)) within nodes same
 
-    -- searching and walking are the model's: the graph's steps ensure it of every state that it shows
-    pub searching_steps : (at : Node) (allowed : Bool) → leb t m.counters.limit ≡ allowed → Searches allowed at m.graph r graph' → Ready list m (Searching at)
-        → Steps list t (Searching at) m r (with_graph graph' m)
+    -- searching and walking are the model's: the graph's steps ensure it of every state that shows what they read
+    pub searching_steps : (at : Node) (allowed : Bool) → leb t m.counters.limit ≡ allowed → Searches allowed at m.graph r graph'
+        → (graph'.next ≡ m.graph.next) × (graph'.waits ≡ m.graph.waits) → Ready list m (Searching at) → Steps list t (Searching at) m r (with_graph graph' m)
     unfolding worker_step is_allowed
-    searching_steps at allowed al steps = along (Searching at) r graph' (λ o threads is. steps (shown m threads) t al (shows threads) is) within nodes same
+    searching_steps at allowed al steps stays =
+        along (Searching at) r graph' (λ o threads is. rw (same.0, stays.0, stays.1) (steps (shown m threads) t al refl refl refl refl is)) within nodes same
 
-    pub walking_steps : (at own : Node) → Walks at own m.graph r graph' → Ready list m (Walking at own) → Steps list t (Walking at own) m r (with_graph graph' m)
+    pub walking_steps : (at own : Node) → Walks at own m.graph r graph' → (graph'.executing ≡ m.graph.executing) × (graph'.waits ≡ m.graph.waits)
+        → Ready list m (Walking at own) → Steps list t (Walking at own) m r (with_graph graph' m)
     unfolding worker_step
-    walking_steps at own steps = along (Walking at own) r graph' (λ o threads is. steps (shown m threads) t (shows threads) is) within nodes same
+    walking_steps at own steps stays =
+        along (Walking at own) r graph' (λ o threads is. rw (same.0, stays.0, stays.1) (steps (shown m threads) t refl refl is)) within nodes same
 
   -- and so is clearing, which keeps the commands right that it forgets
   pub clearing_steps : (at own : Node) (r : Thread) (free' : Node) (graph' : Graph) → ClearsOn at own m.counters.free.0 m.graph r free'.0 graph'

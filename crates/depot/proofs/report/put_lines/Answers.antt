@@ -1,7 +1,7 @@
 -- `depot::report::put_lines` meets its contract: line by line. Assumes nothing.
 use Rattle.std.proofs.Common.{rules, ◌≡◌, length, refl, arith}
 use native.Mathlib.Numerals.{add-one}
-use Rattle.depot.proofs.Lines.{none_lined, next_whole, one_lined, all_lined}
+use Rattle.depot.proofs.Lines.{none_lined, next_whole, one_lined, all_lined, some_from, first_from}
 use Rattle.depot.proofs.report.put_lines.Goals as goal
 
 pub loop-i-init : goal.loop-i-init
@@ -11,12 +11,20 @@ loop-i-init c = record {
   lined = rw (c.into_iter-i-iterator.ensures.into_iter_gives, c.enumerate-i-items.ensures.source, c.enumerate-i-items.ensures.count, c.chunks.ensures.rest) (none_lined _ _ _);
 }
 
+pub bounds-rest-0 : goal.bounds-rest-0
+bounds-rest-0 c =
+    let v = c.loop-i.invariant in
+    let s = c.in-Some.ensures.steps in
+    let next = next_whole c.requires.0 v.lined c.in-Some.command.now (omega (arith, s.0.1.1, s.0.1.2, v.size)) (omega (arith, s.0.1.1, s.0.1.2)) in
+    some_from c.in-Some.i c.args.answers.now c.answers_from-rest.result.now c.answers_from-rest.ensures.answers (rw s.1 next.1)
+
 pub loop-i-preserved : goal.loop-i-preserved
 loop-i-preserved c =
     let v = c.loop-i.invariant in
     let s = c.in-Some.ensures.steps in
     let next = next_whole c.requires.0 v.lined c.in-Some.command.now (omega (arith, s.0.1.1, s.0.1.2, v.size)) (omega (arith, s.0.1.1, s.0.1.2)) in
-    let line = rw (s.1, add-one) at c.put_line-at.ensures.wrote in
+    let own = first_from c.in-Some.i c.args.answers.now c.answers_from-rest.result.now c.answers_from-rest.ensures.answers in
+    let line = rw (own, s.1, add-one) at c.put_line-at.ensures.wrote in
     record {
       size = search rules;
       same = search rules;

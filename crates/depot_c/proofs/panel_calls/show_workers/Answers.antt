@@ -1,36 +1,69 @@
 -- `depot_c::panel_calls::show_workers` meets its contract: the report is that on the numbers that were read. Assumes nothing.
-use mathlib.Core.Path.{◌∙◌}
+use borrow.Author.Rules.{rules}
+use native.Mathlib.Omega.{arith}
+use mathlib.Core.Path.{◌≡◌, sym, ap, ◌∙◌}
 use mathlib.Core.List.{[]}
 use lib.ListN.{length}
+use lib.Seq.{length-take-le}
+use Rattle.s10.specs.Refusal.{plain}
 use Rattle.state_bytes.specs.Layout.{Lists, state_in}
 use Rattle.panel.specs.Reports.{worker_status_bytes, largest_in}
 use Rattle.depot_c.proofs.Refused.{passed_on, state_refused}
 use Rattle.depot_c.proofs.Outcomes.{counts_few, rooms_are}
-use Rattle.depot_c.proofs.Reporting.{unlent_reported, refused_left, report_on}
+use Rattle.depot_c.proofs.Reporting.{unlent_told, misfit_told, refused_left, report_on}
 use Rattle.depot_c.proofs.panel_calls.show_workers.Goals as goal
+
+pub returns-then-status-ne-STATUS_LENGTH-clause-number : goal.returns-then-status-ne-STATUS_LENGTH-clause-number
+returns-then-status-ne-STATUS_LENGTH-clause-number c =
+    c.from.ensures ∙ ap plain (sym (misfit_told _ c.args.commands.now (length c.args.status.now) 128 c.if-status-ne-STATUS_LENGTH.true))
+
+pub returns-then-status-ne-STATUS_LENGTH-clause-left : goal.returns-then-status-ne-STATUS_LENGTH-clause-left
+returns-then-status-ne-STATUS_LENGTH-clause-left c =
+    refused_left _ _ c.args.status.now (omega arith) (ap plain (sym (misfit_told _ c.args.commands.now (length c.args.status.now) 128 c.if-status-ne-STATUS_LENGTH.true)))
 
 pub returns-in_err-lent-clause-number : goal.returns-in_err-lent-clause-number
 returns-in_err-lent-clause-number c =
     let a = c.args in
     let unlent = c.tested.ensures.1 _ c.in_err-lent.was in
-    let is = unlent_reported a.state.now a.keys.now a.chutes.now a.answers.now a.commands.now (length a.status.now) 128 _ unlent.0 unlent.1 in
+    let is = unlent_told a.state.now a.keys.now a.chutes.now a.answers.now a.commands.now (length a.status.now) 128 _ c.if-status-ne-STATUS_LENGTH.false unlent.0 unlent.1 in
     passed_on _ _ c.from_residual.ensures.1 ∙ is
 
 pub returns-in_err-lent-clause-left : goal.returns-in_err-lent-clause-left
 returns-in_err-lent-clause-left c =
     let a = c.args in
     let unlent = c.tested.ensures.1 _ c.in_err-lent.was in
-    let is = unlent_reported a.state.now a.keys.now a.chutes.now a.answers.now a.commands.now (length a.status.now) 128 _ unlent.0 unlent.1 in
+    let is = unlent_told a.state.now a.keys.now a.chutes.now a.answers.now a.commands.now (length a.status.now) 128 _ c.if-status-ne-STATUS_LENGTH.false unlent.0 unlent.1 in
     refused_left _ _ a.status.now (state_refused _).0 is
 
-pub shared_ref_as_front-worker_status_bytes : goal.shared_ref_as_front-worker_status_bytes
-shared_ref_as_front-worker_status_bytes c = (counts_few _ _ _ _ (c.tested.ensures.0 _ c.in_ok-lent.was)).0
+pub slice_bounds-key_room-end : goal.slice_bounds-key_room-end
+slice_bounds-key_room-end c =
+    let long : length c.read_lists.new.key_room ≡ 4096 = search rules in
+    omega (arith, long, (counts_few _ _ _ _ (c.tested.ensures.0 _ c.in_ok-lent.was)).0)
 
-pub shared_ref_as_front-worker_status_bytes-2 : goal.shared_ref_as_front-worker_status_bytes-2
-shared_ref_as_front-worker_status_bytes-2 c = (counts_few _ _ _ _ (c.tested.ensures.0 _ c.in_ok-lent.was)).1
+pub slice_bounds-chute_room-end : goal.slice_bounds-chute_room-end
+slice_bounds-chute_room-end c =
+    let long : length c.read_lists.new.chute_room ≡ 4096 = search rules in
+    omega (arith, long, (counts_few _ _ _ _ (c.tested.ensures.0 _ c.in_ok-lent.was)).1)
 
-pub shared_ref_as_front-worker_status_bytes-3 : goal.shared_ref_as_front-worker_status_bytes-3
-shared_ref_as_front-worker_status_bytes-3 c = (counts_few _ _ _ _ (c.tested.ensures.0 _ c.in_ok-lent.was)).2
+pub slice_bounds-answer_room-end : goal.slice_bounds-answer_room-end
+slice_bounds-answer_room-end c =
+    let long : length c.read_lists.new.answer_room ≡ 4096 = search rules in
+    omega (arith, long, (counts_few _ _ _ _ (c.tested.ensures.0 _ c.in_ok-lent.was)).2)
+
+pub slice_bounds-worker_status_bytes-end : goal.slice_bounds-worker_status_bytes-end
+slice_bounds-worker_status_bytes-end c =
+    let long : length c.read_lists.new.key_room ≡ 4096 = search rules in
+    sym (length-take-le c.in_ok-lent.lent.keys c.read_lists.new.key_room (omega (arith, long, (counts_few _ _ _ _ (c.tested.ensures.0 _ c.in_ok-lent.was)).0)))
+
+pub slice_bounds-worker_status_bytes-end-2 : goal.slice_bounds-worker_status_bytes-end-2
+slice_bounds-worker_status_bytes-end-2 c =
+    let long : length c.read_lists.new.chute_room ≡ 4096 = search rules in
+    sym (length-take-le c.in_ok-lent.lent.chutes c.read_lists.new.chute_room (omega (arith, long, (counts_few _ _ _ _ (c.tested.ensures.0 _ c.in_ok-lent.was)).1)))
+
+pub slice_bounds-worker_status_bytes-end-3 : goal.slice_bounds-worker_status_bytes-end-3
+slice_bounds-worker_status_bytes-end-3 c =
+    let long : length c.read_lists.new.answer_room ≡ 4096 = search rules in
+    sym (length-take-le c.in_ok-lent.lent.answers c.read_lists.new.answer_room (omega (arith, long, (counts_few _ _ _ _ (c.tested.ensures.0 _ c.in_ok-lent.was)).2)))
 
 pub returns-in_err-worker_status_bytes-clause-number : goal.returns-in_err-worker_status_bytes-clause-number
 returns-in_err-worker_status_bytes-clause-number c =
@@ -38,7 +71,7 @@ returns-in_err-worker_status_bytes-clause-number c =
     let lent = c.tested.ensures.0 _ c.in_ok-lent.was in
     let refusal = c.in_err-worker_status_bytes.ensures.refusal in
     let left = c.in_err-worker_status_bytes.ensures.left in
-    let same = rooms_are a.state.now a.keys.now a.chutes.now a.answers.now [] _ _ lent c.read.ensures in
+    let same = rooms_are a.state.now a.keys.now a.chutes.now a.answers.now [] _ _ lent c.read_lists.ensures in
     let told = report_on (λ (m : Lists). worker_status_bytes (largest_in c.args.state.now) (state_in m)) a.commands.now a.status.now 128 same refusal left in
     passed_on _ _ c.from_residual-in_err-worker_status_bytes.ensures.1 ∙ told.0
 
@@ -48,7 +81,7 @@ returns-in_err-worker_status_bytes-clause-left c =
     let lent = c.tested.ensures.0 _ c.in_ok-lent.was in
     let refusal = c.in_err-worker_status_bytes.ensures.refusal in
     let left = c.in_err-worker_status_bytes.ensures.left in
-    let same = rooms_are a.state.now a.keys.now a.chutes.now a.answers.now [] _ _ lent c.read.ensures in
+    let same = rooms_are a.state.now a.keys.now a.chutes.now a.answers.now [] _ _ lent c.read_lists.ensures in
     let told = report_on (λ (m : Lists). worker_status_bytes (largest_in c.args.state.now) (state_in m)) a.commands.now a.status.now 128 same refusal left in
     told.1
 
@@ -58,7 +91,7 @@ returns-clause-number c =
     let lent = c.tested.ensures.0 _ c.in_ok-lent.was in
     let refusal = c.in_ok-worker_status_bytes.ensures.refusal in
     let left = c.in_ok-worker_status_bytes.ensures.left in
-    let same = rooms_are a.state.now a.keys.now a.chutes.now a.answers.now [] _ _ lent c.read.ensures in
+    let same = rooms_are a.state.now a.keys.now a.chutes.now a.answers.now [] _ _ lent c.read_lists.ensures in
     let told = report_on (λ (m : Lists). worker_status_bytes (largest_in c.args.state.now) (state_in m)) a.commands.now a.status.now 128 same refusal left in
     told.0
 
@@ -68,6 +101,6 @@ returns-clause-left c =
     let lent = c.tested.ensures.0 _ c.in_ok-lent.was in
     let refusal = c.in_ok-worker_status_bytes.ensures.refusal in
     let left = c.in_ok-worker_status_bytes.ensures.left in
-    let same = rooms_are a.state.now a.keys.now a.chutes.now a.answers.now [] _ _ lent c.read.ensures in
+    let same = rooms_are a.state.now a.keys.now a.chutes.now a.answers.now [] _ _ lent c.read_lists.ensures in
     let told = report_on (λ (m : Lists). worker_status_bytes (largest_in c.args.state.now) (state_in m)) a.commands.now a.status.now 128 same refusal left in
     told.1

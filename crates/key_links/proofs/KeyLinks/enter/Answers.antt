@@ -2,16 +2,12 @@
 use Rattle.std.proofs.Common.{◌≡◌, ◌<◌, length, ap, arith, rules}
 use native.Mathlib.Numerals.{add-one}
 use Rattle.std.proofs.lemmas.List.{length-take-le}
-use Rattle.key_links.proofs.Links.{indexed_more}
 use Rattle.key_links.proofs.KeyLinks.enter.Goals as goal
 
 pub invariant_of-self : goal.invariant_of-self
 invariant_of-self c =
     let a = c.self.inside in
-    let b = c.bucket_of-bucket.ensures in
     let long : length a.keys ≡ 4096 = search rules in
-    let previous : length a.previous ≡ 4096 = search rules in
-    let heads : length a.heads ≡ 4096 = search rules in
     let count = length-take-le a.count a.keys (omega (arith, c.self.invariant.0)) in
     let room : a.count < 4096 = omega (arith, ap length c.self.view_is, c.requires) in
-    (omega arith, rw (b.0, add-one) (indexed_more a.keys a.previous a.heads a.count c.args.key c.self.invariant.1 (omega arith) (omega arith) heads (rw b.0 at b.1)))
+    (omega arith, rw add-one c.enter.ensures.index)

@@ -81,7 +81,7 @@ pub returns-else-not-allowed : goal.returns-else-not-allowed
 returns-else-not-allowed c =
     let does = c.enter-thread.ensures in
     λ list t other al. from_known c.in-Idle.is
-    (idle_enters _ _ other _ _ _ (does.within c.requires.within (omega arith)) (rw does.same.1 c.requires.nodes) does.same.0 (al ∙ c.if-not-allowed.false) (rw c.in-Idle.is at does.steps))
+    (idle_enters _ _ other _ _ _ (does.within c.requires.within (omega arith)) (rw does.same.1 c.requires.nodes) does.same.0 (al ∙ c.if-not-allowed.false) (rw c.in-Idle.is at does.steps) (does.same.1, does.same.2, does.same.3))
 
 pub returns-in-Loading : goal.returns-in-Loading
 returns-in-Loading c =
@@ -91,7 +91,7 @@ pub returns-in-Searching : goal.returns-in-Searching
 returns-in-Searching c =
     let does = c.search-thread.ensures in
     λ list t other al. from_known c.in-Searching.is
-    (searching_steps _ _ other _ _ _ does.within (rw does.same.1 c.requires.nodes) does.same.0 c.in-Searching.at _ al does.steps)
+    (searching_steps _ _ other _ _ _ does.within (rw does.same.1 c.requires.nodes) does.same.0 c.in-Searching.at _ al does.steps (does.same.1, does.same.2))
 
 pub returns-else-in_one_step : goal.returns-else-in_one_step
 returns-else-in_one_step c =
@@ -103,10 +103,10 @@ returns-in-Written c =
     let does = c.enter-thread-in-Written.ensures in
     let own : c.in-Written.own.0 ≤ 150 = rw c.in-Written.is at c.requires.within in
     λ list t other al. from_known c.in-Written.is
-    (written_enters _ _ other _ _ _ (does.within own (omega arith, own)) (rw does.same.1 c.requires.nodes) does.same.0 c.in-Written.own does.steps)
+    (written_enters _ _ other _ _ _ (does.within own (omega arith, own)) (rw does.same.1 c.requires.nodes) does.same.0 c.in-Written.own does.steps (does.same.1, does.same.2, does.same.3))
 
 pub returns-in-Walking : goal.returns-in-Walking
 returns-in-Walking c =
     let does = c.walk-thread.ensures in
     λ list t other al. from_known c.in-Walking.is
-    (walking_steps _ _ other _ _ _ does.within.0 does.within.1 does.same.0 c.in-Walking.at c.in-Walking.own does.steps)
+    (walking_steps _ _ other _ _ _ does.within.0 does.within.1 does.same.0 c.in-Walking.at c.in-Walking.own does.steps (does.same.1, does.same.2))

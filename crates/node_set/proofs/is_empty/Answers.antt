@@ -1,4 +1,4 @@
--- `NodeSet::is_empty` meets its contract: the `|` of the three words is 0 exactly if each of them is, and a set of such words
+-- `node_set::is_empty` meets its contract: the `|` of the three words is 0 exactly if each of them is, and a set of such words
 -- is the only one with no member. Assumes nothing.
 use borrow.Author.Rules.{rules}
 use borrow.Author.Tests.{eqb-true}
@@ -14,7 +14,7 @@ use Rattle.node_set.specs.Members.{member, none_below}
 use Rattle.node_set.proofs.Bits.{or_zero_both_zero}
 use Rattle.node_set.proofs.Laws.{none_below_all_fail, same_members_same_set}
 use Rattle.node_set.proofs.Words.{array_is_a_set, three_words, zeros, no_member_of_zeros, zeros_are_a_set}
-use Rattle.node_set.proofs.NodeSet.is_empty.Goals as goal
+use Rattle.node_set.proofs.is_empty.Goals as goal
 
 -- two tests that pass together are the same
 same_test : (t u : Bool) → (t ≡ true → u ≡ true) → (u ≡ true → t ≡ true) → t ≡ u
@@ -53,4 +53,4 @@ module _ (s : List ℕ) (is : NodeSet s) where
       (λ e. ap (λ (l : List ℕ). eqb (joined l) 0) (none_are_zeros e))
 
 pub returns : goal.returns
-returns c = rw (← c.self.view_is) (joined_zero_is_none c.self.inside.words (array_is_a_set c.self.inside.words (search rules) (λ i. search rules)))
+returns c = joined_zero_is_none c.args.set (array_is_a_set c.args.set (search rules) (λ i. search rules))

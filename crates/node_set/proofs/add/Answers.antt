@@ -1,4 +1,4 @@
--- `NodeSet::add` meets its contract: a number of 192 or more changes nothing, and any other sets its one bit in its one word.
+-- `node_set::add` meets its contract: a number of 192 or more changes nothing, and any other sets its one bit in its one word.
 -- Assumes nothing.
 use borrow.Author.Rules.{rules}
 use borrow.Author.Tests.{eqb-true, lt-ltb, le-ltb}
@@ -12,7 +12,7 @@ use lib.ListN.{get_or}
 use Rattle.node_set.specs.Members.{bit, member}
 use Rattle.node_set.proofs.Bits.{bit_of_or, bit_of_power, shifted_one_is_power}
 use Rattle.node_set.proofs.Words.{member_of_store}
-use Rattle.node_set.proofs.NodeSet.add.Goals as goal
+use Rattle.node_set.proofs.add.Goals as goal
 
 -- where n is m, a test of n is the test of m
 tested_at_the_same : (n m : ℕ) (test : ℕ → Bool) → (eqb n m && test n) ≡ (eqb n m && test m)
@@ -36,16 +36,15 @@ bits_with w b k h =
 pub returns-then-n-ge192 : goal.returns-then-n-ge192
 returns-then-n-ge192 c n =
     let m = c.args.node.0 in
-    let old = member c.self.inside.words n in
-    rw (← c.self.view_is) (sym (or-false old)
-    ∙ ap (λ (t : Bool). old || t) (sym (and-false (eqb n m)) ∙ test_of_node n m false (le-ltb m 192 (omega arith))))
+    let old = member c.args.set n in
+    sym (or-false old)
+    ∙ ap (λ (t : Bool). old || t) (sym (and-false (eqb n m)) ∙ test_of_node n m false (le-ltb m 192 (omega arith)))
 
 pub returns : goal.returns
 returns c n =
-    let s = c.self.inside.words in
+    let s = c.args.set in
     let m = c.args.node.0 in
     let old = member s n in
-    rw (← c.self.view_is)
-    (member_of_store ◌||◌ or-false s m (bit_or (get_or s (m / 64) 0) ((1 * 2 ^ (m % 64)) % 2 ^ 64)) (search rules)
+    member_of_store ◌||◌ or-false s m (bit_or (get_or s (m / 64) 0) ((1 * 2 ^ (m % 64)) % 2 ^ 64)) (search rules)
     (λ b h. bits_with (get_or s (m / 64) 0) (m % 64) b (omega arith)) n
-    ∙ ap (λ (t : Bool). old || t) (sym (and-true (eqb n m)) ∙ test_of_node n m true (lt-ltb m 192 (omega arith))))
+    ∙ ap (λ (t : Bool). old || t) (sym (and-true (eqb n m)) ∙ test_of_node n m true (lt-ltb m 192 (omega arith)))

@@ -1,4 +1,4 @@
--- `NodeSet::remove` meets its contract: a number of 192 or more is no member, and any other clears its one bit in its one word.
+-- `node_set::remove` meets its contract: a number of 192 or more is no member, and any other clears its one bit in its one word.
 -- Assumes nothing.
 use borrow.Author.Rules.{rules}
 use borrow.Author.Tests.{eqb-true}
@@ -14,7 +14,7 @@ use lib.Pow.{pow-lt}
 use Rattle.node_set.specs.Members.{bit, member}
 use Rattle.node_set.proofs.Bits.{bit_of_and, bit_of_complement, bit_of_power, shifted_one_is_power}
 use Rattle.node_set.proofs.Words.{member_of_store, no_member_past}
-use Rattle.node_set.proofs.NodeSet.remove.Goals as goal
+use Rattle.node_set.proofs.remove.Goals as goal
 
 -- what is past the words is no member, so that it is taken away changes nothing
 past_is_not_there : (s : List ℕ) (m n : ℕ) → length s ≤ m / 64 → member s n ≡ (member s n && not (eqb n m))
@@ -33,13 +33,12 @@ bits_without w b k hb hk =
 
 pub returns-then-n-ge192 : goal.returns-then-n-ge192
 returns-then-n-ge192 c n =
-    let long : length c.self.inside.words ≡ 3 = search rules in
-    rw (← c.self.view_is) (past_is_not_there c.self.inside.words c.args.node.0 n (omega arith))
+    let long : length c.args.set ≡ 3 = search rules in
+    past_is_not_there c.args.set c.args.node.0 n (omega arith)
 
 pub returns : goal.returns
 returns c n =
-    let s = c.self.inside.words in
+    let s = c.args.set in
     let m = c.args.node.0 in
-    rw (← c.self.view_is)
-    (member_of_store (λ x t. x && not t) and-true s m (bit_and (get_or s (m / 64) 0) ((2 ^ 64 - 1) - (1 * 2 ^ (m % 64)) % 2 ^ 64)) (search rules)
-    (λ b h. bits_without (get_or s (m / 64) 0) (m % 64) b (omega arith) h) n)
+    member_of_store (λ x t. x && not t) and-true s m (bit_and (get_or s (m / 64) 0) ((2 ^ 64 - 1) - (1 * 2 ^ (m % 64)) % 2 ^ 64)) (search rules)
+    (λ b h. bits_without (get_or s (m / 64) 0) (m % 64) b (omega arith) h) n
